@@ -5,3 +5,4 @@ pub mod Numbering
 pub mod Judging
 pub mod Drafting
 pub mod Asking
+pub mod Trying

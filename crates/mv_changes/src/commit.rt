@@ -13,8 +13,8 @@ ghost use Rattle.mv_changes.specs.Drafting.{IsDraft, HasAsked, change_of_write, 
 
 use crate::changes::Changes;
 use mv_history::change::Change;
+use mv_log::records::Records;
 use mv_record::applying::patch_row;
-use mv_record::record::Record;
 use mv_table::key_map::KeyMap;
 use mv_values::copied::Copied;
 use mv_values::list::List;
@@ -156,7 +156,7 @@ fn differing(alloc: Global, changes: KeyMap<Change>) -> Result<Changes, NoMemory
 pub fn changes_of_commit<V: View>(
     alloc: Global,
     tables: usize,
-    records: &[Record],
+    records: &Records<'_>,
     view: &mut V,
 ) -> Result<Changes, Refused>
     requires tables { tables ≡ length (V.sight view.old).database }
@@ -165,8 +165,9 @@ pub fn changes_of_commit<V: View>(
     ensures asks { HasAsked (length (writes_in records.now)) (V.sight view.old) (V.sight view.new) result }
 {
     let mut changes = KeyMap::new(alloc);
-    for record in records {
-        add_writes(alloc, tables, &mut changes, record.writes.as_slice(), view)?;
+    for number in 0..records.len() {
+        let record = records.get(number);
+        add_writes(alloc, tables, &mut changes, record.writes(), view)?;
     }
     Ok(differing(alloc, changes)?)
 }

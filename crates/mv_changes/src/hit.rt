@@ -13,12 +13,12 @@ ghost use Rattle.mv_changes.specs.Hitting.{hits_pred};
 use crate::changes::Changes;
 use crate::columns::are_alike;
 use mv_history::change::Change;
-use mv_record::record::Record;
+use mv_log::pred_ref::{PredRef, Preds};
+use mv_log::record_ref::RecordRef;
 use mv_undo::undo::Undo;
-use mv_values::pred::Pred;
 
 /// Whether the predicate sees the same of the row before the change and after it.
-fn sees_same(pred: &Pred, change: &Change) -> bool
+fn sees_same(pred: &PredRef<'_>, change: &Change) -> bool
     ensures { result ≡ is_same (sees pred.now change.now.before) (sees pred.now change.now.after) }
 {
     pred.same(change.before.as_ref(), change.after.as_ref())
@@ -33,7 +33,7 @@ fn has_written(number: usize, undo: &Undo, change: &Change) -> bool
 
 /// Whether a change that the predicate doesn't see hits it: it differs in a column that the predicate names, of a key
 /// that the predicate admits and an earlier record wrote.
-fn hits_unseen(pred: &Pred, number: usize, undo: &Undo, change: &Change) -> bool
+fn hits_unseen(pred: &PredRef<'_>, number: usize, undo: &Undo, change: &Change) -> bool
     ensures { result ≡ (admits pred.now change.now.key && (not (is_alike pred.now change.now.before change.now.after) && touches change.now.table change.now.key (earlier number undo.now))) }
 {
     pred.admits(&change.key)
@@ -41,7 +41,7 @@ fn hits_unseen(pred: &Pred, number: usize, undo: &Undo, change: &Change) -> bool
 }
 
 /// Whether a change that the predicate sees hits it.
-fn hits_seen(pred: &Pred, number: usize, undo: &Undo, change: &Change) -> bool
+fn hits_seen(pred: &PredRef<'_>, number: usize, undo: &Undo, change: &Change) -> bool
     ensures { result ≡ (admits pred.now change.now.key || not (touches change.now.table change.now.key (earlier number undo.now))) }
 {
     pred.admits(&change.key) || !has_written(number, undo, change)
@@ -49,7 +49,7 @@ fn hits_seen(pred: &Pred, number: usize, undo: &Undo, change: &Change) -> bool
 
 /// Whether a change of the predicate's table hits the predicate of the record with this number. Looks the own writes up
 /// only for a change that the predicate doesn't see although it names a column that differs.
-fn differs(pred: &Pred, number: usize, undo: &Undo, change: &Change) -> bool
+fn differs(pred: &PredRef<'_>, number: usize, undo: &Undo, change: &Change) -> bool
     ensures { result ≡ hits_pred (earlier number undo.now) change.now pred.now }
 {
     if sees_same(pred, change) {
@@ -60,19 +60,22 @@ fn differs(pred: &Pred, number: usize, undo: &Undo, change: &Change) -> bool
 }
 
 /// Whether a change hits the predicate.
-fn hits_table(pred: &Pred, number: usize, undo: &Undo, change: &Change) -> bool
+fn hits_table(pred: &PredRef<'_>, number: usize, undo: &Undo, change: &Change) -> bool
     ensures { result ≡ ((pred.now.table == change.now.table) && hits_pred (earlier number undo.now) change.now pred.now) }
 {
-    pred.table == change.table && differs(pred, number, undo, change)
+    pred.table() == change.table && differs(pred, number, undo, change)
 }
 
 /// Whether a change hits one of these predicates.
-fn hits_one(preds: &[Pred], number: usize, undo: &Undo, change: &Change) -> bool
+fn hits_one(preds: &Preds<'_>, number: usize, undo: &Undo, change: &Change) -> bool
     ensures { result ≡ list_any (λ p. (p.table == change.now.table) && hits_pred (earlier number undo.now) change.now p) preds.now }
 {
-    preds
-        .iter()
-        .any(|pred| hits_table(pred, number, undo, change))
+    for at in 0..preds.len() {
+        if hits_table(&preds.get(at), number, undo, change) {
+            return true;
+        }
+    }
+    false
 }
 
 /// Whether a change hits the record with this number. `undo` has the writes of the call's records. A change hits if one
@@ -80,14 +83,14 @@ fn hits_one(preds: &[Pred], number: usize, undo: &Undo, change: &Change) -> bool
 /// that is selected. Of a key that an earlier record of the call wrote, every column that the predicate tests or
 /// selects counts, if the predicate admits the key. Allocates nothing. Costs the tests and columns of the record's
 /// predicates, and at most a look-up in the own writes for each.
-pub fn hit(record: &Record, number: usize, undo: &Undo, change: &Change) -> bool
+pub fn hit(record: &RecordRef<'_>, number: usize, undo: &Undo, change: &Change) -> bool
     ensures { (before : List Record) → earlier number undo.now ≡ writes_in before → result ≡ hits before record.now change.now }
 {
-    hits_one(record.preds.as_slice(), number, undo, change)
+    hits_one(&record.preds(), number, undo, change)
 }
 
 /// Whether one of these changes of the predicate's table hits it.
-fn one_hits(pred: &Pred, number: usize, undo: &Undo, changes: &[Change]) -> bool
+fn one_hits(pred: &PredRef<'_>, number: usize, undo: &Undo, changes: &[Change]) -> bool
     ensures { result ≡ list_any (λ c. hits_pred (earlier number undo.now) c pred.now) changes.now }
 {
     changes
@@ -96,26 +99,29 @@ fn one_hits(pred: &Pred, number: usize, undo: &Undo, changes: &[Change]) -> bool
 }
 
 /// Whether one of a commit's changes hits the predicate. Tries those of its table alone.
-fn commit_hits(pred: &Pred, number: usize, undo: &Undo, changes: &Changes) -> bool
+fn commit_hits(pred: &PredRef<'_>, number: usize, undo: &Undo, changes: &Changes) -> bool
     ensures { result ≡ list_any (λ c. hits_pred (earlier number undo.now) c pred.now) (filter (λ c. c.table == pred.now.table) changes.now) }
 {
-    one_hits(pred, number, undo, changes.of_table(pred.table))
+    one_hits(pred, number, undo, changes.of_table(pred.table()))
 }
 
 /// Whether one of a commit's changes hits one of these predicates.
-fn commit_hits_one(preds: &[Pred], number: usize, undo: &Undo, changes: &Changes) -> bool
+fn commit_hits_one(preds: &Preds<'_>, number: usize, undo: &Undo, changes: &Changes) -> bool
     ensures { result ≡ list_any (λ p. list_any (λ c. hits_pred (earlier number undo.now) c p) (filter (λ c. c.table == p.table) changes.now)) preds.now }
 {
-    preds
-        .iter()
-        .any(|pred| commit_hits(pred, number, undo, changes))
+    for at in 0..preds.len() {
+        if commit_hits(&preds.get(at), number, undo, changes) {
+            return true;
+        }
+    }
+    false
 }
 
 /// Whether one of a commit's changes hits the record with this number, as `hit` tells. `undo` has the writes of the
 /// call's records. Allocates nothing. Tries the changes of the tables of the record's predicates alone, which it finds in
 /// the logarithm of the number of changes for each predicate.
-pub fn any_hit(record: &Record, number: usize, undo: &Undo, changes: &Changes) -> bool
+pub fn any_hit(record: &RecordRef<'_>, number: usize, undo: &Undo, changes: &Changes) -> bool
     ensures { (before : List Record) → earlier number undo.now ≡ writes_in before → result ≡ any_hits changes.now before record.now }
 {
-    commit_hits_one(record.preds.as_slice(), number, undo, changes)
+    commit_hits_one(&record.preds(), number, undo, changes)
 }

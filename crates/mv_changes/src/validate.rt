@@ -10,17 +10,17 @@ use crate::changes::Changes;
 use crate::hit::any_hit;
 use crate::recent::{Committed, Recent};
 use mv_history::change::Hit;
-use mv_record::record::Record;
+use mv_log::records::Records;
 use mv_undo::undo::Undo;
 
 /// Returns the number of the first record that one of a commit's changes hits.
-fn first_record(records: &[Record], undo: &Undo, changes: &Changes) -> Option<usize>
+fn first_record(records: &Records<'_>, undo: &Undo, changes: &Changes) -> Option<usize>
     requires { HasWritesOf undo.now records.now }
     ensures first { result ≡ first_record changes.now [] records.now }
     ensures within { IfSome result (λ number. number < length records.now) }
 {
     for number in 0..records.len() {
-        if any_hit(&records[number], number, undo, changes) {
+        if any_hit(&records.get(number), number, undo, changes) {
             return Some(number);
         }
     }
@@ -28,13 +28,13 @@ fn first_record(records: &[Record], undo: &Undo, changes: &Changes) -> Option<us
 }
 
 /// Returns the records before the one that is hit, or all of them.
-fn before<'a>(records: &'a [Record], hit: Option<Hit>) -> &'a [Record]
-    requires { IfSome hit (λ h. h.number < length records.now) }
-    ensures { result.now ≡ records_before hit records.now }
+#[tactic(auto, using(std::proofs::lemmas::List::take_all))]
+fn before<'a>(records: &Records<'a>, hit: Option<Hit>) -> Records<'a>
+    ensures { result ≡ records_before hit records.now }
 {
     match hit {
-        Some(hit) => &records[..hit.number],
-        None => records,
+        Some(hit) => records.first(hit.number),
+        None => records.first(records.len()),
     }
 }
 
@@ -42,13 +42,13 @@ fn before<'a>(records: &'a [Record], hit: Option<Hit>) -> &'a [Record]
 /// and the least commit that hits it. `undo` has the writes of the records. Allocates nothing. Costs for each commit
 /// and each predicate of the records a search in the commit's changes, and a trial of the predicate on each of those of
 /// its table.
-pub fn validate(records: &[Record], undo: &Undo, since: &[Committed]) -> Option<Hit>
+pub fn validate(records: &Records<'_>, undo: &Undo, since: &[Committed]) -> Option<Hit>
     requires { HasWritesOf undo.now records.now }
     ensures { (number : ℕ) → AreNumbered number since.now → result ≡ first_hit number (changes_in since.now) [] records.now }
 {
     let mut first: Option<Hit> = None;
     for committed in since {
-        if let Some(number) = first_record(before(records, first), undo, &committed.changes) {
+        if let Some(number) = first_record(&before(records, first), undo, &committed.changes) {
             first = Some(Hit {
                 number,
                 commit: committed.commit,
@@ -62,7 +62,7 @@ impl Recent {
     /// Validates the records of a call that started after `start` commits: returns the least record that a change of a
     /// later commit hits, and the least commit that hits it. `undo` has the writes of the records. `start` may not be
     /// below the `low` of the last `trim`. Allocates nothing. Costs what `validate` does for these commits.
-    pub fn first_hit(&self, start: u32, records: &[Record], undo: &Undo) -> Option<Hit>
+    pub fn first_hit(&self, start: u32, records: &Records<'_>, undo: &Undo) -> Option<Hit>
         requires start { self.now.low ≤ start }
         requires writes { HasWritesOf undo.now records.now }
         ensures { result ≡ first_hit (start + 1) (drop (start - self.now.low) self.now.commits) [] records.now }

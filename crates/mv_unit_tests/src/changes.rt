@@ -1,6 +1,7 @@
 //! The changes of commits, and what they hit, worked out by hand. The one table has a key, and two columns more.
 
-ghost use Rattle.std.specs.Prelude.{◌≡◌, ◌≤◌, [], All, IfOk, length};
+ghost use Rattle.std.specs.Prelude.{◌≡◌, ◌≤◌, [], All, IfOk, OnOk, length};
+ghost use Rattle.mv_log.specs.Logged.{no_effect};
 ghost use Rattle.mv_record.specs.Writes.{AreRising};
 
 use crate::cases::ensure_at;
@@ -11,14 +12,14 @@ use mv_changes::commit::changes_of_commit;
 use mv_changes::hit::hit;
 use mv_changes::recent::Recent;
 use mv_history::change::{Change, Hit};
+use mv_log::log::Log;
 use mv_record::applying::put_row;
-use mv_record::record::{Record, Spot};
 use mv_undo::undo::Undo;
 use mv_values::list::List;
 use mv_values::memory::NoMemory;
 use mv_values::op::Op;
 use mv_values::patch::{Assign, Patch, Write};
-use mv_values::pred::{Pred, Test};
+use mv_values::pred::Test;
 use mv_values::rows::{Database, Rows};
 use mv_values::value::{Row, Value};
 use mv_view::plain::Plain;
@@ -74,26 +75,6 @@ fn write(alloc: Global, table: u8, n: i64, kind: Kind) -> Result<Write, NoMemory
     Ok(Write { table, key, patch })
 }
 
-fn record(alloc: Global, preds: List<Pred>, writes: List<Write>) -> Record
-    ensures { result.writes ≡ writes }
-{
-    let spot = Spot {
-        statement: 1,
-        turns: List::new(alloc),
-    };
-    Record {
-        spot,
-        parent: None,
-        reads: List::new(alloc),
-        preds,
-        sets: List::new(alloc),
-        rows: List::new(alloc),
-        writes,
-        line: None,
-        end: None,
-    }
-}
-
 /// A table, a key and its write. The second table isn't there.
 const WRITTEN: &[(u8, i64, Kind)] = &[
     (0, 9, Kind::Insert(7)),
@@ -139,22 +120,20 @@ fn told(change: &Change) -> Told {
     )
 }
 
-fn writing(alloc: Global) -> Result<List<Record>, NoMemory> {
-    let mut writes = List::new(alloc);
+/// Writes a record into the log with these writes alone.
+fn writing(alloc: Global, log: &mut Log) -> Result<(), NoMemory> {
     for (table, n, kind) in WRITTEN {
-        let write = write(alloc, *table, *n, *kind)?;
-        writes.push(write)?;
+        log.push_write(write(alloc, *table, *n, *kind)?)?;
     }
-    let mut records = List::new(alloc);
-    records.push(record(alloc, List::new(alloc), writes))?;
-    Ok(records)
+    log.close(1, None)
 }
 
 fn committed(alloc: Global) -> Result<Changes, Fail> {
     let tables = database(alloc, &[1, 2, 3, 4])?;
-    let records = writing(alloc)?;
+    let mut log = Log::new(alloc);
+    writing(alloc, &mut log)?;
     let mut view = Plain::new(&tables);
-    match changes_of_commit(alloc, 1, records.as_slice(), &mut view) {
+    match changes_of_commit(alloc, 1, &log.records(), &mut view) {
         Ok(changes) => Ok(changes),
         Err(_) => Err("no changes".into()),
     }
@@ -181,35 +160,20 @@ fn changes_are_what_differs(rt: HostRuntime) -> Result<(), Fail> {
     ensure(alloc, counts == (3, 0), "by table")
 }
 
-/// Returns the predicate for rows with these numbers in these columns.
-fn pred(alloc: Global, wanted: &[(u8, i64)], columns: &[u8]) -> Result<Pred, NoMemory> {
-    let mut tests = List::new(alloc);
+/// Writes a record into the log that reads these columns of rows with these numbers.
+fn reading(log: &mut Log, wanted: &[(u8, i64)], columns: &[u8]) -> Result<(), NoMemory> {
     for (column, number) in wanted {
         let key_place = if *column == 0 { Some(0) } else { None };
-        tests.push(Test {
+        log.push_test(Test {
             column: *column,
             key_place,
             op: Op::Eq,
             value: Value::Int(*number),
         })?;
     }
-    let mut selected = List::new(alloc);
-    selected.append(columns)?;
-    Ok(Pred {
-        table: 0,
-        tests,
-        columns: selected,
-    })
-}
-
-/// Returns a record with one predicate.
-fn reading(alloc: Global, wanted: &[(u8, i64)], columns: &[u8]) -> Result<Record, NoMemory>
-    ensures { IfOk result (λ r. r.writes ≡ []) }
-{
-    let pred = pred(alloc, wanted, columns)?;
-    let mut preds = List::new(alloc);
-    preds.push(pred)?;
-    Ok(record(alloc, preds, List::new(alloc)))
+    log.push_columns(columns)?;
+    log.push_pred(0)?;
+    log.close(1, None)
 }
 
 fn some_row(alloc: Global, numbers: &Option<[i64; 3]>) -> Result<Option<Row>, NoMemory> {
@@ -308,16 +272,22 @@ fn change(alloc: Global, case: &Case) -> Result<Change, NoMemory> {
     })
 }
 
-fn hits(alloc: Global, case: &Case, change: &Change) -> Result<(bool, bool), NoMemory> {
+fn hits(alloc: Global, case: &Case, change: &Change) -> Result<(bool, bool), Fail> {
     let undo = own(alloc)?;
-    let record = reading(alloc, case.wanted, case.columns)?;
+    let mut log = Log::new(alloc);
+    reading(&mut log, case.wanted, case.columns)?;
+    let records = log.records();
+    if records.len() != 1 {
+        return Err("not one record".into());
+    }
+    let record = records.get(0);
     Ok((
         hit(&record, 0, &undo, change),
         hit(&record, 1, &undo, change),
     ))
 }
 
-fn hits_as_told(alloc: Global, case: &Case) -> Result<bool, NoMemory> {
+fn hits_as_told(alloc: Global, case: &Case) -> Result<bool, Fail> {
     let change = change(alloc, case)?;
     Ok(hits(alloc, case, &change)? == case.hits)
 }
@@ -357,16 +327,33 @@ pub(crate) fn three(alloc: Global) -> Result<Recent, NoMemory>
     Ok(recent)
 }
 
-/// Returns the records of a call that reads the second column of these rows, one by one.
-fn reads(alloc: Global, keys: &[i64]) -> Result<List<Record>, NoMemory>
-    ensures { IfOk result (λ rs. All (λ r. r.writes ≡ []) rs) }
+/// Writes a record into the log that reads the second column of a row, and writes nothing.
+fn read(log: &mut Log, n: i64) -> Result<(), NoMemory>
+    requires blank { log.old.effect ≡ no_effect }
+    requires writes { All (λ r. r.writes ≡ []) log.old.records }
+    ensures blank { OnOk result (log.new.effect ≡ no_effect) }
+    ensures writes { OnOk result (All (λ r. r.writes ≡ []) log.new.records) }
 {
-    let mut records = List::new(alloc);
+    log.push_test(Test {
+        column: 0,
+        key_place: Some(0),
+        op: Op::Eq,
+        value: Value::Int(n),
+    })?;
+    log.push_column(1)?;
+    log.push_pred(0)?;
+    log.close(1, None)
+}
+
+/// Writes the records of a call that reads the second column of these rows, one by one.
+fn reads(alloc: Global, keys: &[i64]) -> Result<Log, NoMemory>
+    ensures { IfOk result (λ log. All (λ r. r.writes ≡ []) log.records) }
+{
+    let mut log = Log::new(alloc);
     for n in keys {
-        let record = reading(alloc, &[(0, *n)], &[1])?;
-        records.push(record)?;
+        read(&mut log, *n)?;
     }
-    Ok(records)
+    Ok(log)
 }
 
 /// Returns the record and the commit that are found for a call that reads these rows.
@@ -378,8 +365,8 @@ fn found(
 ) -> Result<Option<(usize, u32)>, NoMemory>
     requires { recent.now.low ≤ start }
 {
-    let records = reads(alloc, keys)?;
-    match recent.first_hit(start, records.as_slice(), &Undo::new(alloc)) {
+    let log = reads(alloc, keys)?;
+    match recent.first_hit(start, &log.records(), &Undo::new(alloc)) {
         Some(hit) => Ok(Some((hit.number, hit.commit))),
         None => Ok(None),
     }

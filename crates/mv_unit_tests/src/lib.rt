@@ -19,6 +19,8 @@ mod journals;
 #[cfg(test)]
 mod limits;
 #[cfg(test)]
+mod logs;
+#[cfg(test)]
 mod own_writes;
 #[cfg(test)]
 mod parsing;

@@ -12,5 +12,5 @@ pub returns : goal.returns
 returns c before writes =
     let own = earlier c.args.number c.args.undo.now in
     c.commit_hits_one.ensures
-    ∙ (ap (list_any (λ (p : Pred). list_any (λ x. hits_pred own x p) (filter (λ (x : Change). x.table == p.table) c.args.changes.now))) c.as_slice.ensures
+    ∙ (ap (list_any (λ (p : Pred). list_any (λ x. hits_pred own x p) (filter (λ (x : Change). x.table == p.table) c.args.changes.now))) c.preds.ensures
     ∙ record_hit_by_some own before c.args.changes.now c.args.record.now writes)

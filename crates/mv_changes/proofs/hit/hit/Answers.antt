@@ -11,4 +11,4 @@ pub returns : goal.returns
 returns c before writes =
     let own = earlier c.args.number c.args.undo.now in
     c.hits_one.ensures
-    ∙ (ap (list_any (λ (p : Pred). (p.table == c.args.change.now.table) && hits_pred own c.args.change.now p)) c.as_slice.ensures ∙ record_hit own before c.args.change.now c.args.record.now writes)
+    ∙ (ap (list_any (λ (p : Pred). (p.table == c.args.change.now.table) && hits_pred own c.args.change.now p)) c.preds.ensures ∙ record_hit own before c.args.change.now c.args.record.now writes)
