@@ -4,6 +4,7 @@ pub mod Asked
 pub mod Unwritten
 pub mod Few
 pub mod Ends
+pub mod Moving
 pub mod WellNamed
 pub mod AllRows
 pub mod Different

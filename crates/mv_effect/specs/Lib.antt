@@ -1,3 +1,4 @@
+pub mod Logging
 pub mod Stops
 pub mod Targets
 pub mod Naming

@@ -1,19 +1,25 @@
 -- Statements that are stopped.
-use Rattle.std.specs.Prelude.{◌≡◌, List, Result, Ok, Err}
+use Rattle.std.specs.Prelude.{◌≡◌, List, [], Result, Ok, Err}
 use Rattle.mv_values.specs.declared.pred.Pred.{Pred}
 use Rattle.mv_alone.specs.declared.state.Stop.{Stop}
 use Rattle.mv_alone.specs.declared.state.Stop.TheVariants.{Memory, Ended}
-use Rattle.mv_view.specs.declared.view.Refused.{Refused}
-use Rattle.mv_view.specs.declared.view.Refused.TheVariants.{NoMemory}
+use Rattle.mv_log.specs.Logged.{Logged}
 use Rattle.mv_record.specs.declared.effect.Effect.{Effect}
 use Rattle.mv_recorded.specs.Effects.{only_end}
 
--- the result of a statement that was stopped: NoMemory, or an effect that only ends the call
-abbrev pub IsStopped : List Pred → Stop → Result Effect Refused → Type 0
-IsStopped preds Memory answer = answer ≡ Err NoMemory
-IsStopped preds (Ended e) answer = (answer ≡ Ok (only_end preds e))
+-- the log after a statement that was stopped after it asked this: its effect only ends the call. There is none if memory
+-- ran out
+abbrev pub EndsBy : List Pred → Stop → Logged → Logged → Type 0
+EndsBy preds Memory before after = ⊥
+EndsBy preds (Ended e) before after = after ≡ record before { effect = only_end preds e }
 
--- the effect of a statement that was stopped: it only ends the call. There is no effect if memory ran out
-abbrev pub EndsBy : Stop → List Pred → Effect → Type 0
-EndsBy Memory preds effect = ⊥
-EndsBy (Ended e) preds effect = effect ≡ only_end preds e
+-- what a statement asks, or its effect if it is stopped before. It is stopped too if memory ran out
+abbrev pub GivesOrEnds : {A : Type 0} → Result A Stop → Result A Effect → Type 0
+GivesOrEnds (Ok asked) meant = meant ≡ Ok asked
+GivesOrEnds (Err Memory) meant = Unit {0}
+GivesOrEnds (Err (Ended e)) meant = meant ≡ Err (only_end [] e)
+
+-- the result of a step with what it left behind
+abbrev pub leaving : {A B : Type 0} → Result A Stop → B → Result B Stop
+leaving (Ok done) left = Ok left
+leaving (Err stop) left = Err stop

@@ -1,6 +1,6 @@
 //! Statements that change the rows of a table.
 
-ghost use Rattle.std.specs.Prelude.{◌≡◌, ◌<◌, ◌≤◌, ◌^◌, ◌∷◌, [], ℕ, IfOk, Ok, All, map, length};
+ghost use Rattle.std.specs.Prelude.{◌≡◌, ◌<◌, ◌≤◌, ◌^◌, ◌∷◌, [], ℕ, IfOk, OnOk, OnErr, Ok, All, map, length};
 ghost use Rattle.mv_values.specs.declared.patch.Patch.TheVariants as patch;
 ghost use Rattle.mv_values.specs.Patching.{applied};
 ghost use Rattle.mv_catalog.specs.declared.resolved.RSetItem.{RSetItem};
@@ -11,21 +11,23 @@ ghost use Rattle.mv_alone.specs.Rows.{is_some_row};
 ghost use Rattle.mv_recorded.specs.Doing.{set_patch, write};
 ghost use Rattle.mv_undo.specs.Owning.{earlier};
 ghost use Rattle.mv_recorded.specs.Effects.{IsEffect, effect_after, changes, effect_of_insert, new_of, effect_of_writes};
+ghost use Rattle.mv_effect.specs.Logging.{IsBlank, without_effect, with_writes};
+ghost use Rattle.mv_effect.specs.Stops.{leaving};
 ghost use Rattle.mv_effect.specs.Looking.{AreSoundTables, OnlyAsks, different, AskedAtMost, AskedFor};
 ghost use Rattle.mv_effect.specs.Naming.{Tests, Sets};
 
+use crate::asking::{ask, end, stop, stop_unasked};
 use crate::context::Context;
-use crate::effect::{end_effect, set_effect, stop_effect, stop_result};
 use crate::numbers::narrow;
 use crate::predicates::{key_pred, pred_from, update_pred};
 use crate::rows::{is_any, visible_rows};
-use crate::slots::found_alone;
+use crate::slots::push_found;
 use mv_alone::env::column_value;
 use mv_alone::find::{columns_in, key_in};
 use mv_alone::made::{made_row, row_after_set, under_key};
 use mv_alone::state::{Env, Stop};
 use mv_catalog::resolved::{RCond, RExpr, RSetItem, Update};
-use mv_record::effect::Effect;
+use mv_log::log::Log;
 use mv_values::calls::End;
 use mv_values::copied::Copied;
 use mv_values::list::List;
@@ -38,146 +40,140 @@ use mv_values::value::{Key, Row, Value};
 use mv_view::view::{Refused, View};
 use std::alloc::Global;
 
-/// Returns the effect of a statement that asked this, found something or not, and writes this.
-fn write_effect(
+/// Adds the write that inserts a row under its key to the open effect, which has none yet.
+fn push_insertion(
     alloc: Global,
-    env: &Env,
-    pred: Pred,
-    found: bool,
-    writes: List<Write>,
-) -> Result<Effect, NoMemory>
-    requires { env.now.found < 2 ^ 16 }
-    ensures { IfOk result (λ e. e ≡ effect_of_writes pred found writes env.now) }
-{
-    let sets = found_alone(alloc, env, found)?;
-    let mut effect = set_effect(alloc, pred, sets)?;
-    effect.writes = writes;
-    Ok(effect)
-}
-
-/// Returns the write that inserts a row under its key.
-fn insertion(alloc: Global, table: u8, keys: &[u8], row: Row) -> Result<List<Write>, NoMemory>
-    ensures { IfOk result (λ writes. writes ≡ write table (keyed keys.now row).key (patch.Insert row) ∷ []) }
+    table: u8,
+    keys: &[u8],
+    row: Row,
+    log: &mut Log,
+) -> Result<(), NoMemory>
+    requires { log.old.effect.writes ≡ [] }
+    ensures ok { OnOk result (log.new ≡ with_writes log.old (write table (keyed keys.now row).key (patch.Insert row) ∷ [])) }
+    ensures err { OnErr result (without_effect log.new ≡ without_effect log.old) }
 {
     let item = under_key(alloc, keys, row)?;
-    let write = Write {
+    log.push_write(Write {
         table,
         key: item.key,
         patch: Patch::Insert(item.row),
-    };
-    List::of(alloc, write)
+    })
 }
 
-/// Returns the effect of an INSERT of this row that asked this. `there` is whether a row with its key exists.
-fn insert_effect(
+/// Writes the effect of an INSERT of this row that asked this. `there` is whether a row with its key exists.
+fn insert_row(
     alloc: Global,
-    tables: &[TableInfo],
+    context: &Context<'_>,
     table: u16,
-    env: &Env,
     pred: Pred,
     row: Row,
     there: bool,
-) -> Result<Effect, NoMemory>
+    log: &mut Log,
+) -> Result<(), NoMemory>
     requires table { table < 256 }
-    requires found { env.now.found < 2 ^ 16 }
-    ensures { IfOk result (λ e. e ≡ effect_of_insert tables.now table row pred there env.now) }
+    requires found { context.now.env.now.found < 2 ^ 16 }
+    requires blank { IsBlank log.old }
+    ensures ok { OnOk result (log.new ≡ record log.old { effect = effect_of_insert context.now.tables.now table row pred there context.now.env.now }) }
+    ensures err { OnErr result (without_effect log.new ≡ without_effect log.old) }
 {
+    ask(log, pred)?;
     if there {
-        return Ok(end_effect(alloc, List::of(alloc, pred)?, End::Duplicate));
+        return end(log, End::Duplicate);
     }
-    let writes = insertion(alloc, narrow(table), key_in(tables, table), row)?;
-    write_effect(alloc, env, pred, true, writes)
+    let keys = key_in(context.tables, table);
+    push_insertion(alloc, narrow(table), keys, row, log)?;
+    push_found(context.env, true, log)
 }
 
-/// Returns the effect of INSERT: it writes its row, and sets `:found`. It asks for rows with the same key by a test of
+/// Writes the effect of INSERT: it writes its row, and sets `:found`. It asks for rows with the same key by a test of
 /// each key column. The call ends if a value is stopped, or if there is such a row.
 pub(crate) fn insert<V: View>(
     alloc: Global,
     context: &Context<'_>,
     table: u16,
     exprs: &[RExpr],
+    log: &mut Log,
     view: &mut V,
-) -> Result<Effect, Refused>
+) -> Result<(), Refused>
     requires stands { AreSoundTables context.now.tables.now (earlier context.now.number context.now.undo.now) (V.sight view.old).database }
     requires found { context.now.env.now.found < 2 ^ 16 }
     requires table { table < length context.now.tables.now }
-    ensures effect { IfOk result (IsEffect context.now.tables.now (layer.Insert table exprs.now) context.now.env.now (applied (earlier context.now.number context.now.undo.now) (V.sight view.old).database)) }
+    requires blank { IsBlank log.old }
+    ensures effect { OnOk result (IsEffect context.now.tables.now (layer.Insert table exprs.now) context.now.env.now (applied (earlier context.now.number context.now.undo.now) (V.sight view.old).database) log.new.effect) }
+    ensures rest { OnOk result (log.new ≡ record log.old { effect = log.new.effect }) }
+    ensures err { OnErr result (without_effect log.new ≡ without_effect log.old) }
     ensures view { OnlyAsks (V.sight view.old) (V.sight view.new) result }
     ensures bounded { AskedAtMost 1 (different (earlier context.now.number context.now.undo.now)) (V.sight view.old) (V.sight view.new) }
-    ensures looks { IfOk result (λ e. AskedFor e.preds (earlier context.now.number context.now.undo.now) (V.sight view.old) (V.sight view.new)) }
+    ensures looks { OnOk result (AskedFor log.new.effect.preds (earlier context.now.number context.now.undo.now) (V.sight view.old) (V.sight view.new)) }
 {
     let row = match made_row(alloc, columns_in(context.tables, table), exprs, context.env) {
         Ok(row) => row,
-        Err(stop) => return stop_result(alloc, List::new(alloc), stop),
+        Err(reason) => return stop_unasked(log, reason),
     };
     let pred = key_pred(alloc, context.tables, table, row.as_slice())?;
     let rows = visible_rows(alloc, context, &pred, view)?;
-    Ok(insert_effect(
-        alloc,
-        context.tables,
-        table,
-        context.env,
-        pred,
-        row,
-        is_any(&rows),
-    )?)
+    insert_row(alloc, context, table, pred, row, is_any(&rows), log)?;
+    Ok(())
 }
 
-/// Returns the writes that delete these rows.
-fn deletes(alloc: Global, table: u8, rows: Rows) -> Result<List<Write>, NoMemory>
-    ensures { IfOk result (λ writes. writes ≡ map (λ item. write table item.key patch.Delete) rows) }
+/// Adds the writes that delete these rows to the open effect, which has none yet.
+fn push_deletes(table: u8, rows: Rows, log: &mut Log) -> Result<(), NoMemory>
+    requires { log.old.effect.writes ≡ [] }
+    ensures ok { OnOk result (log.new ≡ with_writes log.old (map (λ item. write table item.key patch.Delete) rows)) }
+    ensures err { OnErr result (without_effect log.new ≡ without_effect log.old) }
 {
-    let mut writes = List::with_room(alloc, rows.as_slice().len())?;
     for item in rows.into_items() {
-        writes.push(Write {
+        log.push_write(Write {
             table,
             key: item.key,
             patch: Patch::Delete,
         })?;
     }
-    Ok(writes)
+    Ok(())
 }
 
-/// Returns the effect of a DELETE that asked this and found these rows.
-fn delete_effect(
-    alloc: Global,
-    env: &Env,
-    table: u16,
-    pred: Pred,
-    rows: Rows,
-) -> Result<Effect, NoMemory>
+/// Writes the effect of a DELETE that asked this and found these rows.
+fn delete_rows(env: &Env, table: u16, pred: Pred, rows: Rows, log: &mut Log) -> Result<(), NoMemory>
     requires table { table < 256 }
     requires found { env.now.found < 2 ^ 16 }
-    ensures { IfOk result (λ e. e ≡ effect_of_writes pred (is_some_row rows) (map (λ item. write table item.key patch.Delete) rows) env.now) }
+    requires blank { IsBlank log.old }
+    ensures ok { OnOk result (log.new ≡ record log.old { effect = effect_of_writes pred (is_some_row rows) (map (λ item. write table item.key patch.Delete) rows) env.now }) }
+    ensures err { OnErr result (without_effect log.new ≡ without_effect log.old) }
 {
     let found = is_any(&rows);
-    let writes = deletes(alloc, narrow(table), rows)?;
-    write_effect(alloc, env, pred, found, writes)
+    ask(log, pred)?;
+    push_deletes(narrow(table), rows, log)?;
+    push_found(env, found, log)
 }
 
-/// Returns the effect of DELETE: it deletes the rows that match, and sets `:found`. The call ends if a right side of
+/// Writes the effect of DELETE: it deletes the rows that match, and sets `:found`. The call ends if a right side of
 /// WHERE is stopped.
 pub(crate) fn delete<V: View>(
     alloc: Global,
     context: &Context<'_>,
     table: u16,
     conds: &[RCond],
+    log: &mut Log,
     view: &mut V,
-) -> Result<Effect, Refused>
+) -> Result<(), Refused>
     requires stands { AreSoundTables context.now.tables.now (earlier context.now.number context.now.undo.now) (V.sight view.old).database }
     requires found { context.now.env.now.found < 2 ^ 16 }
     requires tests { Tests context.now.tables.now table conds.now }
-    ensures effect { IfOk result (IsEffect context.now.tables.now (layer.Delete table conds.now) context.now.env.now (applied (earlier context.now.number context.now.undo.now) (V.sight view.old).database)) }
+    requires blank { IsBlank log.old }
+    ensures effect { OnOk result (IsEffect context.now.tables.now (layer.Delete table conds.now) context.now.env.now (applied (earlier context.now.number context.now.undo.now) (V.sight view.old).database) log.new.effect) }
+    ensures rest { OnOk result (log.new ≡ record log.old { effect = log.new.effect }) }
+    ensures err { OnErr result (without_effect log.new ≡ without_effect log.old) }
     ensures view { OnlyAsks (V.sight view.old) (V.sight view.new) result }
     ensures bounded { AskedAtMost 1 (different (earlier context.now.number context.now.undo.now)) (V.sight view.old) (V.sight view.new) }
-    ensures looks { IfOk result (λ e. AskedFor e.preds (earlier context.now.number context.now.undo.now) (V.sight view.old) (V.sight view.new)) }
+    ensures looks { OnOk result (AskedFor log.new.effect.preds (earlier context.now.number context.now.undo.now) (V.sight view.old) (V.sight view.new)) }
 {
     let pred = match pred_from(alloc, context.tables, table, conds, &[], context.env) {
         Ok(pred) => pred,
-        Err(stop) => return stop_result(alloc, List::new(alloc), stop),
+        Err(reason) => return stop_unasked(log, reason),
     };
     let rows = visible_rows(alloc, context, &pred, view)?;
-    Ok(delete_effect(alloc, context.env, table, pred, rows)?)
+    delete_rows(context.env, table, pred, rows, log)?;
+    Ok(())
 }
 
 /// Returns the columns of SET, with their values in the row after it.
@@ -238,67 +234,77 @@ fn write_for(
     )?)
 }
 
-/// Returns what SET writes to the rows. Fails with the first new row that is stopped, so that nothing is written.
-fn set_writes(
+/// Adds what SET writes to the rows to the open effect, which has no writes yet. Fails with the first new row that is
+/// stopped.
+fn push_sets(
     alloc: Global,
-    tables: &[TableInfo],
-    env: &Env,
+    context: &Context<'_>,
     update: &Update<'_>,
     rows: &[Keyed],
-) -> Result<List<Write>, Stop>
+    log: &mut Log,
+) -> Result<(), Stop>
     requires table { update.now.table < 256 }
     requires columns { All (λ (i : RSetItem). i.column < 256) update.now.items.now }
-    ensures { Gives result (changes update.now.table update.now.items.now (new_of tables.now update.now.table env.now update.now.items.now) rows.now) }
+    requires none { log.old.effect.writes ≡ [] }
+    ensures writes { Gives (leaving result log.new.effect.writes) (changes update.now.table update.now.items.now (new_of context.now.tables.now update.now.table context.now.env.now update.now.items.now) rows.now) }
+    ensures rest { log.new ≡ with_writes log.old log.new.effect.writes }
 {
-    let mut writes = List::with_room(alloc, rows.len())?;
     for item in rows {
-        let write = write_for(alloc, tables, env, update, item)?;
-        writes.push(write)?;
+        let write = write_for(alloc, context.tables, context.env, update, item)?;
+        log.push_write(write)?;
     }
-    Ok(writes)
+    Ok(())
 }
 
-/// Returns the effect of an UPDATE that asked this and found these rows.
-fn update_effect(
+/// Writes the effect of an UPDATE that asked this and found these rows.
+fn update_rows(
     alloc: Global,
-    tables: &[TableInfo],
-    env: &Env,
+    context: &Context<'_>,
     update: &Update<'_>,
     pred: Pred,
     rows: &Rows,
-) -> Result<Effect, NoMemory>
+    log: &mut Log,
+) -> Result<(), NoMemory>
     requires table { update.now.table < 256 }
     requires columns { All (λ (i : RSetItem). i.column < 256) update.now.items.now }
-    requires found { env.now.found < 2 ^ 16 }
-    ensures { IfOk result (λ e. e ≡ effect_after pred (changes update.now.table update.now.items.now (new_of tables.now update.now.table env.now update.now.items.now) rows.now) (λ ws. effect_of_writes pred (is_some_row rows.now) ws env.now)) }
+    requires found { context.now.env.now.found < 2 ^ 16 }
+    requires blank { IsBlank log.old }
+    ensures ok { OnOk result (log.new ≡ record log.old { effect = effect_after pred (changes update.now.table update.now.items.now (new_of context.now.tables.now update.now.table context.now.env.now update.now.items.now) rows.now) (λ ws. effect_of_writes pred (is_some_row rows.now) ws context.now.env.now) }) }
+    ensures err { OnErr result (without_effect log.new ≡ without_effect log.old) }
 {
-    match set_writes(alloc, tables, env, update, rows.as_slice()) {
-        Ok(writes) => write_effect(alloc, env, pred, is_any(rows), writes),
-        Err(stop) => stop_effect(alloc, List::of(alloc, pred)?, stop),
+    ask(log, pred)?;
+    match push_sets(alloc, context, update, rows.as_slice(), log) {
+        Ok(()) => push_found(context.env, is_any(rows), log),
+        Err(reason) => stop(log, reason),
     }
 }
 
-/// Returns the effect of UPDATE: it writes a new version of each row that matches, and sets `:found`. The call ends if
+/// Writes the effect of UPDATE: it writes a new version of each row that matches, and sets `:found`. The call ends if
 /// a right side of WHERE or of SET is stopped, or if a text is longer than its column allows.
 pub(crate) fn update<V: View>(
     alloc: Global,
     context: &Context<'_>,
     update: &Update<'_>,
+    log: &mut Log,
     view: &mut V,
-) -> Result<Effect, Refused>
+) -> Result<(), Refused>
     requires stands { AreSoundTables context.now.tables.now (earlier context.now.number context.now.undo.now) (V.sight view.old).database }
     requires found { context.now.env.now.found < 2 ^ 16 }
     requires tests { Tests context.now.tables.now update.now.table update.now.conds.now }
     requires sets { Sets context.now.tables.now update.now.table update.now.items.now }
-    ensures effect { IfOk result (IsEffect context.now.tables.now (layer.Update update.now.table update.now.items.now update.now.conds.now) context.now.env.now (applied (earlier context.now.number context.now.undo.now) (V.sight view.old).database)) }
+    requires blank { IsBlank log.old }
+    ensures effect { OnOk result (IsEffect context.now.tables.now (layer.Update update.now.table update.now.items.now update.now.conds.now) context.now.env.now (applied (earlier context.now.number context.now.undo.now) (V.sight view.old).database) log.new.effect) }
+    ensures rest { OnOk result (log.new ≡ record log.old { effect = log.new.effect }) }
+    ensures err { OnErr result (without_effect log.new ≡ without_effect log.old) }
     ensures view { OnlyAsks (V.sight view.old) (V.sight view.new) result }
     ensures bounded { AskedAtMost 1 (different (earlier context.now.number context.now.undo.now)) (V.sight view.old) (V.sight view.new) }
-    ensures looks { IfOk result (λ e. AskedFor e.preds (earlier context.now.number context.now.undo.now) (V.sight view.old) (V.sight view.new)) }
+    ensures looks { OnOk result (AskedFor log.new.effect.preds (earlier context.now.number context.now.undo.now) (V.sight view.old) (V.sight view.new)) }
 {
     let pred = match update_pred(alloc, context.tables, update, context.env) {
         Ok(pred) => pred,
-        Err(stop) => return stop_result(alloc, List::new(alloc), stop),
+        Err(reason) => return stop_unasked(log, reason),
     };
     let rows = visible_rows(alloc, context, &pred, view)?;
-    Ok(update_effect(alloc, context.tables, context.env, update, pred, &rows)?)
+    update_rows(alloc, context, update, pred, &rows, log)?;
+    Ok(())
 }

@@ -1,9 +1,9 @@
 //! The effect of one statement, over a view of the database and the call's own writes.
 #![tactic(auto)]
 
+mod asking;
 mod changes;
 mod context;
-mod effect;
 mod numbers;
 mod predicates;
 mod queries;

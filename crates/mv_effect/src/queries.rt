@@ -1,7 +1,7 @@
 //! Statements that read a table and change none.
 
-ghost use Rattle.std.specs.Prelude.{◌≡◌, ◌<◌, ◌≤◌, ◌^◌, ℕ, pos, IfOk, IfSome, List, [], All, length};
-ghost use Rattle.std.specs.Option.{is_some, option_map};
+ghost use Rattle.std.specs.Prelude.{◌≡◌, ◌<◌, ◌≤◌, ◌^◌, ℕ, pos, Ok, IfOk, IfSome, OnOk, OnErr, List, [], All, length};
+ghost use Rattle.std.specs.Option.{is_some, option_map, option_copied};
 ghost use Rattle.mv_values.specs.Keys.{IsRising};
 ghost use Rattle.mv_values.specs.Columns.{column_of};
 ghost use Rattle.mv_values.specs.Patching.{applied, found_by};
@@ -15,26 +15,28 @@ ghost use Rattle.mv_alone.specs.Rows.{aggregate, is_some_row, item_at, matching,
 ghost use Rattle.mv_recorded.specs.Asking.{column_in, with_sorts, KnowsKey};
 ghost use Rattle.mv_undo.specs.Owning.{earlier};
 ghost use Rattle.mv_recorded.specs.Effects.{IsEffect, asks, pred_with, effect_after, row_number, effect_of_loop, effect_of_select, effect_of_aggregate};
+ghost use Rattle.mv_effect.specs.Logging.{IsBlank, without_effect};
+ghost use Rattle.mv_effect.specs.Stops.{GivesOrEnds};
 ghost use Rattle.mv_effect.specs.Looking.{AreSoundTables, OnlyAsks, different, AskedAtMost, AskedFor};
 ghost use Rattle.mv_effect.specs.Naming.{Tests, AreColumns};
 ghost use Rattle.mv_effect.specs.Totalling.{total_asked};
 
+use crate::asking::{ask, stop, stop_unasked};
 use crate::context::Context;
-use crate::effect::{set_effect, stop_effect, stop_result};
 use crate::predicates::{aggregate_pred, select_pred};
 use crate::rows::{first_visible, visible_rows};
-use crate::slots::{found_alone, select_slots, total_slots};
-use crate::tableless::has_turn;
+use crate::slots::{push_found, push_selected, push_total};
+use crate::tableless::{has_turn, push_turns};
 use mv_alone::chosen::order_direction;
 use mv_alone::expr::{number_in, offset};
 use mv_alone::extremes::aggregate_direction;
 use mv_alone::find::key_in;
 use mv_alone::fixing::fixed_rows;
 use mv_alone::order::chosen_row;
-use mv_alone::state::Env;
+use mv_alone::state::{Env, Stop};
 use mv_alone::totals::{aggregate_of, value_in};
 use mv_catalog::resolved::{Query, RAgg, RCond, RExpr, RSort};
-use mv_record::effect::Effect;
+use mv_log::log::Log;
 use mv_table::scan::Direction;
 use mv_values::list::List;
 use mv_values::memory::NoMemory;
@@ -44,64 +46,82 @@ use mv_values::value::{Row, Value};
 use mv_view::view::{Refused, View};
 use std::alloc::Global;
 
-/// Returns what a SELECT asks and the number of its row. If a right side of WHERE or OFFSET is stopped, returns the
-/// effect.
+/// Returns what a SELECT asks and the number of its row. Fails if a right side of WHERE or OFFSET is stopped.
+#[tactic(auto, using(crate::proofs::Ends::unasked, crate::proofs::Ends::row_unasked))]
 fn row_query(
     alloc: Global,
     context: &Context<'_>,
     query: &Query<'_>,
     at: &Option<RExpr>,
-) -> Result<Result<(Pred, i64), Effect>, NoMemory>
+) -> Result<(Pred, i64), Stop>
     requires few { length context.now.tables.now ≤ 64 }
     requires each { All IsTable context.now.tables.now }
     requires tests { Tests context.now.tables.now query.now.table query.now.conds.now }
     requires columns { AreColumns context.now.tables.now query.now.table (with_sorts query.now.columns.now query.now.sorts.now) }
-    ensures asks { IfOk result (λ asked. asked ≡ pred_with (asks context.now.tables.now query.now.table query.now.conds.now (with_sorts query.now.columns.now query.now.sorts.now) context.now.env.now) (row_number at.now context.now.env.now)) }
-    ensures knows { IfOk result (λ asked. IfOk asked (λ r. KnowsKey context.now.tables.now r.0)) }
+    ensures asks { GivesOrEnds result (pred_with (asks context.now.tables.now query.now.table query.now.conds.now (with_sorts query.now.columns.now query.now.sorts.now) context.now.env.now) (row_number at.now context.now.env.now)) }
+    ensures knows { IfOk result (λ r. KnowsKey context.now.tables.now r.0) }
 {
-    let pred = match select_pred(alloc, context.tables, query, context.env) {
-        Ok(pred) => pred,
-        Err(stop) => return Ok(Err(stop_effect(alloc, List::new(alloc), stop)?)),
-    };
-    match offset(alloc, at, context.env) {
-        Ok(at) => Ok(Ok((pred, number_in(&at)))),
-        Err(stop) => Ok(Err(stop_effect(alloc, List::new(alloc), stop)?)),
-    }
+    let pred = select_pred(alloc, context.tables, query, context.env)?;
+    let at = offset(alloc, at, context.env)?;
+    Ok((pred, number_in(&at)))
 }
 
-/// Returns the effect of a SELECT that asked this, takes the row with this number and found these rows.
-fn select_effect(
+/// Writes the effect of a SELECT that asked this, takes the row with this number and found these rows.
+fn select_at(
     alloc: Global,
     env: &Env,
     query: &Query<'_>,
     to: &[u16],
     asked: (Pred, i64),
     rows: &[Keyed],
-) -> Result<Effect, NoMemory>
+    log: &mut Log,
+) -> Result<(), NoMemory>
     requires rising { IsRising rows.now }
     requires found { env.now.found < 2 ^ 16 }
-    ensures { IfOk result (λ e. e ≡ effect_of_select asked.0 query.now.columns.now to.now (item_at (ordered query.now.sorts.now (matching [] rows.now)) asked.1) env.now) }
+    requires blank { IsBlank log.old }
+    ensures ok { OnOk result (log.new ≡ record log.old { effect = effect_of_select asked.0 query.now.columns.now to.now (item_at (ordered query.now.sorts.now (matching [] rows.now)) asked.1) env.now }) }
+    ensures err { OnErr result (without_effect log.new ≡ without_effect log.old) }
 {
     let (pred, at) = asked;
     let item = chosen_row(alloc, query.sorts, rows, at)?;
-    let sets = select_slots(alloc, env, query.columns, to, item)?;
-    set_effect(alloc, pred, sets)
+    select_row(alloc, env, query.columns, to, pred, item, log)
 }
 
-/// Returns the effect of a SELECT that asked this and takes this row.
-fn taken_effect(
+/// Writes the effect of a SELECT that asked this and takes this row.
+fn select_row(
+    alloc: Global,
+    env: &Env,
+    columns: &[u16],
+    to: &[u16],
+    pred: Pred,
+    row: Option<&Keyed>,
+    log: &mut Log,
+) -> Result<(), NoMemory>
+    requires found { env.now.found < 2 ^ 16 }
+    requires blank { IsBlank log.old }
+    ensures ok { OnOk result (log.new ≡ record log.old { effect = effect_of_select pred columns.now to.now (option_copied row.entry) env.now }) }
+    ensures err { OnErr result (without_effect log.new ≡ without_effect log.old) }
+{
+    ask(log, pred)?;
+    push_selected(alloc, env, columns, to, row, log)
+}
+
+/// Writes the effect of a SELECT that asked this and takes this row.
+fn select_found(
     alloc: Global,
     env: &Env,
     columns: &[u16],
     to: &[u16],
     pred: Pred,
     row: Option<Keyed>,
-) -> Result<Effect, NoMemory>
-    requires { env.now.found < 2 ^ 16 }
-    ensures { IfOk result (λ e. e ≡ effect_of_select pred columns.now to.now row env.now) }
+    log: &mut Log,
+) -> Result<(), NoMemory>
+    requires found { env.now.found < 2 ^ 16 }
+    requires blank { IsBlank log.old }
+    ensures ok { OnOk result (log.new ≡ record log.old { effect = effect_of_select pred columns.now to.now row env.now }) }
+    ensures err { OnErr result (without_effect log.new ≡ without_effect log.old) }
 {
-    let sets = select_slots(alloc, env, columns, to, row.as_ref())?;
-    set_effect(alloc, pred, sets)
+    select_row(alloc, env, columns, to, pred, row.as_ref(), log)
 }
 
 /// Returns the direction in which the first row that the predicate finds is the one with this number in ORDER BY order.
@@ -117,7 +137,7 @@ fn leading_at(context: &Context<'_>, sorts: &[RSort], pred: &Pred, at: i64) -> O
     order_direction(sorts, keys, pred.tests.as_slice())
 }
 
-/// Returns the effect of a SELECT that asks this and takes the row with this number. It asks the view for one row, where
+/// Writes the effect of a SELECT that asks this and takes the row with this number. It asks the view for one row, where
 /// that is the first or the last in key order and none of the call's own writes matters.
 fn select_asked<V: View>(
     alloc: Global,
@@ -125,24 +145,29 @@ fn select_asked<V: View>(
     query: &Query<'_>,
     to: &[u16],
     asked: (Pred, i64),
+    log: &mut Log,
     view: &mut V,
-) -> Result<Effect, Refused>
+) -> Result<(), Refused>
     requires stands { AreSoundTables context.now.tables.now (earlier context.now.number context.now.undo.now) (V.sight view.old).database }
     requires found { context.now.env.now.found < 2 ^ 16 }
     requires knows { KnowsKey context.now.tables.now asked.0 }
-    ensures effect { IfOk result (λ e. e ≡ effect_of_select asked.0 query.now.columns.now to.now (item_at (ordered query.now.sorts.now (found_by asked.0 (applied (earlier context.now.number context.now.undo.now) (V.sight view.old).database))) asked.1) context.now.env.now) }
+    requires blank { IsBlank log.old }
+    ensures effect { OnOk result (log.new ≡ record log.old { effect = effect_of_select asked.0 query.now.columns.now to.now (item_at (ordered query.now.sorts.now (found_by asked.0 (applied (earlier context.now.number context.now.undo.now) (V.sight view.old).database))) asked.1) context.now.env.now }) }
+    ensures err { OnErr result (without_effect log.new ≡ without_effect log.old) }
     ensures view { OnlyAsks (V.sight view.old) (V.sight view.new) result }
     ensures looks { AskedAtMost 1 (different (earlier context.now.number context.now.undo.now)) (V.sight view.old) (V.sight view.new) }
 {
     if let Some(direction) = leading_at(context, query.sorts, &asked.0, asked.1) {
         let row = first_visible(alloc, context, &asked.0, direction, view)?;
-        return Ok(taken_effect(alloc, context.env, query.columns, to, asked.0, row)?);
+        select_found(alloc, context.env, query.columns, to, asked.0, row, log)?;
+        return Ok(());
     }
     let rows = visible_rows(alloc, context, &asked.0, view)?;
-    Ok(select_effect(alloc, context.env, query, to, asked, rows.as_slice())?)
+    select_at(alloc, context.env, query, to, asked, rows.as_slice(), log)?;
+    Ok(())
 }
 
-/// Returns the effect of SELECT INTO: it sets its targets to the columns of the chosen row, if there is one, and sets
+/// Writes the effect of SELECT INTO: it sets its targets to the columns of the chosen row, if there is one, and sets
 /// `:found`. The call ends if a right side of WHERE or OFFSET is stopped.
 pub(crate) fn select<V: View>(
     alloc: Global,
@@ -150,101 +175,102 @@ pub(crate) fn select<V: View>(
     query: &Query<'_>,
     to: &[u16],
     at: &Option<RExpr>,
+    log: &mut Log,
     view: &mut V,
-) -> Result<Effect, Refused>
+) -> Result<(), Refused>
     requires stands { AreSoundTables context.now.tables.now (earlier context.now.number context.now.undo.now) (V.sight view.old).database }
     requires found { context.now.env.now.found < 2 ^ 16 }
     requires tests { Tests context.now.tables.now query.now.table query.now.conds.now }
     requires columns { AreColumns context.now.tables.now query.now.table (with_sorts query.now.columns.now query.now.sorts.now) }
-    ensures effect { IfOk result (IsEffect context.now.tables.now (layer.Select query.now.columns.now to.now query.now.table query.now.conds.now query.now.sorts.now at.now) context.now.env.now (applied (earlier context.now.number context.now.undo.now) (V.sight view.old).database)) }
+    requires blank { IsBlank log.old }
+    ensures effect { OnOk result (IsEffect context.now.tables.now (layer.Select query.now.columns.now to.now query.now.table query.now.conds.now query.now.sorts.now at.now) context.now.env.now (applied (earlier context.now.number context.now.undo.now) (V.sight view.old).database) log.new.effect) }
+    ensures rest { OnOk result (log.new ≡ record log.old { effect = log.new.effect }) }
+    ensures err { OnErr result (without_effect log.new ≡ without_effect log.old) }
     ensures view { OnlyAsks (V.sight view.old) (V.sight view.new) result }
     ensures bounded { AskedAtMost 1 (different (earlier context.now.number context.now.undo.now)) (V.sight view.old) (V.sight view.new) }
-    ensures looks { IfOk result (λ e. AskedFor e.preds (earlier context.now.number context.now.undo.now) (V.sight view.old) (V.sight view.new)) }
+    ensures looks { OnOk result (AskedFor log.new.effect.preds (earlier context.now.number context.now.undo.now) (V.sight view.old) (V.sight view.new)) }
 {
-    let asked = match row_query(alloc, context, query, at)? {
+    let asked = match row_query(alloc, context, query, at) {
         Ok(asked) => asked,
-        Err(end) => return Ok(end),
+        Err(reason) => return stop_unasked(log, reason),
     };
-    select_asked(alloc, context, query, to, asked, view)
+    select_asked(alloc, context, query, to, asked, log, view)
 }
 
-/// Returns the effect of an aggregate that asked this and yields this.
-fn total_effect(
-    alloc: Global,
-    env: &Env,
-    to: u16,
-    pred: Pred,
-    total: Option<Value>,
-    found: bool,
-) -> Result<Effect, NoMemory>
-    requires { env.now.found < 2 ^ 16 }
-    ensures { IfOk result (λ e. e ≡ effect_of_aggregate pred to total found env.now) }
-{
-    let sets = total_slots(alloc, env, to, total, found)?;
-    set_effect(alloc, pred, sets)
-}
-
-/// Returns the effect of an aggregate that asked this and found these rows.
-fn aggregate_effect(
+/// Writes the effect of an aggregate that asked this and found these rows.
+fn total_rows(
     alloc: Global,
     env: &Env,
     agg: RAgg,
     to: u16,
     pred: Pred,
     rows: &[Keyed],
-) -> Result<Effect, NoMemory>
-    requires { env.now.found < 2 ^ 16 }
-    ensures { IfOk result (λ e. e ≡ effect_after pred (aggregate agg (matching [] rows.now)) (λ total. effect_of_aggregate pred to total (is_some_row (matching [] rows.now)) env.now)) }
+    log: &mut Log,
+) -> Result<(), NoMemory>
+    requires found { env.now.found < 2 ^ 16 }
+    requires blank { IsBlank log.old }
+    ensures ok { OnOk result (log.new ≡ record log.old { effect = effect_after pred (aggregate agg (matching [] rows.now)) (λ total. effect_of_aggregate pred to total (is_some_row (matching [] rows.now)) env.now) }) }
+    ensures err { OnErr result (without_effect log.new ≡ without_effect log.old) }
 {
+    ask(log, pred)?;
     match aggregate_of(alloc, agg, rows) {
-        Ok(total) => total_effect(alloc, env, to, pred, total, !rows.is_empty()),
-        Err(stop) => stop_effect(alloc, List::of(alloc, pred)?, stop),
+        Ok(total) => push_total(env, to, total, !rows.is_empty(), log),
+        Err(reason) => stop(log, reason),
     }
 }
 
-/// Returns the effect of MIN or MAX that asked this, where this row tells its value.
-fn told_effect(
+/// Writes the effect of MIN or MAX that asked this, where this row tells its value.
+fn total_row(
     alloc: Global,
     env: &Env,
     column: u16,
     to: u16,
     pred: Pred,
     row: Option<Keyed>,
-) -> Result<Effect, NoMemory>
-    requires { env.now.found < 2 ^ 16 }
-    ensures { IfOk result (λ e. e ≡ effect_of_aggregate pred to (option_map (λ item. column_of item.row column) row) (is_some row) env.now) }
+    log: &mut Log,
+) -> Result<(), NoMemory>
+    requires found { env.now.found < 2 ^ 16 }
+    requires blank { IsBlank log.old }
+    ensures ok { OnOk result (log.new ≡ record log.old { effect = effect_of_aggregate pred to (option_map (λ item. column_of item.row column) row) (is_some row) env.now }) }
+    ensures err { OnErr result (without_effect log.new ≡ without_effect log.old) }
 {
+    ask(log, pred)?;
     let total = value_in(alloc, column, row.as_ref())?;
-    total_effect(alloc, env, to, pred, total, row.is_some())
+    push_total(env, to, total, row.is_some(), log)
 }
 
-/// Returns the effect of an aggregate that asks this. MIN and MAX of a key column ask the view for one row, where `=`
+/// Writes the effect of an aggregate that asks this. MIN and MAX of a key column ask the view for one row, where `=`
 /// fixes all key columns before it and none of the call's own writes matters.
-fn aggregate_asked<V: View>(
+fn total_asked<V: View>(
     alloc: Global,
     context: &Context<'_>,
     agg: RAgg,
     to: u16,
     pred: Pred,
+    log: &mut Log,
     view: &mut V,
-) -> Result<Effect, Refused>
+) -> Result<(), Refused>
     requires stands { AreSoundTables context.now.tables.now (earlier context.now.number context.now.undo.now) (V.sight view.old).database }
     requires found { context.now.env.now.found < 2 ^ 16 }
     requires knows { KnowsKey context.now.tables.now pred }
-    ensures effect { IfOk result (λ e. e ≡ total_asked agg to pred (found_by pred (applied (earlier context.now.number context.now.undo.now) (V.sight view.old).database)) context.now.env.now) }
+    requires blank { IsBlank log.old }
+    ensures effect { OnOk result (log.new ≡ record log.old { effect = total_asked agg to pred (found_by pred (applied (earlier context.now.number context.now.undo.now) (V.sight view.old).database)) context.now.env.now }) }
+    ensures err { OnErr result (without_effect log.new ≡ without_effect log.old) }
     ensures view { OnlyAsks (V.sight view.old) (V.sight view.new) result }
     ensures looks { AskedAtMost 1 (different (earlier context.now.number context.now.undo.now)) (V.sight view.old) (V.sight view.new) }
 {
     let keys = key_in(context.tables, pred.table as u16);
     if let Some((column, direction)) = aggregate_direction(agg, keys, pred.tests.as_slice()) {
         let row = first_visible(alloc, context, &pred, direction, view)?;
-        return Ok(told_effect(alloc, context.env, column, to, pred, row)?);
+        total_row(alloc, context.env, column, to, pred, row, log)?;
+        return Ok(());
     }
     let rows = visible_rows(alloc, context, &pred, view)?;
-    Ok(aggregate_effect(alloc, context.env, agg, to, pred, rows.as_slice())?)
+    total_rows(alloc, context.env, agg, to, pred, rows.as_slice(), log)?;
+    Ok(())
 }
 
-/// Returns the effect of SELECT with an aggregate: it sets its target, if there is a total, and sets `:found`. The call
+/// Writes the effect of SELECT with an aggregate: it sets its target, if there is a total, and sets `:found`. The call
 /// ends if a right side of WHERE is stopped, or if a sum is out of range.
 pub(crate) fn total<V: View>(
     alloc: Global,
@@ -253,74 +279,93 @@ pub(crate) fn total<V: View>(
     to: u16,
     table: u16,
     conds: &[RCond],
+    log: &mut Log,
     view: &mut V,
-) -> Result<Effect, Refused>
+) -> Result<(), Refused>
     requires stands { AreSoundTables context.now.tables.now (earlier context.now.number context.now.undo.now) (V.sight view.old).database }
     requires found { context.now.env.now.found < 2 ^ 16 }
     requires tests { Tests context.now.tables.now table conds.now }
     requires columns { AreColumns context.now.tables.now table (column_in agg) }
-    ensures effect { IfOk result (IsEffect context.now.tables.now (layer.Total agg to table conds.now) context.now.env.now (applied (earlier context.now.number context.now.undo.now) (V.sight view.old).database)) }
+    requires blank { IsBlank log.old }
+    ensures effect { OnOk result (IsEffect context.now.tables.now (layer.Total agg to table conds.now) context.now.env.now (applied (earlier context.now.number context.now.undo.now) (V.sight view.old).database) log.new.effect) }
+    ensures rest { OnOk result (log.new ≡ record log.old { effect = log.new.effect }) }
+    ensures err { OnErr result (without_effect log.new ≡ without_effect log.old) }
     ensures view { OnlyAsks (V.sight view.old) (V.sight view.new) result }
     ensures bounded { AskedAtMost 1 (different (earlier context.now.number context.now.undo.now)) (V.sight view.old) (V.sight view.new) }
-    ensures looks { IfOk result (λ e. AskedFor e.preds (earlier context.now.number context.now.undo.now) (V.sight view.old) (V.sight view.new)) }
+    ensures looks { OnOk result (AskedFor log.new.effect.preds (earlier context.now.number context.now.undo.now) (V.sight view.old) (V.sight view.new)) }
 {
     let pred = match aggregate_pred(alloc, context.tables, agg, table, conds, context.env) {
         Ok(pred) => pred,
-        Err(stop) => return stop_result(alloc, List::new(alloc), stop),
+        Err(reason) => return stop_unasked(log, reason),
     };
-    aggregate_asked(alloc, context, agg, to, pred, view)
+    total_asked(alloc, context, agg, to, pred, log, view)
 }
 
-/// Returns the effect of a FOR that asked this and has these turns.
-fn turns_effect(alloc: Global, env: &Env, pred: Pred, turns: List<Row>) -> Result<Effect, NoMemory>
-    requires { env.now.found < 2 ^ 16 }
-    ensures { IfOk result (λ e. e ≡ effect_of_loop pred turns env.now) }
+/// Writes the effect of a FOR that asked this and has these turns.
+fn loop_turns(
+    alloc: Global,
+    env: &Env,
+    pred: Pred,
+    turns: List<Row>,
+    log: &mut Log,
+) -> Result<(), NoMemory>
+    requires found { env.now.found < 2 ^ 16 }
+    requires blank { IsBlank log.old }
+    ensures ok { OnOk result (log.new ≡ record log.old { effect = effect_of_loop pred turns env.now }) }
+    ensures err { OnErr result (without_effect log.new ≡ without_effect log.old) }
 {
-    let sets = found_alone(alloc, env, has_turn(&turns))?;
-    let mut effect = set_effect(alloc, pred, sets)?;
-    effect.rows = turns;
-    Ok(effect)
+    ask(log, pred)?;
+    push_found(env, has_turn(&turns), log)?;
+    push_turns(alloc, turns, log)
 }
 
-/// Returns the effect of a FOR that asked this and found these rows.
-fn loop_effect(
+/// Writes the effect of a FOR that asked this and found these rows.
+fn loop_rows(
     alloc: Global,
     env: &Env,
     once: bool,
     query: &Query<'_>,
     pred: Pred,
     rows: &[Keyed],
-) -> Result<Effect, NoMemory>
+    log: &mut Log,
+) -> Result<(), NoMemory>
     requires rising { IsRising rows.now }
     requires found { env.now.found < 2 ^ 16 }
-    ensures { IfOk result (λ e. e ≡ effect_of_loop pred (fixed once query.now.columns.now query.now.sorts.now (matching [] rows.now)) env.now) }
+    requires blank { IsBlank log.old }
+    ensures ok { OnOk result (log.new ≡ record log.old { effect = effect_of_loop pred (fixed once query.now.columns.now query.now.sorts.now (matching [] rows.now)) env.now }) }
+    ensures err { OnErr result (without_effect log.new ≡ without_effect log.old) }
 {
     let turns = fixed_rows(alloc, once, query.columns, query.sorts, rows)?;
-    turns_effect(alloc, env, pred, turns)
+    loop_turns(alloc, env, pred, turns, log)
 }
 
-/// Returns the effect of FOR over SELECT: it fixes its rows, and sets `:found` to whether there are any. The call ends
+/// Writes the effect of FOR over SELECT: it fixes its rows, and sets `:found` to whether there are any. The call ends
 /// if a right side of WHERE is stopped.
 pub(crate) fn for_select<V: View>(
     alloc: Global,
     context: &Context<'_>,
     once: bool,
     query: &Query<'_>,
+    log: &mut Log,
     view: &mut V,
-) -> Result<Effect, Refused>
+) -> Result<(), Refused>
     requires stands { AreSoundTables context.now.tables.now (earlier context.now.number context.now.undo.now) (V.sight view.old).database }
     requires found { context.now.env.now.found < 2 ^ 16 }
     requires tests { Tests context.now.tables.now query.now.table query.now.conds.now }
     requires columns { AreColumns context.now.tables.now query.now.table (with_sorts query.now.columns.now query.now.sorts.now) }
-    ensures effect { IfOk result (λ e. (row : ℕ) (body : List RStmt) → IsEffect context.now.tables.now (layer.ForSelect row once query.now.columns.now query.now.table query.now.conds.now query.now.sorts.now body) context.now.env.now (applied (earlier context.now.number context.now.undo.now) (V.sight view.old).database) e) }
+    requires blank { IsBlank log.old }
+    ensures effect { OnOk result ((row : ℕ) (body : List RStmt) → IsEffect context.now.tables.now (layer.ForSelect row once query.now.columns.now query.now.table query.now.conds.now query.now.sorts.now body) context.now.env.now (applied (earlier context.now.number context.now.undo.now) (V.sight view.old).database) log.new.effect) }
+    ensures rest { OnOk result (log.new ≡ record log.old { effect = log.new.effect }) }
+    ensures err { OnErr result (without_effect log.new ≡ without_effect log.old) }
     ensures view { OnlyAsks (V.sight view.old) (V.sight view.new) result }
     ensures bounded { AskedAtMost 1 (different (earlier context.now.number context.now.undo.now)) (V.sight view.old) (V.sight view.new) }
-    ensures looks { IfOk result (λ e. AskedFor e.preds (earlier context.now.number context.now.undo.now) (V.sight view.old) (V.sight view.new)) }
+    ensures looks { OnOk result (AskedFor log.new.effect.preds (earlier context.now.number context.now.undo.now) (V.sight view.old) (V.sight view.new)) }
 {
     let pred = match select_pred(alloc, context.tables, query, context.env) {
         Ok(pred) => pred,
-        Err(stop) => return stop_result(alloc, List::new(alloc), stop),
+        Err(reason) => return stop_unasked(log, reason),
     };
     let rows = visible_rows(alloc, context, &pred, view)?;
-    Ok(loop_effect(alloc, context.env, once, query, pred, rows.as_slice())?)
+    loop_rows(alloc, context.env, once, query, pred, rows.as_slice(), log)?;
+    Ok(())
 }

@@ -1,6 +1,6 @@
-//! The variables that statements set.
+//! Writes the variables that statements set into the log of their call.
 
-ghost use Rattle.std.specs.Prelude.{◌≡◌, ◌<◌, ◌^◌, ◌==◌, ◌∷◌, ◌++◌, [], None, true, IfOk, if◌then◌else◌};
+ghost use Rattle.std.specs.Prelude.{◌≡◌, ◌<◌, ◌^◌, ◌==◌, ◌∷◌, ◌++◌, [], None, true, IfOk, OnOk, OnErr, if◌then◌else◌};
 ghost use Rattle.std.specs.Option.{is_some, option_copied};
 ghost use Rattle.mv_values.specs.declared.value.Value.{Value};
 ghost use Rattle.mv_values.specs.Columns.{columns_of};
@@ -10,13 +10,14 @@ ghost use Rattle.mv_recorded.specs.Doing.{when};
 ghost use Rattle.mv_recorded.specs.Reading.{each_once};
 ghost use Rattle.mv_effect.specs.Targets.{last_column};
 ghost use Rattle.mv_recorded.specs.Effects.{slots_behind};
+ghost use Rattle.mv_effect.specs.Logging.{without_effect, with_sets};
 
 use crate::numbers::is_among_first;
 use mv_alone::env::column_value;
 use mv_alone::state::{Content, Env};
+use mv_log::log::Log;
 use mv_record::record::Slot;
 use mv_values::copied::Copied;
-use mv_values::list::List;
 use mv_values::memory::NoMemory;
 use mv_values::rows::Keyed;
 use mv_values::value::Value;
@@ -63,34 +64,36 @@ fn slot_before_found(env: &Env, found: bool, x: u16, value: Value) -> Slot
     Slot { slot: x, value }
 }
 
-/// Returns what a statement sets that sets only `:found`.
+/// Adds `:found` to what the open effect sets, which is nothing yet.
 #[tactic(auto, using(mv_recorded::proofs::Slots::found_has))]
-pub(crate) fn found_alone(alloc: Global, env: &Env, found: bool) -> Result<List<Slot>, NoMemory>
-    requires { env.now.found < 2 ^ 16 }
-    ensures { IfOk result (λ sets. sets ≡ slots_behind (with_found env.now found) (env.now.found ∷ [])) }
+pub(crate) fn push_found(env: &Env, found: bool, log: &mut Log) -> Result<(), NoMemory>
+    requires found { env.now.found < 2 ^ 16 }
+    requires none { log.old.effect.sets ≡ [] }
+    ensures ok { OnOk result (log.new ≡ with_sets log.old (slots_behind (with_found env.now found) (env.now.found ∷ []))) }
+    ensures err { OnErr result (without_effect log.new ≡ without_effect log.old) }
 {
-    List::of(alloc, found_slot(env, found))
+    log.push_set(found_slot(env, found))
 }
 
-/// Returns what an aggregate sets: its target, if there is a total, and `:found`.
+/// Adds what an aggregate sets: its target, if there is a total, and `:found`. The open effect sets nothing yet.
 #[tactic(auto, using(crate::proofs::Variables::total_set))]
-pub(crate) fn total_slots(
-    alloc: Global,
+pub(crate) fn push_total(
     env: &Env,
     to: u16,
     total: Option<Value>,
     found: bool,
-) -> Result<List<Slot>, NoMemory>
-    requires { env.now.found < 2 ^ 16 }
-    ensures { IfOk result (λ sets. sets ≡ slots_behind (with_found (totalled to total env.now) found) (when (is_some total) (to ∷ []) ++ env.now.found ∷ [])) }
+    log: &mut Log,
+) -> Result<(), NoMemory>
+    requires found { env.now.found < 2 ^ 16 }
+    requires none { log.old.effect.sets ≡ [] }
+    ensures ok { OnOk result (log.new ≡ with_sets log.old (slots_behind (with_found (totalled to total env.now) found) (when (is_some total) (to ∷ []) ++ env.now.found ∷ []))) }
+    ensures err { OnErr result (without_effect log.new ≡ without_effect log.old) }
 {
     let Some(value) = total else {
-        return found_alone(alloc, env, found);
+        return push_found(env, found, log);
     };
-    let mut sets = List::with_room(alloc, 2)?;
-    sets.push(slot_before_found(env, found, to, value))?;
-    sets.push(found_slot(env, found))?;
-    Ok(sets)
+    log.push_set(slot_before_found(env, found, to, value))?;
+    log.push_set(found_slot(env, found))
 }
 
 /// Returns the column that a target takes, the last one if the target occurs more than once.
@@ -126,42 +129,46 @@ fn target_value(
     }
 }
 
-/// Returns what a SELECT sets that found a row: its targets, each once, and `:found`.
-fn row_slots(
+/// Adds what a SELECT sets that found a row: its targets, each once, and `:found`. The open effect sets nothing yet.
+fn push_row_slots(
     alloc: Global,
     env: &Env,
     columns: &[u16],
     to: &[u16],
     row: &[Value],
-) -> Result<List<Slot>, NoMemory>
-    requires { env.now.found < 2 ^ 16 }
-    ensures { IfOk result (λ sets. sets ≡ slots_behind (with_found (with_values env.now to.now (columns_of row.now columns.now)) true) (each_once to.now ++ env.now.found ∷ [])) }
+    log: &mut Log,
+) -> Result<(), NoMemory>
+    requires found { env.now.found < 2 ^ 16 }
+    requires none { log.old.effect.sets ≡ [] }
+    ensures ok { OnOk result (log.new ≡ with_sets log.old (slots_behind (with_found (with_values env.now to.now (columns_of row.now columns.now)) true) (each_once to.now ++ env.now.found ∷ []))) }
+    ensures err { OnErr result (without_effect log.new ≡ without_effect log.old) }
 {
-    let mut sets = List::with_room(alloc, to.len().saturating_add(1))?;
     for (i, x) in to.iter().enumerate() {
         if is_among_first(to, i, *x) {
             continue;
         }
         let value = target_value(alloc, env, columns, to, row, *x)?;
-        sets.push(slot_before_found(env, true, *x, value))?;
+        log.push_set(slot_before_found(env, true, *x, value))?;
     }
-    sets.push(found_slot(env, true))?;
-    Ok(sets)
+    log.push_set(found_slot(env, true))
 }
 
-/// Returns what a SELECT sets: its targets, each once, if there is a row, and `:found`.
-pub(crate) fn select_slots(
+/// Adds what a SELECT sets: its targets, each once, if there is a row, and `:found`. The open effect sets nothing yet.
+pub(crate) fn push_selected(
     alloc: Global,
     env: &Env,
     columns: &[u16],
     to: &[u16],
     item: Option<&Keyed>,
-) -> Result<List<Slot>, NoMemory>
-    requires { env.now.found < 2 ^ 16 }
-    ensures { IfOk result (λ sets. sets ≡ slots_behind (with_selected columns.now to.now (option_copied item.entry) env.now) (when (is_some (option_copied item.entry)) (each_once to.now) ++ env.now.found ∷ [])) }
+    log: &mut Log,
+) -> Result<(), NoMemory>
+    requires found { env.now.found < 2 ^ 16 }
+    requires none { log.old.effect.sets ≡ [] }
+    ensures ok { OnOk result (log.new ≡ with_sets log.old (slots_behind (with_selected columns.now to.now (option_copied item.entry) env.now) (when (is_some (option_copied item.entry)) (each_once to.now) ++ env.now.found ∷ []))) }
+    ensures err { OnErr result (without_effect log.new ≡ without_effect log.old) }
 {
     match item {
-        Some(item) => row_slots(alloc, env, columns, to, item.row.as_slice()),
-        None => found_alone(alloc, env, false),
+        Some(item) => push_row_slots(alloc, env, columns, to, item.row.as_slice(), log),
+        None => push_found(env, false, log),
     }
 }

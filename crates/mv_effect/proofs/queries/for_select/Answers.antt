@@ -1,7 +1,7 @@
 use Rattle.std.proofs.Common.{ap, ◌∙◌}
 use Rattle.mv_values.specs.Patching.{applied}
+use Rattle.mv_log.specs.Logged.{Logged}
 use Rattle.mv_undo.specs.Owning.{earlier}
-use Rattle.mv_record.specs.declared.effect.Effect.{Effect}
 use Rattle.mv_effect.proofs.Asked.{asked_one}
 use Rattle.mv_recorded.proofs.Chosen.{for_goes}
 use Rattle.mv_effect.proofs.queries.for_select.Goals as goal
@@ -12,10 +12,13 @@ returns-clause-effect g c = λ row body lines.
     let env = c.args.context.now.env.now in
     let db = applied (earlier c.args.context.now.number c.args.context.now.undo.now) (g.V.View.sight c.args.view.now).database in
     let found = c.as_slice.ensures.items ∙ c.in_ok-rows.ensures.found in
-    c.in_ok-loop_effect.ensures
+    ap (λ (l : Logged). l.effect) c.in_ok-loop_rows.ensures.ok
     ∙ for_goes tables row c.args.once c.args.query.now.columns.now c.args.query.now.table c.args.query.now.conds.now c.args.query.now.sorts.now body env db c.in-Ok.pred c.as_slice.result.now c.in-Ok.ensures.asks found lines
 
 pub returns-clause-looks : goal.returns-clause-looks
 returns-clause-looks g c =
-    asked_one c.in_ok-loop_effect.field-0.preds c.in-Ok.pred (earlier c.args.context.now.number c.args.context.now.undo.now) (g.V.View.sight c.args.view.now) (g.V.View.sight c.visible_rows.new.view)
-    (ap (λ (e : Effect). e.preds) c.in_ok-loop_effect.ensures) c.in_ok-rows.ensures.looks
+    asked_one c.loop_rows.new.log.effect.preds c.in-Ok.pred (earlier c.args.context.now.number c.args.context.now.undo.now) (g.V.View.sight c.args.view.now) (g.V.View.sight c.visible_rows.new.view)
+    (ap (λ (l : Logged). l.effect.preds) c.in_ok-loop_rows.ensures.ok) c.in_ok-rows.ensures.looks
+
+pub returns-in-Err-clause-view : goal.returns-in-Err-clause-view
+returns-in-Err-clause-view g c = c.stop_unasked.ensures.view (g.V.View.sight c.args.view.now)

@@ -1,0 +1,96 @@
+//! Writes what statements ask and how they end into the log of their call.
+
+ghost use Rattle.std.specs.Prelude.{◌≡◌, ◌++◌, [], OnOk, OnErr};
+ghost use Rattle.mv_recorded.specs.Effects.{only_asks, only_end};
+ghost use Rattle.mv_effect.specs.Logging.{IsBlank, without_effect};
+ghost use Rattle.mv_effect.specs.Stops.{EndsBy};
+ghost use Rattle.mv_effect.specs.Looking.{OnlyAsks};
+ghost use Rattle.mv_view.specs.Viewing.{Sight};
+
+use mv_alone::state::Stop;
+use mv_log::log::Log;
+use mv_values::calls::End;
+use mv_values::list::List;
+use mv_values::memory::NoMemory;
+use mv_values::op::Op;
+use mv_values::pred::{Pred, Test};
+use mv_values::value::Value;
+use mv_view::view::Refused;
+
+/// Returns what stands in a list in place of a test that was moved out.
+fn no_test() -> Test {
+    Test {
+        column: 0,
+        key_place: None,
+        op: Op::Eq,
+        value: Value::Int(0),
+    }
+}
+
+/// Moves tests into the next predicate.
+#[tactic(auto, using(crate::proofs::Moving::moved, crate::proofs::Moving::moved_len, crate::proofs::Moving::moved_all))]
+fn push_tests(log: &mut Log, tests: List<Test>) -> Result<(), NoMemory>
+    ensures ok { OnOk result (log.new ≡ (let was = log.old in record was { tests = was.tests ++ tests })) }
+    ensures err { OnErr result (without_effect log.new ≡ without_effect log.old) }
+{
+    let mut tests = tests;
+    for at in 0..tests.len() {
+        log.push_test(tests.replace(at, no_test()))?;
+    }
+    Ok(())
+}
+
+/// Adds a predicate to the open effect, which has nothing yet.
+pub(crate) fn ask(log: &mut Log, pred: Pred) -> Result<(), NoMemory>
+    requires { IsBlank log.old }
+    ensures ok { OnOk result (log.new ≡ record log.old { effect = only_asks pred }) }
+    ensures err { OnErr result (without_effect log.new ≡ without_effect log.old) }
+{
+    push_tests(log, pred.tests)?;
+    log.push_columns(pred.columns.as_slice())?;
+    log.push_pred(pred.table)
+}
+
+/// Ends the call in the open effect, of which the predicates alone stay.
+pub(crate) fn end(log: &mut Log, end: End) -> Result<(), NoMemory>
+    ensures ok { OnOk result (log.new ≡ record log.old { effect = only_end log.old.effect.preds end }) }
+    ensures err { OnErr result (without_effect log.new ≡ without_effect log.old) }
+{
+    log.keep_preds();
+    log.push_end(end)
+}
+
+/// Ends the call in the open effect of a statement that was stopped. Its predicates alone stay. Fails if the statement
+/// was stopped because memory ran out.
+pub(crate) fn stop(log: &mut Log, stop: Stop) -> Result<(), NoMemory>
+    ensures ended { OnOk result (EndsBy log.old.effect.preds stop log.old log.new) }
+    ensures err { OnErr result (without_effect log.new ≡ without_effect log.old) }
+{
+    match stop {
+        Stop::Memory => Err(NoMemory),
+        Stop::Ended(reason) => end(log, reason),
+    }
+}
+
+/// Ends the call in the open effect of a statement that was stopped before it asked anything. Fails if the statement was
+/// stopped because memory ran out.
+#[tactic(auto, using(crate::proofs::Ends::ends_unasked))]
+pub(crate) fn stop_early(log: &mut Log, stopped: Stop) -> Result<(), NoMemory>
+    requires { IsBlank log.old }
+    ensures ended { OnOk result (EndsBy [] stopped log.old log.new) }
+    ensures err { OnErr result (without_effect log.new ≡ without_effect log.old) }
+{
+    stop(log, stopped)?;
+    Ok(())
+}
+
+/// As `stop_early`, for a statement that may ask its view.
+pub(crate) fn stop_unasked(log: &mut Log, stopped: Stop) -> Result<(), Refused>
+    requires { IsBlank log.old }
+    ensures ended { OnOk result (EndsBy [] stopped log.old log.new) }
+    ensures err { OnErr result (without_effect log.new ≡ without_effect log.old) }
+    ensures view { (sight : Sight) → OnlyAsks sight sight result }
+{
+    stop_early(log, stopped)?;
+    Ok(())
+}
