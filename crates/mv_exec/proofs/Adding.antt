@@ -111,21 +111,21 @@ from_first xs n x h =
 pub left_next : (proc : ProcInfo) (tables : List TableInfo) (task : Task) (db : Tables) (outer : List Place) (p : Place) (s : RStmt) → HoldsPlace proc (places_of task) outer p s
     → let site : Site = site_of outside outer in
     let st : State = state_of task db in
-    let own : Record = own_record tables task.parameters (out-RStmt s) p.number (site_in p.holder site) task.records st in
+    let own : Record = own_record tables task.parameters (out-RStmt s) p.number (site_in p.holder site) task.log.records st in
     left_of proc tables task db
     ≡ own ∷ on (itself tables (out-RStmt s) st) (left tables task.parameters
-    (inside tables (length task.records) (out-RStmt s) p.number (site_in p.holder site) st ++ run (site_in p.holder site) (p.number + size s) (drop (p.at + 1) (block_of proc (holder_of proc None outer) p))
-    ∷ (turns_of task.records site (block_of proc (holder_of proc None outer) p) p.first p.holder ++ jobs_left proc task.records outer)) (task.records ++ own ∷ []))
+    (inside tables (length task.log.records) (out-RStmt s) p.number (site_in p.holder site) st ++ run (site_in p.holder site) (p.number + size s) (drop (p.at + 1) (block_of proc (holder_of proc None outer) p))
+    ∷ (turns_of task.log.records site (block_of proc (holder_of proc None outer) p) p.first p.holder ++ jobs_left proc task.log.records outer)) (task.log.records ++ own ∷ []))
 left_next proc tables task db outer p s at =
     let block : List RStmt = block_of proc (holder_of proc None outer) p in
     let site : Site = site_of outside outer in
     let st : State = state_of task db in
-    let ts : List Job = turns_of task.records site block p.first p.holder in
-    let js : List Job = jobs_left proc task.records outer in
-    ap (λ ps. left tables task.parameters (jobs_left proc task.records ps) task.records st) at.are
-    ∙ (ap (λ is. left tables task.parameters is task.records st) (jobs_more proc task.records None outside outer p)
-    ∙ (ap (λ ss. left tables task.parameters ((some_run (site_in p.holder site) p.number ss ++ ts) ++ js) task.records st) (from_first block p.at s at.stands)
-    ∙ first_is tables task.parameters (out-RStmt s) s (site_in p.holder site) p.number (drop (p.at + 1) block) (ts ++ js) task.records st (roll-out-RStmt s)))
+    let ts : List Job = turns_of task.log.records site block p.first p.holder in
+    let js : List Job = jobs_left proc task.log.records outer in
+    ap (λ ps. left tables task.parameters (jobs_left proc task.log.records ps) task.log.records st) at.are
+    ∙ (ap (λ is. left tables task.parameters is task.log.records st) (jobs_more proc task.log.records None outside outer p)
+    ∙ (ap (λ ss. left tables task.parameters ((some_run (site_in p.holder site) p.number ss ++ ts) ++ js) task.log.records st) (from_first block p.at s at.stands)
+    ∙ first_is tables task.parameters (out-RStmt s) s (site_in p.holder site) p.number (drop (p.at + 1) block) (ts ++ js) task.log.records st (roll-out-RStmt s)))
 
 -- Where a record has been added
 
@@ -138,31 +138,31 @@ held_statement proc ps outer p s m at =
 new_jobs : (proc : ProcInfo) (task : Task) (r : Record) (outer : List Place) (p : Place) (s : RStmt) (b : Bool) → IsTask proc task → HoldsPlace proc (places_of task) outer p s
     → let site : Site = site_of outside outer in
     let block : List RStmt = block_of proc (holder_of proc None outer) p in
-    jobs_left proc (task.records ++ r ∷ []) ((outer ++ place_after (size s) p ∷ []) ++ inner_places (length task.records) p.number b (out-RStmt s))
-    ≡ inner_jobs (length task.records) p.number b (site_in p.holder site) r.rows (out-RStmt s)
-    ++ (some_run (site_in p.holder site) (p.number + size s) (drop (p.at + 1) block) ++ (turns_of task.records site block p.first p.holder ++ jobs_left proc task.records outer))
+    jobs_left proc (task.log.records ++ r ∷ []) ((outer ++ place_after (size s) p ∷ []) ++ inner_places (length task.log.records) p.number b (out-RStmt s))
+    ≡ inner_jobs (length task.log.records) p.number b (site_in p.holder site) r.rows (out-RStmt s)
+    ++ (some_run (site_in p.holder site) (p.number + size s) (drop (p.at + 1) block) ++ (turns_of task.log.records site block p.first p.holder ++ jobs_left proc task.log.records outer))
 new_jobs proc task r outer p s b t at =
-    let rs : List Record = task.records ++ r ∷ [] in
-    let number : ℕ = length task.records in
+    let rs : List Record = task.log.records ++ r ∷ [] in
+    let number : ℕ = length task.log.records in
     let q : Place = place_after (size s) p in
     let site : Site = site_of outside outer in
     let block : List RStmt = block_of proc (holder_of proc None outer) p in
     let runs : List Job = some_run (site_in p.holder site) (p.number + size s) (drop (p.at + 1) block) in
     let holders : AreHeldBefore number (outer ++ p ∷ []) = subst (AreHeldBefore number) at.are t.holders in
     inner_left proc rs (outer ++ q ∷ []) s (out-RStmt s) number p.number b (held_statement proc (places_of task) outer p s (size s) at) refl
-    ∙ (ap (λ o. inner_jobs number p.number b (site_of outside (outer ++ q ∷ [])) (rows_of o) (out-RStmt s) ++ jobs_left proc rs (outer ++ q ∷ [])) (get_last task.records r)
+    ∙ (ap (λ o. inner_jobs number p.number b (site_of outside (outer ++ q ∷ [])) (rows_of o) (out-RStmt s) ++ jobs_left proc rs (outer ++ q ∷ [])) (get_last task.log.records r)
     ∙ (ap (λ i. inner_jobs number p.number b i r.rows (out-RStmt s) ++ jobs_left proc rs (outer ++ q ∷ [])) (site_more outside outer q)
     ∙ ap (λ js. inner_jobs number p.number b (site_in p.holder site) r.rows (out-RStmt s) ++ js)
     (jobs_more proc rs None outside outer q
-    ∙ (ap (λ ts. (runs ++ ts) ++ jobs_left proc rs outer) (same_turns_of task.records r site block p.first p.holder (held_last number outer p holders))
-    ∙ (ap (λ js. (runs ++ turns_of task.records site block p.first p.holder) ++ js) (same_jobs proc task.records r None outside outer (held_outer number outer p holders))
-    ∙ append_assoc runs (turns_of task.records site block p.first p.holder) (jobs_left proc task.records outer))))))
+    ∙ (ap (λ ts. (runs ++ ts) ++ jobs_left proc rs outer) (same_turns_of task.log.records r site block p.first p.holder (held_last number outer p holders))
+    ∙ (ap (λ js. (runs ++ turns_of task.log.records site block p.first p.holder) ++ js) (same_jobs proc task.log.records r None outside outer (held_outer number outer p holders))
+    ∙ append_assoc runs (turns_of task.log.records site block p.first p.holder) (jobs_left proc task.log.records outer))))))
 
 -- what is left behind a record that doesn't end the call
 abbrev Goes : ProcInfo → List TableInfo → Task → Tables → Record → List Record → List Place → Place → RStmt → Bool → Type 0
 Goes proc tables task db r tail outer p s b =
-    left tables task.parameters (jobs_left proc (task.records ++ r ∷ []) ((outer ++ place_after (size s) p ∷ []) ++ inner_places (length task.records) p.number b (out-RStmt s)))
-    (task.records ++ r ∷ []) (state_with (task.records ++ r ∷ []) (after_empty_loop (out-RStmt s) r.rows (with_slots r.sets task.variables.env)) db) ≡ tail
+    left tables task.parameters (jobs_left proc (task.log.records ++ r ∷ []) ((outer ++ place_after (size s) p ∷ []) ++ inner_places (length task.log.records) p.number b (out-RStmt s)))
+    (task.log.records ++ r ∷ []) (state_with (task.log.records ++ r ∷ []) (after_empty_loop (out-RStmt s) r.rows (with_slots r.sets task.variables.env)) db) ≡ tail
 
 -- two lists with one first record
 pub first_same : (r q : Record) (rs qs : List Record) → r ∷ rs ≡ q ∷ qs → (r ≡ q) × (rs ≡ qs)
@@ -172,28 +172,28 @@ own_goes : (proc : ProcInfo) (tables : List TableInfo) (task : Task) (db : Table
     → IsTask proc task → HoldsPlace proc (places_of task) outer p s → Chooses task.variables.env b (out-RStmt s)
     → let site : Site = site_in p.holder (site_of outside outer) in
     let st : State = state_of task db in
-    let own : Record = own_record tables task.parameters (out-RStmt s) p.number site task.records st in
+    let own : Record = own_record tables task.parameters (out-RStmt s) p.number site task.log.records st in
     itself tables (out-RStmt s) st ≡ Ok next → next ≡ behind own st
     → on (itself tables (out-RStmt s) st) (left tables task.parameters
-    (inside tables (length task.records) (out-RStmt s) p.number site st ++ run site (p.number + size s) (drop (p.at + 1) (block_of proc (holder_of proc None outer) p))
-    ∷ (turns_of task.records (site_of outside outer) (block_of proc (holder_of proc None outer) p) p.first p.holder ++ jobs_left proc task.records outer)) (task.records ++ own ∷ [])) ≡ tail
+    (inside tables (length task.log.records) (out-RStmt s) p.number site st ++ run site (p.number + size s) (drop (p.at + 1) (block_of proc (holder_of proc None outer) p))
+    ∷ (turns_of task.log.records (site_of outside outer) (block_of proc (holder_of proc None outer) p) p.first p.holder ++ jobs_left proc task.log.records outer)) (task.log.records ++ own ∷ [])) ≡ tail
     → Goes proc tables task db own tail outer p s b
 own_goes proc tables task db tail outer p s b next t at chosen ok is tails =
     let params : ℕ = task.parameters in
     let y : RStmt-F RStmt = out-RStmt s in
-    let number : ℕ = length task.records in
+    let number : ℕ = length task.log.records in
     let site : Site = site_in p.holder (site_of outside outer) in
     let st : State = state_of task db in
-    let own : Record = own_record tables params y p.number site task.records st in
-    let rs : List Record = task.records ++ own ∷ [] in
+    let own : Record = own_record tables params y p.number site task.log.records st in
+    let rs : List Record = task.log.records ++ own ∷ [] in
     let block : List RStmt = block_of proc (holder_of proc None outer) p in
     let rest : List RStmt = drop (p.at + 1) block in
-    let more : List Job = turns_of task.records (site_of outside outer) block p.first p.holder ++ jobs_left proc task.records outer in
+    let more : List Job = turns_of task.log.records (site_of outside outer) block p.first p.holder ++ jobs_left proc task.log.records outer in
     let inner : List Job = inner_jobs number p.number b site own.rows y in
     let to : State = behind own st in
     let walk : State = record to { env = after_empty_loop y own.rows to.env } in
     ap (λ js. left tables params js rs (state_with rs (after_empty_loop y own.rows (with_slots own.sets task.variables.env)) db)) (new_jobs proc task own outer p s b t at)
-    ∙ (ap (left tables params (inner ++ (some_run site (p.number + size s) rest ++ more)) rs) (sym (state_more task.records own task.variables.env (after_empty_loop y own.rows (with_slots own.sets task.variables.env)) db))
+    ∙ (ap (left tables params (inner ++ (some_run site (p.number + size s) rest ++ more)) rs) (sym (state_more task.log.records own task.variables.env (after_empty_loop y own.rows (with_slots own.sets task.variables.env)) db))
     ∙ (sym (same_all_behind tables params inner (run site (p.number + size s) rest ∷ more) (some_run site (p.number + size s) rest ++ more) (same_run tables params site (p.number + size s) rest more) rs walk)
     ∙ (sym (inside_left tables params y number p.number site b (run site (p.number + size s) rest ∷ more) rs st next to ok chosen)
     ∙ (ap (left tables params (inside tables number y p.number site st ++ run site (p.number + size s) rest ∷ more) rs) (sym is)
@@ -215,18 +215,18 @@ goes_on proc tables task db r tail outer p s b t at chosen has rise leaves ends 
     st = state_of task db
 
     own : Record
-    own = own_record tables task.parameters y p.number site task.records st
+    own = own_record tables task.parameters y p.number site task.log.records st
 
     more : List Record
     more = on (itself tables y st) (left tables task.parameters
-        (inside tables (length task.records) y p.number site st ++ run site (p.number + size s) (drop (p.at + 1) (block_of proc (holder_of proc None outer) p))
-        ∷ (turns_of task.records (site_of outside outer) (block_of proc (holder_of proc None outer) p) p.first p.holder ++ jobs_left proc task.records outer)) (task.records ++ own ∷ []))
+        (inside tables (length task.log.records) y p.number site st ++ run site (p.number + size s) (drop (p.at + 1) (block_of proc (holder_of proc None outer) p))
+        ∷ (turns_of task.log.records (site_of outside outer) (block_of proc (holder_of proc None outer) p) p.first p.holder ++ jobs_left proc task.log.records outer)) (task.log.records ++ own ∷ []))
 
     both : (own ≡ r) × (more ≡ tail)
     both = first_same own r more tail (sym (left_next proc tables task db outer p s at) ∙ leaves)
 
     known : TellsEffect own st (itself tables y st)
-    known = effect_known tables task.parameters y p.number site task.records st has (rising_applied (writes_in task.records) db rise)
+    known = effect_known tables task.parameters y p.number site task.log.records st has (rising_applied (writes_in task.log.records) db rise)
 
     by : (out : Result State End) → itself tables y st ≡ out → Goes proc tables task db r tail outer p s b
     by (Ok next) ok =
@@ -249,12 +249,12 @@ ends_all proc tables task db r tail outer p s e at leaves ends = by (itself tabl
     st = state_of task db
 
     own : Record
-    own = own_record tables task.parameters (out-RStmt s) p.number site task.records st
+    own = own_record tables task.parameters (out-RStmt s) p.number site task.log.records st
 
     rest : State → List Record
     rest = left tables task.parameters
-        (inside tables (length task.records) (out-RStmt s) p.number site st ++ run site (p.number + size s) (drop (p.at + 1) (block_of proc (holder_of proc None outer) p))
-        ∷ (turns_of task.records (site_of outside outer) (block_of proc (holder_of proc None outer) p) p.first p.holder ++ jobs_left proc task.records outer)) (task.records ++ own ∷ [])
+        (inside tables (length task.log.records) (out-RStmt s) p.number site st ++ run site (p.number + size s) (drop (p.at + 1) (block_of proc (holder_of proc None outer) p))
+        ∷ (turns_of task.log.records (site_of outside outer) (block_of proc (holder_of proc None outer) p) p.first p.holder ++ jobs_left proc task.log.records outer)) (task.log.records ++ own ∷ [])
 
     both : (own ≡ r) × (on (itself tables (out-RStmt s) st) rest ≡ tail)
     both = first_same own r (on (itself tables (out-RStmt s) st) rest) tail (sym (left_next proc tables task db outer p s at) ∙ leaves)

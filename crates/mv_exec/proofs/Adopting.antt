@@ -35,14 +35,3 @@ added_before proc old mid r new before added = record {
   keys = λ tables db tail rise leaves keys.
       added.keys tables db tail rise (before.left tables db ∙ leaves) (subst (λ (rs : List Record). KeysStand tables (applied (writes_in rs) db)) (sym before.records) keys);
 }
-
--- a call stands as before where it does so twice
-pub before_both : (proc : ProcInfo) (old mid new : Task) → StandsAsBefore proc old mid → StandsAsBefore proc mid new → StandsAsBefore proc old new
-before_both proc old mid new a b = record {
-  parameters = b.parameters ∙ a.parameters;
-  records = b.records ∙ a.records;
-  executed = b.executed ∙ a.executed;
-  undo = b.undo ∙ a.undo;
-  beginning = b.beginning ∙ a.beginning;
-  left = λ tables db. b.left tables db ∙ a.left tables db;
-}

@@ -8,8 +8,8 @@ use Rattle.mv_catalog.specs.declared.resolved.ProcInfo.{ProcInfo}
 use Rattle.mv_catalog.specs.declared.resolved.RStmt.{RStmt}
 use Rattle.mv_alone.specs.declared.state.Env.{Env}
 use Rattle.mv_alone.specs.TableAfter.{entered, begun}
-use Rattle.mv_record.specs.declared.record.Record.{Record}
 use Rattle.mv_recorded.specs.Recorded.{outside, recorded}
+use Rattle.mv_log.specs.Logged.{Logged, empty as no_records}
 use Rattle.mv_undo.specs.declared.owned.Owned.{Owned}
 use Rattle.mv_undo.specs.Owning.{before}
 use Rattle.mv_graph.proofs.Texts.{whole_text}
@@ -46,9 +46,10 @@ jobs : (proc : ProcInfo) (body : List RStmt) → proc.body ≡ body → jobs_lef
 jobs proc [] e = ap (λ ss. some_run outside 1 ss ++ []) (sym e)
 jobs proc (s ∷ ss) e = refl
 
-pub fresh_is_task : (proc : ProcInfo) (params : ℕ) (env : Env) (empty : Bool) → empty ≡ none_in proc.body → IsTask proc (fresh_task params env empty)
-fresh_is_task proc params env empty e =
-    subst (λ b. IsTask proc (fresh_task params env b)) (sym e)
+pub fresh_is_task : (proc : ProcInfo) (params : ℕ) (env : Env) (log : Logged) (empty : Bool) → log.records ≡ [] → empty ≡ none_in proc.body → IsTask proc (fresh_task params env log empty)
+fresh_is_task proc params env log empty r e =
+    subst (λ rs. IsTask proc (fresh_task params env (record log { records = rs }) empty)) (sym r)
+    (subst (λ b. IsTask proc (fresh_task params env (record log { records = [] }) b)) (sym e)
     (record {
       filled = filled proc proc.body refl;
       numbers = numbered proc proc.body;
@@ -59,16 +60,17 @@ fresh_is_task proc params env empty e =
       undo = refl;
       definers = λ x. refl;
       counted = omega arith;
-    })
+    }))
 
-pub fresh_run : (proc : ProcInfo) (tables : List TableInfo) (call : Call) (db : Tables) (params : ℕ) (env : Env) (empty : Bool) → empty ≡ none_in proc.body
-    → env ≡ entered proc call → params ≡ length call.arguments → run_of proc tables (fresh_task params env empty) db ≡ recorded tables proc call db
-fresh_run proc tables call db params env empty e v n =
-    subst (λ b. run_of proc tables (fresh_task params env b) db ≡ recorded tables proc call db) (sym e)
-    (subst (λ w. run_of proc tables (fresh_task params w (none_in proc.body)) db ≡ recorded tables proc call db) (sym v)
-    (subst (λ m. run_of proc tables (fresh_task m (entered proc call) (none_in proc.body)) db ≡ recorded tables proc call db) (sym n)
+pub fresh_run : (proc : ProcInfo) (tables : List TableInfo) (call : Call) (db : Tables) (params : ℕ) (env : Env) (log : Logged) (empty : Bool) → log.records ≡ [] → empty ≡ none_in proc.body
+    → env ≡ entered proc call → params ≡ length call.arguments → run_of proc tables (fresh_task params env log empty) db ≡ recorded tables proc call db
+fresh_run proc tables call db params env log empty r e v n =
+    subst (λ rs. run_of proc tables (fresh_task params env (record log { records = rs }) empty) db ≡ recorded tables proc call db) (sym r)
+    (subst (λ b. run_of proc tables (fresh_task params env (record log { records = [] }) b) db ≡ recorded tables proc call db) (sym e)
+    (subst (λ w. run_of proc tables (fresh_task params w (record log { records = [] }) (none_in proc.body)) db ≡ recorded tables proc call db) (sym v)
+    (subst (λ m. run_of proc tables (fresh_task m (entered proc call) (record log { records = [] }) (none_in proc.body)) db ≡ recorded tables proc call db) (sym n)
     (ap (λ js. left tables (length call.arguments) js [] (begun proc call db)) (jobs proc proc.body refl)
-    ∙ (sym (same_run tables (length call.arguments) outside 1 proc.body [] [] (begun proc call db)) ∙ all_left tables proc call db))))
+    ∙ (sym (same_run tables (length call.arguments) outside 1 proc.body [] [] (begun proc call db)) ∙ all_left tables proc call db)))))
 
 -- no write was made by a record before the first
 pub none_before : (all : List Owned) → before 0 all ≡ []
@@ -80,28 +82,21 @@ only_first [] lt = absurd (omega (arith, lt))
 only_first (p ∷ ps) lt = refl
 
 -- a task whose parts are those of a call that has done nothing
-abbrev pub task_of : ℕ → CallVariables → List Record → List Owned → List (Option ℕ) → List Place → Bool → Task
-task_of params variables records undo definers places empty =
-    record { parameters = params; variables = variables; records = records; executed = 0; undo = undo; definers = definers; places = places; ended = empty; empty = empty }
-
-pub restarted : (P : Task → Type 0) (params : ℕ) (variables : CallVariables) (env : Env) (records : List Record) (undo : List Owned) (definers : List (Option ℕ)) (places : List Place) (empty : Bool)
-    → variables ≡ at_beginning env → records ≡ [] → undo ≡ [] → definers ≡ [] → places ≡ first_place ∷ [] → P (fresh_task params env empty) → P (task_of params variables records undo definers places empty)
-restarted P params variables env records undo definers places empty e r u d q h =
-    subst (λ v. P (task_of params v records undo definers places empty)) (sym e)
-    (subst (λ v. P (task_of params (at_beginning env) v undo definers places empty)) (sym r)
-    (subst (λ v. P (task_of params (at_beginning env) [] v definers places empty)) (sym u)
-    (subst (λ v. P (task_of params (at_beginning env) [] [] v places empty)) (sym d)
-    (subst (λ v. P (task_of params (at_beginning env) [] [] [] v empty)) (sym q) h))))
+pub all_fresh : (params : ℕ) (variables : CallVariables) (env : Env) (log : Logged) (undo : List Owned) (definers : List (Option ℕ)) (places : List Place) (empty : Bool)
+    → variables ≡ at_beginning env → undo ≡ [] → definers ≡ [] → places ≡ first_place ∷ []
+    → (let t : Task = record { parameters = params; variables = variables; log = log; executed = 0; undo = undo; definers = definers; places = places; ended = empty; empty = empty } in t)
+    ≡ fresh_task params env log empty
+all_fresh params variables env log undo definers places empty v u d p = cc
 
 -- the same of a task that is such a one
-pub new_task : (proc : ProcInfo) (task : Task) (params : ℕ) (env : Env) (empty : Bool) → task ≡ fresh_task params env empty → empty ≡ none_in proc.body → IsTask proc task
-new_task proc task params env empty is none = subst (IsTask proc) (sym is) (fresh_is_task proc params env empty none)
+pub new_task : (proc : ProcInfo) (task : Task) (params : ℕ) (env : Env) (empty : Bool) → task ≡ fresh_task params env no_records empty → empty ≡ none_in proc.body → IsTask proc task
+new_task proc task params env empty is none = subst (IsTask proc) (sym is) (fresh_is_task proc params env no_records empty refl none)
 
-pub new_begins : (proc : ProcInfo) (call : Call) (task : Task) (params : ℕ) (env : Env) (empty : Bool) → task ≡ fresh_task params env empty → env ≡ entered proc call → params ≡ length call.arguments
+pub new_begins : (proc : ProcInfo) (call : Call) (task : Task) (params : ℕ) (env : Env) (empty : Bool) → task ≡ fresh_task params env no_records empty → env ≡ entered proc call → params ≡ length call.arguments
     → BeginsCall task proc call
 new_begins proc call task params env empty is e n = subst (λ t. BeginsCall t proc call) (sym is) (e, n)
 
-pub new_run : (proc : ProcInfo) (call : Call) (task : Task) (params : ℕ) (env : Env) (empty : Bool) → task ≡ fresh_task params env empty → empty ≡ none_in proc.body → env ≡ entered proc call
+pub new_run : (proc : ProcInfo) (call : Call) (task : Task) (params : ℕ) (env : Env) (empty : Bool) → task ≡ fresh_task params env no_records empty → empty ≡ none_in proc.body → env ≡ entered proc call
     → params ≡ length call.arguments → (tables : List TableInfo) (db : Tables) → run_of proc tables task db ≡ recorded tables proc call db
 new_run proc call task params env empty is none e n tables db =
-    subst (λ t. run_of proc tables t db ≡ recorded tables proc call db) (sym is) (fresh_run proc tables call db params env empty none e n)
+    subst (λ t. run_of proc tables t db ≡ recorded tables proc call db) (sym is) (fresh_run proc tables call db params env no_records empty refl none e n)

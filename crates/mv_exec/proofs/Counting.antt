@@ -30,7 +30,7 @@ preds_more rs r = ap length (flat_map-append (λ r. r.preds) rs (r ∷ []) ∙ a
 pub none_run : (task : Task) (at : Sight) → HasRunTo task task 0 at at
 none_run task at = record {
   more = [];
-  records = none task.records;
+  records = none task.log.records;
   executed = omega arith;
   asked = record { for_rows = omega arith; for_row = omega arith };
 }
@@ -43,28 +43,28 @@ none_run task at = record {
 pub run_on : (first old new : Task) (a b c : Sight) → HasRunTo first old 0 a b → HasRun old new b c → HasRunTo first new 0 a c
 run_on first old new a b c so one = record {
   more = so.more ++ one.next ∷ [];
-  records = one.records ∙ (ap (λ rs. rs ++ one.next ∷ []) so.records ∙ append_assoc first.records so.more (one.next ∷ []));
+  records = one.records ∙ (ap (λ rs. rs ++ one.next ∷ []) so.records ∙ append_assoc first.log.records so.more (one.next ∷ []));
   executed = omega (arith, one.executed, so.executed, longer);
   asked =
-      subst (λ n. AskedAtMost n (n * different (writes_in new.records)) a c)
+      subst (λ n. AskedAtMost n (n * different (writes_in new.log.records)) a c)
       (let e : (length (preds_in so.more) + 0) + length one.next.preds ≡ length (preds_in (so.more ++ one.next ∷ [])) + 0 = omega (arith, preds_more so.more one.next) in e)
-      (asked_more (length (preds_in so.more) + 0) (length one.next.preds) (different (writes_in old.records)) (different (writes_in new.records)) a b c
-      (let keys : writes_in new.records ≡ writes_in old.records ++ one.next.writes = ap writes_in one.records ∙ writes_more old.records one.next in
-      subst (λ ws. different (writes_in old.records) ≤ different ws) (sym keys) (different_more (writes_in old.records) one.next.writes)) so.asked one.asked);
+      (asked_more (length (preds_in so.more) + 0) (length one.next.preds) (different (writes_in old.log.records)) (different (writes_in new.log.records)) a b c
+      (let keys : writes_in new.log.records ≡ writes_in old.log.records ++ one.next.writes = ap writes_in one.records ∙ writes_more old.log.records one.next in
+      subst (λ ws. different (writes_in old.log.records) ≤ different ws) (sym keys) (different_more (writes_in old.log.records) one.next.writes)) so.asked one.asked);
 }
   where
     longer : length (so.more ++ one.next ∷ []) ≡ length so.more + 1
     longer = omega (arith, length-append so.more (one.next ∷ []))
 
 -- one more was tried in vain
-pub run_in_vain : (first old new : Task) (a b c : Sight) → HasRunTo first old 0 a b → IsUnchanged old new → AskedAtMost 1 (different (writes_in old.records)) b c → HasRunTo first new 1 a c
+pub run_in_vain : (first old new : Task) (a b c : Sight) → HasRunTo first old 0 a b → IsUnchanged old new → AskedAtMost 1 (different (writes_in old.log.records)) b c → HasRunTo first new 1 a c
 run_in_vain first old new a b c so same once = record {
   more = so.more;
   records = same.records ∙ so.records;
   executed = same.executed ∙ so.executed;
   asked =
-      subst (λ n. AskedAtMost n (n * different (writes_in new.records)) a c) (let e : (length (preds_in so.more) + 0) + 1 ≡ length (preds_in so.more) + 1 = omega arith in e)
-      (asked_more (length (preds_in so.more) + 0) 1 (different (writes_in old.records)) (different (writes_in new.records)) a b c
-      (subst (λ (rs : List Record). different (writes_in old.records) ≤ different (writes_in rs)) (sym same.records) (omega arith)) so.asked
-      (subst (λ n. AskedAtMost 1 n b c) (sym (one-mul (different (writes_in old.records)))) once));
+      subst (λ n. AskedAtMost n (n * different (writes_in new.log.records)) a c) (let e : (length (preds_in so.more) + 0) + 1 ≡ length (preds_in so.more) + 1 = omega arith in e)
+      (asked_more (length (preds_in so.more) + 0) 1 (different (writes_in old.log.records)) (different (writes_in new.log.records)) a b c
+      (subst (λ (rs : List Record). different (writes_in old.log.records) ≤ different (writes_in rs)) (sym same.records) (omega arith)) so.asked
+      (subst (λ n. AskedAtMost 1 n b c) (sym (one-mul (different (writes_in old.log.records)))) once));
 }

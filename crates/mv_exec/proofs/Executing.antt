@@ -1,5 +1,5 @@
 -- The record of a statement that is executed is the next one.
-use Rattle.std.proofs.Common.{◌≡◌, ℕ, ◌+◌, ◌-◌, List, [], ◌∷◌, ◌++◌, Some, None, length, drop, sym, ap, subst, ◌∙◌, arith}
+use Rattle.std.proofs.Common.{◌≡◌, ℕ, ◌+◌, ◌-◌, List, [], ◌∷◌, ◌++◌, Some, None, length, drop, refl, sym, ap, subst, ◌∙◌, arith}
 use Rattle.std.proofs.lemmas.List.{length_push}
 use Rattle.mv_values.specs.declared.schema.TableInfo.{TableInfo}
 use Rattle.mv_values.specs.Patching.{applied}
@@ -17,20 +17,26 @@ use Rattle.mv_recorded.specs.Effect.{HasColumns}
 use Rattle.mv_recorded.specs.Recorded.{Site, own_record, outside}
 use Rattle.mv_undo.specs.Owning.{earlier}
 use Rattle.mv_view.specs.Viewing.{Sight}
+use Rattle.mv_log.specs.Logged.{Logged}
 use Rattle.mv_record.specs.declared.effect.Effect.{Effect}
 use Rattle.mv_record.specs.Effects.{record_of}
 use Rattle.mv_recorded.specs.Effects.{IsEffect}
 use Rattle.mv_effect.specs.Looking.{AskedFor}
 use Rattle.mv_exec.specs.declared.places.Place.{Place}
-use Rattle.mv_exec.specs.declared.task.Ahead.{Ahead}
+use Rattle.mv_exec.specs.Foreseen.{Ahead}
 use Rattle.mv_exec.specs.declared.task.Task.{Task}
 use Rattle.mv_exec.specs.Left.{run, left, inside}
 use Rattle.mv_exec.specs.Places.{block_of, holder_of, site_in, site_of, turns_of, jobs_left, HoldsPlace}
 use Rattle.mv_exec.specs.Tasks.{places_of, state_of, left_of, IsTask}
+use Rattle.mv_exec.specs.declared.recording.OpenStatement.{OpenStatement}
+use Rattle.mv_exec.specs.declared.recording.Origin.TheVariants.{Executed}
 use Rattle.mv_exec.specs.Ahead.{ForeseesLeft, ahead_in}
-use Rattle.mv_exec.specs.Steps.{HasAddedRecord, HasExecuted}
+use Rattle.mv_exec.specs.Recording.{IsRecordOf, foreseen}
+use Rattle.mv_exec.specs.Steps.{HasAddedRecord, HasExecuted, with_log}
 use Rattle.mv_exec.specs.Running.{Foresees}
 use Rattle.mv_exec.proofs.Adding.{left_next}
+use Rattle.mv_exec.proofs.Adopting.{added_before}
+use Rattle.mv_exec.proofs.Logs.{logged_before}
 use Rattle.mv_exec.proofs.Writing.{own_writes}
 
 -- The record
@@ -47,14 +53,14 @@ pub record LeavesNext (proc : ProcInfo) (tables : List TableInfo) (task : Task) 
 -- the record of the next statement's effect is the next one
 effect_next : (proc : ProcInfo) (tables : List TableInfo) (task : Task) (db : Tables) (outer : List Place) (p : Place) (s : RStmt) (ahead : Ahead) (e : Effect)
     → IsTask proc task → HoldsPlace proc (places_of task) outer p s → ForeseesLeft proc task (Some ahead)
-    → IsEffect tables (out-RStmt s) task.variables.env (applied (earlier (length task.records) task.undo) db) e → LeavesNext proc tables task db (record_of ahead.spot ahead.parent ahead.reads e)
+    → IsEffect tables (out-RStmt s) task.variables.env (applied (earlier (length task.log.records) task.undo) db) e → LeavesNext proc tables task db (record_of ahead.spot ahead.parent ahead.reads e)
 effect_next proc tables task db outer p s ahead e t at next effect =
     let st : State = state_of task db in
     let site : Site = site_in p.holder (site_of outside outer) in
-    let own : Record = own_record tables task.parameters (out-RStmt s) p.number site task.records st in
+    let own : Record = own_record tables task.parameters (out-RStmt s) p.number site task.log.records st in
     let rest : List Record = on (itself tables (out-RStmt s) st) (left tables task.parameters
-    (inside tables (length task.records) (out-RStmt s) p.number site st ++ run site (p.number + size s) (drop (p.at + 1) (block_of proc (holder_of proc None outer) p))
-    ∷ (turns_of task.records (site_of outside outer) (block_of proc (holder_of proc None outer) p) p.first p.holder ++ jobs_left proc task.records outer)) (task.records ++ own ∷ [])) in
+    (inside tables (length task.log.records) (out-RStmt s) p.number site st ++ run site (p.number + size s) (drop (p.at + 1) (block_of proc (holder_of proc None outer) p))
+    ∷ (turns_of task.log.records (site_of outside outer) (block_of proc (holder_of proc None outer) p) p.first p.holder ++ jobs_left proc task.log.records outer)) (task.log.records ++ own ∷ [])) in
     let leaves : left_of proc tables task db ≡ own ∷ rest = left_next proc tables task db outer p s at in
     let foreseen : Foresees (Some ahead) (own ∷ rest) = subst (Foresees (Some ahead)) leaves (next tables db) in
     let is : e ≡ effect_of tables (out-RStmt s) st = subst (λ ws. IsEffect tables (out-RStmt s) task.variables.env (applied ws db) e) (own_writes proc task t) effect st.lines in
@@ -64,13 +70,29 @@ effect_next proc tables task db outer p s ahead e t at next effect =
       left = leaves ∙ ap (λ r. r ∷ rest) same;
     }
 
+-- The record of the open statement
+
+-- with this effect
+abbrev pub record_in : Logged → OpenStatement → Record
+record_in log at = record_of (record { statement = at.statement; turns = log.turns }) at.parent log.reads log.effect
+
+-- it has what was foreseen before the effect
+pub as_foreseen : (log new : Logged) (at : OpenStatement) → new ≡ record log { effect = new.effect } → (let a : Ahead = foreseen log at in record_in new at ≡ record_of a.spot a.parent a.reads new.effect)
+as_foreseen log new at is = ap (λ (l : Logged). record_of (record { statement = at.statement; turns = l.turns }) at.parent l.reads new.effect) is
+
+-- it was added to the call before the effect
+pub added_effect : (proc : ProcInfo) (old : Task) (log : Logged) (at : OpenStatement) (new : Task) → log ≡ record old.log { effect = log.effect }
+    → ((r : Record) → IsRecordOf log at Executed r → HasAddedRecord proc (with_log old log) r new) → HasAddedRecord proc old (record_in log at) new
+added_effect proc old log at new is added =
+    added_before proc old (with_log old log) (record_in log at) new (logged_before proc old log (ap (λ (l : Logged). l.records) is)) (added (record_in log at) refl)
+
 -- What was executed
 
 -- a record more was counted
-pub counts_one : (proc : ProcInfo) (old : Task) (r : Record) (new : Task) (all number : ℕ) → HasAddedRecord proc old r new → new.executed ≡ old.executed → all ≡ length new.records → number ≡ length old.records
+pub counts_one : (proc : ProcInfo) (old : Task) (r : Record) (new : Task) (all number : ℕ) → HasAddedRecord proc old r new → new.executed ≡ old.executed → all ≡ length new.log.records → number ≡ length old.log.records
     → new.executed + (all - number) ≡ old.executed + 1
 counts_one proc old r new all number h same is was =
-    let more : length new.records ≡ length old.records + 1 = ap length h.records ∙ length_push old.records r in
+    let more : length new.log.records ≡ length old.log.records + 1 = ap length h.records ∙ length_push old.log.records r in
     omega (arith, more, is, was, same)
 
 -- the same record was added to the call with another count
@@ -80,8 +102,8 @@ recounted proc old r new n h = record { parameters = h.parameters; records = h.r
 -- the next record of the run was added
 pub executed_next : (proc : ProcInfo) (tables : List TableInfo) (old new : Task) (before after : Sight) (n : ℕ) (outer : List Place) (p : Place) (s : RStmt) (ahead : Ahead) (e : Effect) (r : Record)
     → IsTask proc old → HoldsPlace proc (places_of old) outer p s → HasColumns (out-RStmt s) → AreRising before.database → ForeseesLeft proc old (Some ahead)
-    → IsEffect tables (out-RStmt s) old.variables.env (applied (earlier (length old.records) old.undo) before.database) e
-    → AskedFor e.preds (earlier (length old.records) old.undo) before after
+    → IsEffect tables (out-RStmt s) old.variables.env (applied (earlier (length old.log.records) old.undo) before.database) e
+    → AskedFor e.preds (earlier (length old.log.records) old.undo) before after
     → r ≡ record_of ahead.spot ahead.parent ahead.reads e → HasAddedRecord proc old r new → HasExecuted tables proc old (record new { executed = n }) before after
 executed_next proc tables old new before after n outer p s ahead e r t at has rise next effect asked is added =
     let it : LeavesNext proc tables old before.database (record_of ahead.spot ahead.parent ahead.reads e) = effect_next proc tables old before.database outer p s ahead e t at next effect in
@@ -90,5 +112,5 @@ executed_next proc tables old new before after n outer p s ahead e r t at has ri
       next = r;
       added = recounted proc old r new n added;
       left = left ∙ ap (λ rs. r ∷ rs) (sym (added.left tables before.database it.tail rise left));
-      asked = subst (λ (q : Record). AskedFor q.preds (writes_in old.records) before after) (sym is) (subst (λ ws. AskedFor e.preds ws before after) (own_writes proc old t) asked);
+      asked = subst (λ (q : Record). AskedFor q.preds (writes_in old.log.records) before after) (sym is) (subst (λ ws. AskedFor e.preds ws before after) (own_writes proc old t) asked);
     }

@@ -9,6 +9,7 @@ use Rattle.mv_catalog.specs.declared.resolved.RStmt.TheOpen.{RStmt-F}
 use Rattle.mv_record.specs.declared.record.Record.{Record}
 use Rattle.mv_recorded.specs.Reading.{Loop, loop_of, last_place, sets_variable, reads_of, expressions, read_variables}
 use Rattle.mv_recorded.specs.Recorded.{Site, outside}
+use Rattle.mv_log.specs.Logged.{Logged}
 use Rattle.mv_graph.specs.declared.graph.Step.{Step}
 use Rattle.mv_graph.specs.Steps.{TellsOf}
 use Rattle.mv_exec.specs.declared.places.Place.{Place}
@@ -18,6 +19,8 @@ use Rattle.mv_exec.specs.Places.{site_in, site_of, next_turn, place_due, with_ne
 use Rattle.mv_exec.specs.Tasks.{places_of, left_of, definer_in, in_turn_at, task_at, IsTask, StandsAsBefore}
 use Rattle.mv_exec.specs.Running.{Foresees}
 use Rattle.mv_exec.specs.Ahead.{IsNextPlace, ahead_at, ForeseesLeft}
+use Rattle.mv_exec.specs.Steps.{with_log}
+use Rattle.mv_exec.proofs.Logs.{before_both, logged_before, logged_task}
 use Rattle.mv_exec.proofs.Turning.{IsDue, standing_live, after_turn, turned_task, turned_before}
 use Rattle.mv_exec.proofs.Adding.{left_next}
 
@@ -45,7 +48,7 @@ foresees_at proc task variables ps ended outer p s xs t left at are tables db =
     subst (Foresees (Some (ahead_at task.definers site p.number xs))) (sym (left_next proc tables then db outer p s at) ∙ left tables db) (
       refl,
       refl,
-      reads_same task.parameters site.loops task.records task.definers (out-RStmt s) t.definers
+      reads_same task.parameters site.loops task.log.records task.definers (out-RStmt s) t.definers
           ∙ ap (map (λ x. record { slot = x; definer = option_or (loop_of x site.loops) (definer_in task.definers x) })) (sym are),
     )
 
@@ -75,7 +78,7 @@ foresees proc task place s turn step t live params go tells = by turn refl
         let due : IsDue proc (places_of task) go.outer go.last = due_turn proc task place s turn live go e in
         let before : StandsAsBefore proc task (after_turn task go.outer go.last) = turned_before proc task go.outer go.last t due in
         let was = task.variables in
-        foresees_at proc task (record was { env = with_next_row task.records go.last.holder was.env }) (go.outer ++ next_turn go.last ∷ []) false go.outer place s step.reads t before.left
+        foresees_at proc task (record was { env = with_next_row task.log.records go.last.holder was.env }) (go.outer ++ next_turn go.last ∷ []) false go.outer place s step.reads t before.left
         (record { are = ap (λ q. go.outer ++ q ∷ []) (in_turn proc task place s turn go e); stands = go.stands }) reads
     by false e =
         foresees_at proc task task.variables task.places task.ended go.outer place s step.reads t (λ tables db. refl) (stands_here proc task place s turn live go e) reads
@@ -96,7 +99,7 @@ turned_come proc task place s go t live =
     let then : Task = after_turn task go.outer last in
     let was = task.variables in
     let is : in_turn_at task go.outer last place ≡ then =
-    ap (λ q. record task { variables = record was { env = with_next_row task.records last.holder was.env }; places = go.outer ++ q ∷ [] }) (sym (in_turn proc task place s true go refl))
+    ap (λ q. record task { variables = record was { env = with_next_row task.log.records last.holder was.env }; places = go.outer ++ q ∷ [] }) (sym (in_turn proc task place s true go refl))
     ∙ ap (λ b. record then { ended = b }) live in
     subst (λ u. IsCome proc task u place s) (sym is)
     (record {
@@ -116,3 +119,12 @@ pub come : (proc : ProcInfo) (task : Task) (place : Place) (s : RStmt) (turn : B
     → new ≡ task_at task go.outer go.last place turn → IsCome proc task new place s
 come proc task place s true new t live go is = subst (λ u. IsCome proc task u place s) (sym is) (turned_come proc task place s go t live)
 come proc task place s false new t live go is = subst (λ u. IsCome proc task u place s) (sym is) (here_come proc task place s go t live)
+
+-- the same where the record of the statement was begun before
+pub come_logged : (proc : ProcInfo) (task : Task) (log : Logged) (place : Place) (s : RStmt) (turn : Bool) (new : Task) → IsTask proc task → task.ended ≡ false → (go : IsNextPlace proc task place s turn)
+    → log.records ≡ task.log.records → new ≡ task_at (with_log task log) go.outer go.last place turn → IsCome proc task new place s
+come_logged proc task log place s turn new t live go same is =
+    let mid : Task = with_log task log in
+    let next : IsNextPlace proc mid place s turn = record { outer = go.outer; last = go.last; are = go.are; due = go.due; is = go.is; stands = go.stands } in
+    let it : IsCome proc mid new place s = come proc mid place s turn new (logged_task proc task log same t) live next is in
+    record { whole = it.whole; same = before_both proc task mid new (logged_before proc task log same) it.same; at = it.at }

@@ -11,16 +11,19 @@ use Rattle.mv_record.specs.declared.record.Record.{Record}
 use Rattle.mv_record.specs.Runs.{writes_in}
 use Rattle.mv_record.specs.Writes.{AreRising}
 use Rattle.mv_recorded.specs.Recorded.{recorded, tell_statements, outside}
+use Rattle.mv_log.specs.Logged.{Logged}
 use Rattle.mv_view.specs.Viewing.{Sight}
 use Rattle.mv_effect.specs.Looking.{AskedFor}
 use Rattle.mv_graph.specs.declared.graph.Graph.{Graph}
 use Rattle.mv_graph.specs.Nodes.{IsSound, meaning_of}
-use Rattle.mv_exec.specs.declared.task.Ahead.{Ahead}
+use Rattle.mv_exec.specs.Foreseen.{Ahead}
 use Rattle.mv_exec.specs.declared.task.Task.{Task}
-use Rattle.mv_exec.specs.Tasks.{left_of, run_of, IsTask, StandsAsBefore, BeginsCall, TellsEnd}
+use Rattle.mv_exec.specs.Tasks.{left_of, run_of, IsTask, StandsAsBefore, BeginsCall, TellsEnd, fresh_task}
 use Rattle.mv_exec.specs.Running.{HasLeft, IsTaskOf, IsTaskOn, IsRunningOn, IsSameCall, IsSameCallOn, IsUnchanged, Foresees, IsAhead, HasContent, HasAdopted, GoesOnWith, HasRun, EndsExactly, count_left}
-use Rattle.mv_exec.specs.Ahead.{ForeseesLeft}
-use Rattle.mv_exec.specs.Steps.{HasAddedRecord, HasExecuted}
+use Rattle.mv_exec.specs.Ahead.{ForeseesLeft, ahead_in}
+use Rattle.mv_exec.specs.Recording.{IsAtRest}
+use Rattle.mv_exec.specs.Steps.{HasAddedNext, HasAddedRecord, HasExecuted}
+use Rattle.mv_exec.proofs.Beginning.{fresh_is_task, fresh_run}
 use Rattle.mv_exec.proofs.Adopting.{added_before, none_ended, some_ahead}
 use Rattle.mv_exec.proofs.Ending as ending
 use Rattle.mv_exec.proofs.Writing.{has_writes}
@@ -28,22 +31,23 @@ use Rattle.mv_exec.proofs.Writing.{has_writes}
 -- Records after those of a task
 
 -- fewer records of a run leave more of it
-less_leaves : (g : Graph) (call : Call) (db : Tables) (old new : Task) (more rest : List Record) → new.records ≡ old.records ++ more → HasLeft g call db new rest → HasLeft g call db old (more ++ rest)
-less_leaves g call db old new more rest is h = h ∙ (ap (λ rs. rs ++ rest) is ∙ append_assoc old.records more rest)
+less_leaves : (g : Graph) (call : Call) (db : Tables) (old new : Task) (more rest : List Record) → new.log.records ≡ old.log.records ++ more → HasLeft g call db new rest → HasLeft g call db old (more ++ rest)
+less_leaves g call db old new more rest is h = h ∙ (ap (λ rs. rs ++ rest) is ∙ append_assoc old.log.records more rest)
 
-more_leaves : (g : Graph) (call : Call) (db : Tables) (old new : Task) (more rest : List Record) → new.records ≡ old.records ++ more → HasLeft g call db old (more ++ rest) → HasLeft g call db new rest
-more_leaves g call db old new more rest is h = h ∙ (sym (append_assoc old.records more rest) ∙ ap (λ rs. rs ++ rest) (sym is))
+more_leaves : (g : Graph) (call : Call) (db : Tables) (old new : Task) (more rest : List Record) → new.log.records ≡ old.log.records ++ more → HasLeft g call db old (more ++ rest) → HasLeft g call db new rest
+more_leaves g call db old new more rest is h = h ∙ (sym (append_assoc old.log.records more rest) ∙ ap (λ rs. rs ++ rest) (sym is))
 
-same_leaves : (g : Graph) (call : Call) (db : Tables) (old new : Task) (rest : List Record) → new.records ≡ old.records → HasLeft g call db new rest → HasLeft g call db old rest
+same_leaves : (g : Graph) (call : Call) (db : Tables) (old new : Task) (rest : List Record) → new.log.records ≡ old.log.records → HasLeft g call db new rest → HasLeft g call db old rest
 same_leaves g call db old new rest is h = h ∙ ap (λ rs. rs ++ rest) is
 
 -- The same call
 
 -- a call that has done nothing
-pub begins : (g : Graph) (call : Call) (task : Task) → length call.arguments ≡ length g.procedure.params → IsTask g.procedure task → BeginsCall task g.procedure call → task.variables.env.found ≡ (entered g.procedure call).found → task.records ≡ []
+pub begins : (g : Graph) (call : Call) (task : Task) → length call.arguments ≡ length g.procedure.params → IsTask g.procedure task → BeginsCall task g.procedure call → task.variables.env.found ≡ (entered g.procedure call).found → task.log.records ≡ [] → IsAtRest task.log
     → ((tables : List TableInfo) (db : Tables) → run_of g.procedure tables task db ≡ recorded tables g.procedure call db) → IsTaskOf g call task
-begins g call task fits whole start found none run = record {
+begins g call task fits whole start found none rest run = record {
   whole = whole;
+  rest = rest;
   begins = start;
   fits = fits;
   found = found;
@@ -55,13 +59,23 @@ begins g call task fits whole start found none run = record {
 }
 
 -- on each database it leaves its whole full run
-pub begins_on : (g : Graph) (call : Call) (task : Task) → IsTaskOf g call task → task.records ≡ [] → (db : Tables) → IsTaskOn g call db task
+pub begins_on : (g : Graph) (call : Call) (task : Task) → IsTaskOf g call task → task.log.records ≡ [] → (db : Tables) → IsTaskOn g call db task
 begins_on g call task is none db = record { is = is; rest = (meaning_of g call db).records; leaves = ap (λ rs. rs ++ (meaning_of g call db).records) (sym none) }
 
+-- a call that is put back before its first statement, with a log of no records
+pub restarted : (g : Graph) (call : Call) (old : Task) (log : Logged) (new : Task) → log.records ≡ [] → IsAtRest log → new ≡ fresh_task old.parameters old.variables.initial log old.empty
+    → IsTaskOf g call old → IsTaskOf g call new
+restarted g call old log new none rest back is =
+    subst (IsTaskOf g call) (sym back)
+    (begins g call (fresh_task old.parameters old.variables.initial log old.empty) is.fits (fresh_is_task g.procedure old.parameters old.variables.initial log old.empty none is.whole.empty)
+    (is.begins.0, is.begins.1) (ap (λ (e : Env). e.found) is.begins.0) none rest
+    (λ tables db. fresh_run g.procedure tables call db old.parameters old.variables.initial log old.empty none is.whole.empty is.begins.0 is.begins.1))
+
 -- a call that stands as before
-pub stays : (g : Graph) (call : Call) (old new : Task) → IsTask g.procedure new → StandsAsBefore g.procedure old new → new.variables.env.found ≡ old.variables.env.found → IsTaskOf g call old → IsTaskOf g call new
-stays g call old new whole before found is = record {
+pub stays : (g : Graph) (call : Call) (old new : Task) → IsTask g.procedure new → StandsAsBefore g.procedure old new → IsAtRest new.log → new.variables.env.found ≡ old.variables.env.found → IsTaskOf g call old → IsTaskOf g call new
+stays g call old new whole before rests found is = record {
   whole = whole;
+  rest = rests;
   begins = (before.beginning ∙ is.begins.0, before.parameters ∙ is.begins.1);
   fits = is.fits;
   found = found ∙ is.found;
@@ -71,16 +85,17 @@ stays g call old new whole before found is = record {
       subst (λ (rs : List Record). KeysStand g.tables (applied (writes_in rs) db)) (sym before.records) (is.keys db rest base (same_leaves g call db old new rest before.records h));
 }
 
-pub stays_on : (g : Graph) (db : Tables) (old new : Task) → IsSameCall g old new → new.records ≡ old.records → IsSameCallOn g db old new
+pub stays_on : (g : Graph) (db : Tables) (old new : Task) → IsSameCall g old new → new.log.records ≡ old.log.records → IsSameCallOn g db old new
 stays_on g db old new same records call on = record { is = same call on.is; rest = on.rest; leaves = same_leaves g call db new old on.rest (sym records) on.leaves }
 
 pub running_on : (g : Graph) (db : Tables) (old new : Task) → IsSameCallOn g db old new → IsRunningOn g db old → IsRunningOn g db new
 running_on g db old new same on = (on.0, same on.0 on.1)
 
 -- a call with one record more
-pub grows : (g : Graph) (call : Call) (old new : Task) (r : Record) → IsTask g.procedure new → HasAddedRecord g.procedure old r new → new.variables.env.found ≡ old.variables.env.found → IsTaskOf g call old → IsTaskOf g call new
-grows g call old new r whole added found is = record {
+pub grows : (g : Graph) (call : Call) (old new : Task) (r : Record) → IsTask g.procedure new → HasAddedRecord g.procedure old r new → IsAtRest new.log → new.variables.env.found ≡ old.variables.env.found → IsTaskOf g call old → IsTaskOf g call new
+grows g call old new r whole added rests found is = record {
   whole = whole;
+  rest = rests;
   begins = (added.beginning ∙ is.begins.0, added.parameters ∙ is.begins.1);
   fits = is.fits;
   found = found ∙ is.found;
@@ -106,10 +121,10 @@ ends_exactly g call db task rest is rise leaves =
     (λ e. sym left ∙ (exact g.tables db).0 e, λ none. (exact g.tables db).1 (left ∙ none))
 
 -- a call that has ended has all records of its full run
-pub finished : (g : Graph) (db : Tables) (task : Task) → AreRising db → IsRunningOn g db task → task.ended ≡ true → (call : Call) → IsTaskOf g call task → task.records ≡ (meaning_of g call db).records
+pub finished : (g : Graph) (db : Tables) (task : Task) → AreRising db → IsRunningOn g db task → task.ended ≡ true → (call : Call) → IsTaskOf g call task → task.log.records ≡ (meaning_of g call db).records
 finished g db task rise on ended call is =
     let none : on.1.rest ≡ [] = (ends_exactly g on.0 db task on.1.rest on.1.is rise on.1.leaves).0 ended in
-    sym (append-nil task.records) ∙ (ap (λ rs. task.records ++ rs) (sym none) ∙ (sym on.1.leaves ∙ one_run g on.0 call task db on.1.is is))
+    sym (append-nil task.log.records) ∙ (ap (λ rs. task.log.records ++ rs) (sym none) ∙ (sym on.1.leaves ∙ one_run g on.0 call task db on.1.is is))
 
 -- What is ahead
 
@@ -138,10 +153,6 @@ both (Err e) P Q R f p q = p
 pub on_err : {T E : Type 0} (r : Result T E) (P Q : Type 0) → (P → Q) → OnErr r P → OnErr r Q
 on_err (Ok x) P Q f h = h
 on_err (Err e) P Q f h = f h
-
-pub either : {T E : Type 0} (r : Result T E) (P Q R : Type 0) → OnOk r P → OnErr r Q → (P → R) → (Q → R) → R
-either (Ok x) P Q R p q f h = f p
-either (Err e) P Q R p q f h = h q
 
 -- What stays as before
 
@@ -187,17 +198,14 @@ goes_on g old new given has call db r rest is rise leaves content =
     let same : r ≡ has.next = same_in given r has.next content has.content sees.0 sees.1 sees.2 in
     more_leaves g call db old new (has.next ∷ []) rest has.records (subst (λ q. HasLeft g call db old (q ∷ rest)) same leaves)
 
-pub adopted : (g : Graph) (old new : Task) (ahead : Ahead) (given r : Record) → IsAhead g old (Some ahead) → r ≡ record given { spot = ahead.spot; parent = ahead.parent; reads = ahead.reads }
-    → HasAddedRecord g.procedure old r new → new.executed ≡ old.executed → HasAdopted g old given new
-adopted g old new ahead given r next is added executed =
-    let at : ahead ≡ record { spot = r.spot; parent = r.parent; reads = r.reads } = ap (λ (q : Record). (let a : Ahead = record { spot = q.spot; parent = q.parent; reads = q.reads } in a)) (sym is) in
-    record {
-      next = r;
-      records = added.records;
-      content = is ∙ ap (λ (q : Record). record given { spot = q.spot; parent = q.parent; reads = q.reads }) (sym is);
-      place = subst (λ a. IsAhead g old (Some a)) at next;
-      executed = executed;
-    }
+pub adopted : (g : Graph) (old new : Task) (given : Record) → HasAddedNext g.procedure old given new → new.executed ≡ old.executed → HasAdopted g old given new
+adopted g old new given it executed = record {
+  next = it.next;
+  records = it.added.records;
+  content = it.content;
+  place = foresees g old (Some (ahead_in it.next)) it.ahead;
+  executed = executed;
+}
 
 -- A record that is executed
 

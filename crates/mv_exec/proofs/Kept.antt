@@ -35,17 +35,17 @@ keys_told tables y r st (Err e) is keys tells = subst (λ ws. KeysStand tables (
 -- so does the record that is left next
 pub keys_after : (proc : ProcInfo) (tables : List TableInfo) (task : Task) (db : Tables) (r : Record) (tail : List Record) (outer : List Place) (p : Place) (s : RStmt)
     → HoldsPlace proc (places_of task) outer p s → HasColumns (out-RStmt s) → AreRising db → left_of proc tables task db ≡ r ∷ tail
-    → KeysStand tables (applied (writes_in task.records) db) → KeysStand tables (applied (writes_in (task.records ++ r ∷ [])) db)
+    → KeysStand tables (applied (writes_in task.log.records) db) → KeysStand tables (applied (writes_in (task.log.records ++ r ∷ [])) db)
 keys_after proc tables task db r tail outer p s at has rise leaves keys =
     let st : State = state_of task db in
     let site : Site = site_in p.holder (site_of outside outer) in
-    let own : Record = own_record tables task.parameters (out-RStmt s) p.number site task.records st in
+    let own : Record = own_record tables task.parameters (out-RStmt s) p.number site task.log.records st in
     let rest : List Record = on (itself tables (out-RStmt s) st) (left tables task.parameters
-    (inside tables (length task.records) (out-RStmt s) p.number site st ++ run site (p.number + size s) (drop (p.at + 1) (block_of proc (holder_of proc None outer) p))
-    ∷ (turns_of task.records (site_of outside outer) (block_of proc (holder_of proc None outer) p) p.first p.holder ++ jobs_left proc task.records outer)) (task.records ++ own ∷ [])) in
+    (inside tables (length task.log.records) (out-RStmt s) p.number site st ++ run site (p.number + size s) (drop (p.at + 1) (block_of proc (holder_of proc None outer) p))
+    ∷ (turns_of task.log.records (site_of outside outer) (block_of proc (holder_of proc None outer) p) p.first p.holder ++ jobs_left proc task.log.records outer)) (task.log.records ++ own ∷ [])) in
     let both : (own ≡ r) × (rest ≡ tail) = first_same own r rest tail (sym (left_next proc tables task db outer p s at) ∙ leaves) in
     let known : TellsEffect own st (itself tables (out-RStmt s) st) =
-    effect_known tables task.parameters (out-RStmt s) p.number site task.records st has (rising_applied (writes_in task.records) db rise) in
+    effect_known tables task.parameters (out-RStmt s) p.number site task.log.records st has (rising_applied (writes_in task.log.records) db rise) in
     let told : KeysStand tables (applied own.writes st.tables) = keys_told tables (out-RStmt s) own st (itself tables (out-RStmt s) st) refl keys known in
-    subst (KeysStand tables) (sym (ap (λ ws. applied ws db) (writes_more task.records r) ∙ applied_both (writes_in task.records) r.writes db))
+    subst (KeysStand tables) (sym (ap (λ ws. applied ws db) (writes_more task.log.records r) ∙ applied_both (writes_in task.log.records) r.writes db))
     (subst (λ (q : Record). KeysStand tables (applied q.writes st.tables)) both.0 told)

@@ -15,6 +15,7 @@ pub mod Stepping
 pub mod Wellness
 pub mod Found
 pub mod Adopting
+pub mod Logs
 pub mod Executing
 pub mod Numbering
 pub mod Ending

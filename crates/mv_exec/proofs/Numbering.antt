@@ -1,5 +1,5 @@
 -- The numbers of the statements that are left.
-use Rattle.std.proofs.Common.{◌≡◌, ℕ, ◌+◌, ◌^◌, ◌<◌, ◌≤◌, Bool, true, false, List, [], ◌∷◌, ◌++◌, Some, None, length, drop, slice_get, refl, sym, ap, subst, ◌∙◌, arith, append-nil}
+use Rattle.std.proofs.Common.{◌≡◌, ℕ, ◌+◌, ◌^◌, ◌<◌, ◌≤◌, Bool, true, false, List, [], ◌∷◌, ◌++◌, Some, None, drop, slice_get, refl, sym, ap, subst, ◌∙◌, arith, append-nil}
 use Rattle.std.proofs.lemmas.Option.{slice_get_within}
 use Rattle.mv_catalog.specs.Statements.{size, size_of}
 use Rattle.mv_catalog.specs.declared.resolved.ProcInfo.{ProcInfo}

@@ -1,5 +1,5 @@
 -- Where a call goes on there is a statement, which has a step.
-use Rattle.std.proofs.Common.{◌≡◌, ℕ, ◌+◌, ◌-◌, ◌<◌, ◌≤◌, ◌^◌, Bool, true, false, not, nat_lt, List, [], ◌∷◌, ◌++◌, Some, None, length, drop, slice_get, refl, sym, ap, subst, ◌∙◌, arith}
+use Rattle.std.proofs.Common.{◌≡◌, ◌+◌, ◌-◌, ◌<◌, ◌≤◌, ◌^◌, Bool, true, false, not, nat_lt, List, [], ◌∷◌, ◌++◌, Some, None, length, drop, slice_get, refl, sym, ap, subst, ◌∙◌, arith}
 use Rattle.std.proofs.lemmas.Bool.{lt-ltb, not-false, not-true}
 use Rattle.mv_catalog.specs.Statements.{size_of}
 use Rattle.mv_catalog.specs.declared.resolved.ProcInfo.{ProcInfo}
@@ -26,7 +26,7 @@ some_place proc task ps t is none = let l : length task.places ≡ 0 = ap length
 
 -- a turn that is due is there
 pub turn_there : (proc : ProcInfo) (task : Task) (rs : List Record) (ps outer : List Place) (last : Place) (block : List RStmt) (b : Bool) → IsTask proc task → task.ended ≡ false → ps ≡ task.places
-    → rs ≡ task.records → ps ≡ outer ++ last ∷ [] → block ≡ block_of proc (holder_of proc None outer) last → b ≡ nat_lt last.at (length block) → not b ≡ true → has_turn rs last.holder ≡ true
+    → rs ≡ task.log.records → ps ≡ outer ++ last ∷ [] → block ≡ block_of proc (holder_of proc None outer) last → b ≡ nat_lt last.at (length block) → not b ≡ true → has_turn rs last.holder ≡ true
 turn_there proc task rs ps outer last block b t live same records are is at due =
     turn_owed proc task rs ps outer last t live same records are
     (ap (λ (bl : List RStmt). nat_lt last.at (length bl)) (sym is) ∙ (sym at ∙ not-true b due))

@@ -1,5 +1,5 @@
 -- A call behind one record more.
-use Rattle.std.proofs.Common.{◌≡◌, ◌≢◌, ℕ, ◌+◌, ◌<◌, ◌≤◌, Bool, true, false, List, [], ◌∷◌, ◌++◌, Option, Some, None, All, length, take, slice_get, slice_set, if◌then◌else◌, ◌==◌, refl, sym, ap, subst, ◌∙◌, arith, append-nil}
+use Rattle.std.proofs.Common.{◌≡◌, ◌≢◌, ℕ, ◌+◌, ◌<◌, ◌≤◌, Bool, true, false, List, [], ◌∷◌, ◌++◌, Option, Some, None, All, length, take, slice_set, if◌then◌else◌, ◌==◌, refl, sym, ap, subst, ◌∙◌, arith, append-nil}
 use Rattle.std.specs.List.{list_any}
 use Rattle.std.specs.Option.{is_some}
 use Rattle.std.proofs.lemmas.List.{length_push}
@@ -9,12 +9,11 @@ use Rattle.mv_values.specs.declared.schema.TableInfo.{TableInfo}
 use Rattle.mv_catalog.specs.declared.resolved.ProcInfo.{ProcInfo}
 use Rattle.mv_catalog.specs.declared.resolved.RStmt.{RStmt, out-RStmt}
 use Rattle.mv_catalog.specs.declared.resolved.RStmt.TheOpen.{RStmt-F, Assign, Select, Total, ForSelect, ForRows, Branch, Insert, Update, Delete, Print, Rollback}
-use Rattle.mv_alone.specs.declared.state.Env.{Env}
 use Rattle.mv_record.specs.declared.record.Record.{Record}
 use Rattle.mv_record.specs.declared.record.Slot.{Slot}
-use Rattle.mv_recorded.specs.Effect.{with_slots, HasColumns}
+use Rattle.mv_log.specs.Logged.{Logged}
+use Rattle.mv_recorded.specs.Effect.{HasColumns}
 use Rattle.mv_recorded.specs.Reading.{last_place, sets_variable}
-use Rattle.mv_values.specs.declared.patch.Write.{Write}
 use Rattle.mv_values.specs.Patching.{applied}
 use Rattle.mv_values.specs.Tables.{KeysStand, Tables}
 use Rattle.mv_record.specs.Runs.{writes_in}
@@ -24,13 +23,16 @@ use Rattle.mv_exec.specs.declared.places.Holder.{Holder}
 use Rattle.mv_exec.specs.declared.places.Holder.TheVariants as by
 use Rattle.mv_effect.specs.Choosing.{Chooses}
 use Rattle.mv_exec.specs.declared.places.Place.{Place}
+use Rattle.mv_exec.specs.declared.recording.Origin.{Origin}
+use Rattle.mv_exec.specs.declared.recording.Origin.TheVariants.{Executed}
 use Rattle.mv_exec.specs.declared.task.Task.{Task}
 use Rattle.mv_exec.specs.Left.{left}
 use Rattle.mv_exec.specs.Keeping.{undo_of_all, undo_of, with_room, define, slot_room}
-use Rattle.mv_exec.specs.Moves.{branch_place, loop_place, inner_places, place_after, after_empty_loop}
+use Rattle.mv_exec.specs.Moves.{branch_place, loop_place, inner_places, place_after}
 use Rattle.mv_exec.specs.Places.{body_in, branch_in, block_in, holder_of, AreFilled, IsNumbered, AreNumbered, HoldsPlace}
 use Rattle.mv_exec.specs.Tasks.{none_in, places_of, beginning, state_of, left_of, definer_in, IsTask, IsHeldBefore, AreHeldBefore, IsTrimmed}
-use Rattle.mv_exec.specs.Steps.{with_writes, with_record, HasFronts, IsWidened, HasAddedRecord}
+use Rattle.mv_exec.specs.Recording.{closed}
+use Rattle.mv_exec.specs.Steps.{with_log, changed_by, with_record, HasFronts, IsWidened, HasAddedRecord}
 use Rattle.mv_exec.proofs.Ending.{ends_exactly}
 use Rattle.mv_exec.proofs.Found.{record_found}
 use Rattle.mv_exec.proofs.Kept.{keys_after}
@@ -39,7 +41,7 @@ use Rattle.mv_exec.proofs.Turning.{filled_last, filled_outer, filled_more, held_
 use Rattle.mv_exec.proofs.Trimming.{every_front, filled_front, held_front}
 use Rattle.mv_exec.proofs.Numbering.{numbered_on}
 use Rattle.mv_exec.proofs.Defining.{define_at, room_same, room_long, last_more, undo_more, undo_below, before_undo}
-use Rattle.mv_exec.proofs.Adding.{get_last, held_statement, goes_on, ends_all}
+use Rattle.mv_exec.proofs.Adding.{held_statement, goes_on, ends_all}
 
 -- Lists
 
@@ -136,12 +138,16 @@ going_some number (q ∷ outer) p s b = omega arith
 pub record IsTaskKept (proc : ProcInfo) (task : Task) : Type 0 where
   pub filled : AreFilled proc None task.places
   pub numbers : AreNumbered proc None task.places
-  pub holders : AreHeldBefore (length task.records) task.places
+  pub holders : AreHeldBefore (length task.log.records) task.places
   pub some : 0 < length task.places
   pub empty : task.empty ≡ none_in proc.body
-  pub undo : task.undo ≡ undo_of_all 0 task.records
-  pub definers : (x : ℕ) → definer_in task.definers x ≡ last_place (sets_variable x) 0 task.records
-  pub counted : task.executed ≤ length task.records
+  pub undo : task.undo ≡ undo_of_all 0 task.log.records
+  pub definers : (x : ℕ) → definer_in task.definers x ≡ last_place (sets_variable x) 0 task.log.records
+  pub counted : task.executed ≤ length task.log.records
+
+-- the call behind a record, before places are dropped
+abbrev pub behind_record : Task → Origin → Record → List Place → Place → RStmt → Bool → Task
+behind_record task origin r outer p s b = with_record task origin s r (going (length task.log.records) outer p s b)
 
 undo_then : (rs : List Record) (r : Record) → undo_of_all 0 (rs ++ r ∷ []) ≡ undo_of_all 0 rs ++ undo_of (length rs) r.writes
 undo_then rs r = undo_more 0 rs r ∙ ap (λ n. undo_of_all 0 rs ++ undo_of n r.writes) (let e : 0 + length rs ≡ length rs = omega arith in e)
@@ -158,17 +164,17 @@ definers_then ds rs r h x =
     ∙ (ap (λ n. if list_any (λ (s : Slot). s.slot == x) r.sets then Some n else last_place (sets_variable x) 0 rs) (let e : length rs ≡ 0 + length rs = omega arith in e)
     ∙ sym (last_more (sets_variable x) 0 rs r)))
 
-pub going_kept : (proc : ProcInfo) (task : Task) (r : Record) (env : Env) (outer : List Place) (p : Place) (s : RStmt) (b : Bool) → IsTask proc task → HoldsPlace proc (places_of task) outer p s
-    → IsTaskKept proc (with_record task r env (going (length task.records) outer p s b))
-going_kept proc task r env outer p s b t at = record {
-  filled = going_filled proc (length task.records) (places_of task) outer p s b at t.filled;
-  numbers = numbered_on proc (places_of task) outer p s (length task.records) b t.numbers at;
-  holders = subst (λ n. AreHeldBefore n (going (length task.records) outer p s b)) (sym (length_push task.records r)) (going_held proc (length task.records) (places_of task) outer p s b at t.holders);
-  some = going_some (length task.records) outer p s b;
+pub going_kept : (proc : ProcInfo) (task : Task) (origin : Origin) (r : Record) (outer : List Place) (p : Place) (s : RStmt) (b : Bool) → IsTask proc task → HoldsPlace proc (places_of task) outer p s
+    → IsTaskKept proc (behind_record task origin r outer p s b)
+going_kept proc task origin r outer p s b t at = record {
+  filled = going_filled proc (length task.log.records) (places_of task) outer p s b at t.filled;
+  numbers = numbered_on proc (places_of task) outer p s (length task.log.records) b t.numbers at;
+  holders = subst (λ n. AreHeldBefore n (going (length task.log.records) outer p s b)) (sym (length_push task.log.records r)) (going_held proc (length task.log.records) (places_of task) outer p s b at t.holders);
+  some = going_some (length task.log.records) outer p s b;
   empty = t.empty;
-  undo = ap (λ os. os ++ undo_of (length task.records) r.writes) t.undo ∙ sym (undo_then task.records r);
-  definers = definers_then task.definers task.records r t.definers;
-  counted = omega (arith, t.counted, length_push task.records r);
+  undo = ap (λ os. os ++ undo_of (length task.log.records) r.writes) t.undo ∙ sym (undo_then task.log.records r);
+  definers = definers_then task.definers task.log.records r t.definers;
+  counted = omega (arith, t.counted, length_push task.log.records r);
 }
 
 trimmed_task : (proc : ProcInfo) (mid new : Task) → IsTaskKept proc mid → IsTrimmed proc mid new → IsTask proc new
@@ -176,7 +182,7 @@ trimmed_task proc mid new k t = subst (IsTask proc) (sym t.rest) (record {
   filled = subst (AreFilled proc None) (sym t.front) (filled_front proc None t.stay mid.places k.filled);
   numbers = subst (AreNumbered proc None) (sym t.front) (every_front (IsNumbered proc) proc None t.stay mid.places k.numbers);
   ends = t.ends;
-  holders = subst (AreHeldBefore (length mid.records)) (sym t.front) (held_front (length mid.records) t.stay mid.places k.holders);
+  holders = subst (AreHeldBefore (length mid.log.records)) (sym t.front) (held_front (length mid.log.records) t.stay mid.places k.holders);
   some = t.some k.some;
   empty = k.empty;
   undo = k.undo;
@@ -199,32 +205,28 @@ ended_task proc mid k = record {
 
 -- What is left
 
--- the call behind a record, before places are dropped
-abbrev pub behind_record : Task → Record → List Place → Place → RStmt → Bool → Task
-behind_record task r outer p s b = with_record task r (after_empty_loop (out-RStmt s) r.rows (with_slots r.sets task.variables.env)) (going (length task.records) outer p s b)
-
-trimmed_added : (proc : ProcInfo) (task : Task) (r : Record) (outer : List Place) (p : Place) (s : RStmt) (b : Bool) (new : Task)
+trimmed_added : (proc : ProcInfo) (task : Task) (origin : Origin) (r : Record) (outer : List Place) (p : Place) (s : RStmt) (b : Bool) (new : Task)
     → IsTask proc task → HoldsPlace proc (places_of task) outer p s → Chooses task.variables.env b (out-RStmt s) → HasColumns (out-RStmt s) → r.end ≡ None
-    → IsTrimmed proc (behind_record task r outer p s b) new → HasAddedRecord proc task r new
-trimmed_added proc task r outer p s b new t at chosen has ends trim =
-    let mid : Task = behind_record task r outer p s b in
+    → IsTrimmed proc (behind_record task origin r outer p s b) new → HasAddedRecord proc task r new
+trimmed_added proc task origin r outer p s b new t at chosen has ends trim =
+    let mid : Task = behind_record task origin r outer p s b in
     record {
       parameters = ap (λ (u : Task). u.parameters) trim.rest;
-      records = ap (λ (u : Task). u.records) trim.rest;
+      records = ap (λ (u : Task). u.log.records) trim.rest;
       beginning = ap beginning trim.rest;
       left = λ tables db tail rise leaves.
           ap (λ u. left_of proc tables u db) trim.rest
-          ∙ (ap (λ js. left tables task.parameters js mid.records (state_of mid db)) trim.left
+          ∙ (ap (λ js. left tables task.parameters js mid.log.records (state_of mid db)) trim.left
           ∙ goes_on proc tables task db r tail outer p s b t at chosen has rise leaves ends);
       keys = λ tables db tail rise leaves keys.
-          subst (λ (rs : List Record). KeysStand tables (applied (writes_in rs) db)) (sym (ap (λ (u : Task). u.records) trim.rest))
+          subst (λ (rs : List Record). KeysStand tables (applied (writes_in rs) db)) (sym (ap (λ (u : Task). u.log.records) trim.rest))
           (keys_after proc tables task db r tail outer p s at has rise leaves keys);
     }
 
-ended_added : (proc : ProcInfo) (task : Task) (r : Record) (outer : List Place) (p : Place) (s : RStmt) (b : Bool) (e : End)
+ended_added : (proc : ProcInfo) (task : Task) (origin : Origin) (r : Record) (outer : List Place) (p : Place) (s : RStmt) (b : Bool) (e : End)
     → HoldsPlace proc (places_of task) outer p s → HasColumns (out-RStmt s) → r.end ≡ Some e
-    → HasAddedRecord proc task r (let mid : Task = behind_record task r outer p s b in record mid { ended = true })
-ended_added proc task r outer p s b e at has ends = record {
+    → HasAddedRecord proc task r (let mid : Task = behind_record task origin r outer p s b in record mid { ended = true })
+ended_added proc task origin r outer p s b e at has ends = record {
   parameters = refl;
   records = refl;
   beginning = refl;
@@ -241,33 +243,33 @@ some_left proc task t live tables db none = let ended : task.ended ≡ true = (e
 -- The whole step
 
 -- that a record was added to this call at this statement, up to its end or the dropping of places
-pub record IsPast (proc : ProcInfo) (task : Task) (r : Record) (outer : List Place) (p : Place) (s : RStmt) (b : Bool) (mid new : Task) (ends : Bool) : Type 0 where
+pub record IsPast (proc : ProcInfo) (task : Task) (origin : Origin) (r : Record) (outer : List Place) (p : Place) (s : RStmt) (b : Bool) (mid new : Task) (ends : Bool) : Type 0 where
   pub stands : HoldsPlace proc (places_of task) outer p s
-  pub is : mid ≡ behind_record task r outer p s b
+  pub is : mid ≡ behind_record task origin r outer p s b
   pub ended : ends ≡ true → new ≡ record mid { ended = true }
   pub trimmed : ends ≡ false → IsTrimmed proc mid new
 
-pub past_task : (proc : ProcInfo) (task : Task) (r : Record) (outer : List Place) (p : Place) (s : RStmt) (b : Bool) (mid new : Task) (ends : Bool) → IsTask proc task
-    → IsPast proc task r outer p s b mid new ends → IsTask proc new
-past_task proc task r outer p s b mid new ends t past = by ends refl
+pub past_task : (proc : ProcInfo) (task : Task) (origin : Origin) (r : Record) (outer : List Place) (p : Place) (s : RStmt) (b : Bool) (mid new : Task) (ends : Bool) → IsTask proc task
+    → IsPast proc task origin r outer p s b mid new ends → IsTask proc new
+past_task proc task origin r outer p s b mid new ends t past = by ends refl
   where
     kept : IsTaskKept proc mid
-    kept = subst (IsTaskKept proc) (sym past.is) (going_kept proc task r (after_empty_loop (out-RStmt s) r.rows (with_slots r.sets task.variables.env)) outer p s b t past.stands)
+    kept = subst (IsTaskKept proc) (sym past.is) (going_kept proc task origin r outer p s b t past.stands)
 
     by : (e : Bool) → ends ≡ e → IsTask proc new
     by true e = subst (IsTask proc) (sym (past.ended e)) (ended_task proc mid kept)
     by false e = trimmed_task proc mid new kept (past.trimmed e)
 
-pub past_added : (proc : ProcInfo) (task : Task) (r : Record) (outer : List Place) (p : Place) (s : RStmt) (b : Bool) (mid new : Task) (end : Option End) (ends : Bool) → IsTask proc task
-    → Chooses task.variables.env b (out-RStmt s) → HasColumns (out-RStmt s) → r.end ≡ end → ends ≡ is_some end → IsPast proc task r outer p s b mid new ends → HasAddedRecord proc task r new
-past_added proc task r outer p s b mid new None ends t chosen has end are past =
-    trimmed_added proc task r outer p s b new t past.stands chosen has end (subst (λ m. IsTrimmed proc m new) past.is (past.trimmed are))
-past_added proc task r outer p s b mid new (Some e) ends t chosen has end are past =
-    subst (HasAddedRecord proc task r) (sym (past.ended are ∙ ap (λ (m : Task). record m { ended = true }) past.is)) (ended_added proc task r outer p s b e past.stands has end)
+pub past_added : (proc : ProcInfo) (task : Task) (origin : Origin) (r : Record) (outer : List Place) (p : Place) (s : RStmt) (b : Bool) (mid new : Task) (end : Option End) (ends : Bool) → IsTask proc task
+    → Chooses task.variables.env b (out-RStmt s) → HasColumns (out-RStmt s) → r.end ≡ end → ends ≡ is_some end → IsPast proc task origin r outer p s b mid new ends → HasAddedRecord proc task r new
+past_added proc task origin r outer p s b mid new None ends t chosen has end are past =
+    trimmed_added proc task origin r outer p s b new t past.stands chosen has end (subst (λ m. IsTrimmed proc m new) past.is (past.trimmed are))
+past_added proc task origin r outer p s b mid new (Some e) ends t chosen has end are past =
+    subst (HasAddedRecord proc task r) (sym (past.ended are ∙ ap (λ (m : Task). record m { ended = true }) past.is)) (ended_added proc task origin r outer p s b e past.stands has end)
 
-pub past_found : (proc : ProcInfo) (task : Task) (r : Record) (outer : List Place) (p : Place) (s : RStmt) (b : Bool) (mid new : Task) (ends : Bool)
-    → IsPast proc task r outer p s b mid new ends → new.variables.env.found ≡ task.variables.env.found
-past_found proc task r outer p s b mid new ends past = by ends refl
+pub past_found : (proc : ProcInfo) (task : Task) (origin : Origin) (r : Record) (outer : List Place) (p : Place) (s : RStmt) (b : Bool) (mid new : Task) (ends : Bool)
+    → IsPast proc task origin r outer p s b mid new ends → new.variables.env.found ≡ task.variables.env.found
+past_found proc task origin r outer p s b mid new ends past = by ends refl
   where
     behind : mid.variables.env.found ≡ task.variables.env.found
     behind = ap (λ (u : Task). u.variables.env.found) past.is ∙ record_found (out-RStmt s) r.rows r.sets task.variables.env
@@ -277,9 +279,9 @@ past_found proc task r outer p s b mid new ends past = by ends refl
     by false e = ap (λ (u : Task). u.variables.env.found) (past.trimmed e).rest ∙ behind
 
 -- nothing was executed
-pub past_executed : (proc : ProcInfo) (task : Task) (r : Record) (outer : List Place) (p : Place) (s : RStmt) (b : Bool) (mid new : Task) (ends : Bool)
-    → IsPast proc task r outer p s b mid new ends → new.executed ≡ task.executed
-past_executed proc task r outer p s b mid new ends past = by ends refl
+pub past_executed : (proc : ProcInfo) (task : Task) (origin : Origin) (r : Record) (outer : List Place) (p : Place) (s : RStmt) (b : Bool) (mid new : Task) (ends : Bool)
+    → IsPast proc task origin r outer p s b mid new ends → new.executed ≡ task.executed
+past_executed proc task origin r outer p s b mid new ends past = by ends refl
   where
     before : mid.executed ≡ task.executed
     before = ap (λ (u : Task). u.executed) past.is
@@ -288,42 +290,44 @@ past_executed proc task r outer p s b mid new ends past = by ends refl
     by true e = ap (λ (u : Task). u.executed) (past.ended e) ∙ before
     by false e = ap (λ (u : Task). u.executed) (past.trimmed e).rest ∙ before
 
--- the parts of the call, one after another, make the call behind the record
-pub parts_behind : (proc : ProcInfo) (task : Task) (r : Record) (outer : List Place) (p : Place) (s : RStmt) (b : Bool) (held : Task) (env : Env) (inner : List Place) (behind : Place) (n at : ℕ)
-    (definers : List (Option ℕ)) (places : List Place)
-    → held ≡ with_writes task r env (task.places ++ inner) → env ≡ after_empty_loop (out-RStmt s) r.rows (with_slots r.sets task.variables.env) → task.places ≡ outer ++ p ∷ []
-    → inner ≡ inner_places (length task.records) p.number b (out-RStmt s) → behind ≡ place_after (size s) p → n ≡ length task.records → at ≡ length outer
+-- the log has the record
+pub past_log : (proc : ProcInfo) (task : Task) (origin : Origin) (r : Record) (outer : List Place) (p : Place) (s : RStmt) (b : Bool) (mid new : Task) (ends : Bool)
+    → IsPast proc task origin r outer p s b mid new ends → new.log ≡ closed task.log origin r
+past_log proc task origin r outer p s b mid new ends past = by ends refl
+  where
+    before : mid.log ≡ closed task.log origin r
+    before = ap (λ (u : Task). u.log) past.is
+
+    by : (e : Bool) → ends ≡ e → new.log ≡ closed task.log origin r
+    by true e = ap (λ (u : Task). u.log) (past.ended e) ∙ before
+    by false e = ap (λ (u : Task). u.log) (past.trimmed e).rest ∙ before
+
+-- the call with the changes of a record, and then with another place, is the call behind the record
+pub parts_behind : (task : Task) (origin : Origin) (r : Record) (outer : List Place) (p : Place) (s : RStmt) (b : Bool) (held : Task) (inner : List Place) (behind : Place) (at : ℕ) (places : List Place)
+    → held ≡ changed_by (with_log task (closed task.log origin r)) (length task.log.records) s r inner → task.places ≡ outer ++ p ∷ []
+    → inner ≡ inner_places (length task.log.records) p.number b (out-RStmt s) → behind ≡ place_after (size s) p → at ≡ length outer
     → ((o i : List Place) (q : Place) → held.places ≡ (o ++ q ∷ []) ++ i → at ≡ length o → places ≡ (o ++ behind ∷ []) ++ i)
-    → ((q : Record) → slice_get held.records n ≡ Some q → definers ≡ define held.definers q.sets n)
-    → record held { definers = definers; places = places } ≡ behind_record task r outer p s b
-parts_behind proc task r outer p s b held env inner behind n at definers places h ran are inside moved num top put note =
+    → record held { places = places } ≡ behind_record task origin r outer p s b
+parts_behind task origin r outer p s b held inner behind at places h are inside moved top put =
     let was : held.places ≡ (outer ++ p ∷ []) ++ inner = ap (λ (u : Task). u.places) h ∙ ap (λ ps. ps ++ inner) are in
-    let put_is : places ≡ going (length task.records) outer p s b =
+    let put_is : places ≡ going (length task.log.records) outer p s b =
     put outer inner p was top ∙ (ap (λ q. (outer ++ q ∷ []) ++ inner) moved ∙ ap (λ is. (outer ++ place_after (size s) p ∷ []) ++ is) inside) in
-    let last : slice_get held.records n ≡ Some r = ap (λ (u : Task). slice_get u.records n) h ∙ (ap (slice_get (task.records ++ r ∷ [])) num ∙ get_last task.records r) in
-    let noted : definers ≡ define (with_room (slot_room r.sets) task.definers) r.sets (length task.records) =
-    note r last ∙ (ap (λ (u : Task). define u.definers r.sets n) h ∙ ap (define (with_room (slot_room r.sets) task.definers) r.sets) num) in
-    ap (λ (u : Task). record u { definers = definers; places = places }) h
-    ∙ (ap (λ e. let u : Task = with_writes task r e places in record u { definers = definers }) ran
-    ∙ (ap (λ ds. let u : Task = with_writes task r (after_empty_loop (out-RStmt s) r.rows (with_slots r.sets task.variables.env)) places in record u { definers = ds }) noted
-    ∙ ap (with_record task r (after_empty_loop (out-RStmt s) r.rows (with_slots r.sets task.variables.env))) put_is))
+    ap (λ (u : Task). record u { places = places }) h ∙ ap (with_record task origin s r) put_is
 
 -- The call where memory ran out
 
 -- what was added is taken back
-pub undone : (old : Task) (definers : List (Option ℕ)) (undo after : List Owned) (new : Task) (records : List Record) (places : List Place) (number : ℕ) (ws : List Write)
-    → HasFronts (record old { definers = definers; undo = undo }) new → ((x : ℕ) → definer_in definers x ≡ definer_in old.definers x)
-    → records ≡ take (length old.records) new.records → places ≡ take (length old.places) new.places
-    → All (λ o. o.number < number) old.undo → undo ≡ old.undo ++ undo_of number ws → after ≡ before number new.undo
-    → IsWidened old (record new { records = records; places = places; undo = after })
-undone old definers undo after new records places number ws f same rs ps all more less =
-    let dropped : after ≡ old.undo = less ∙ (ap (λ (u : Task). before number u.undo) f.rest ∙ (ap (before number) more ∙ before_undo number old.undo ws all)) in
-    record {
-      rest =
-          ap (λ (u : Task). record u { records = records; places = places; undo = after }) f.rest
-          ∙ (ap (λ v. record old { definers = definers; records = v; places = places; undo = after }) (rs ∙ f.records)
-          ∙ (ap (λ v. record old { definers = definers; places = v; undo = after }) (ps ∙ f.places)
-          ∙ (ap (λ v. record old { definers = definers; undo = v }) dropped
-          ∙ ap (λ v. record old { definers = v }) (sym (ap (λ (u : Task). u.definers) f.rest)))));
-      same = λ x. ap (λ v. definer_in v x) (ap (λ (u : Task). u.definers) f.rest) ∙ same x;
-    }
+pub undone : (origin : Origin) (old : Task) (first log : Logged) (number : ℕ) (fallen : Task) (places : List Place) (undo : List Owned)
+    → HasFronts number (with_log old first) fallen → All (λ o. o.number < number) old.undo → log.records ≡ old.log.records → log.past ≡ old.log.past → (origin ≡ Executed → log.kept ≡ old.log.kept)
+    → places ≡ take (length old.places) fallen.places → undo ≡ before number fallen.undo
+    → IsWidened origin old (record fallen { log = log; places = places; undo = undo })
+undone origin old first log number fallen places undo f all records past kept ps less = record {
+  rest =
+      ap (λ (u : Task). record u { log = log; places = places; undo = undo }) f.rest
+      ∙ (ap (λ v. record old { log = log; definers = fallen.definers; places = v; undo = undo }) (ps ∙ f.places)
+      ∙ ap (λ v. record old { log = log; definers = fallen.definers; undo = v }) (less ∙ (ap (before number) f.undo.1 ∙ before_undo number old.undo f.undo.0 all)));
+  records = records;
+  past = past;
+  kept = kept;
+  same = f.definers;
+}

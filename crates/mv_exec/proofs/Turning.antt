@@ -16,7 +16,7 @@ use Rattle.mv_exec.specs.declared.places.Place.{Place}
 use Rattle.mv_exec.specs.declared.task.Task.{Task}
 use Rattle.mv_exec.specs.Left.{Job, run, turns, left}
 use Rattle.mv_exec.specs.Places.{block_in, block_of, statement_before, holder_of, site_in, site_of, some_run, some_turns, turns_of, loop_rows, jobs_left, has_turn, is_left, EndsLeft, Every, IsFilled, AreFilled, IsNumbered, AreNumbered, in_next_turn, next_turn, with_turn, with_next_row}
-use Rattle.mv_exec.specs.Tasks.{standing, places_of, beginning, state_of, IsTask, StandsAsBefore, IsHeldBefore, AreHeldBefore}
+use Rattle.mv_exec.specs.Tasks.{standing, places_of, state_of, IsTask, StandsAsBefore, IsHeldBefore, AreHeldBefore}
 use Rattle.mv_exec.proofs.Leaving.{turn_begins}
 use Rattle.mv_exec.proofs.Placing.{same_last, none_past, jobs_more}
 use Rattle.mv_exec.proofs.Going.{same_behind, same_turns}
@@ -144,7 +144,7 @@ turn_due proc rs ps outer p due ends =
 abbrev pub after_turn : Task → List Place → Place → Task
 after_turn old outer p =
     let was = old.variables in
-    record old { variables = record was { env = with_next_row old.records p.holder was.env }; places = outer ++ next_turn p ∷ []; ended = false }
+    record old { variables = record was { env = with_next_row old.log.records p.holder was.env }; places = outer ++ next_turn p ∷ []; ended = false }
 
 next_filled : (proc : ProcInfo) (old : Task) (outer : List Place) (p : Place) → IsTask proc old → IsDue proc (places_of old) outer p → 0 < length (block_of proc (holder_of proc None outer) (next_turn p))
 next_filled proc old outer p t due =
@@ -164,11 +164,11 @@ turned_task proc old outer p t due =
       numbers = next_numbered proc outer p (subst (AreNumbered proc None) due.are t.numbers);
       ends = λ o q e.
           let h : (outer ≡ o) × (next_turn p ≡ q) = same_last outer o (next_turn p) q e in
-          subst (λ r. is_left old.records (block_of proc (holder_of proc None o) r) r ≡ true) h.1
-          (subst (λ os. is_left old.records (block_of proc (holder_of proc None os) (next_turn p)) (next_turn p) ≡ true) h.0
-          (one_left (nat_lt 0 (length (block_of proc (holder_of proc None outer) (next_turn p)))) (has_turn old.records (in_next_turn p.holder)) (lt-ltb 0 _ filled)));
-      holders = held_more (length old.records) outer (next_turn p) (held_outer (length old.records) outer p (subst (AreHeldBefore (length old.records)) due.are t.holders))
-          (same_holder (length old.records) p.holder (held_last (length old.records) outer p (subst (AreHeldBefore (length old.records)) due.are t.holders)));
+          subst (λ r. is_left old.log.records (block_of proc (holder_of proc None o) r) r ≡ true) h.1
+          (subst (λ os. is_left old.log.records (block_of proc (holder_of proc None os) (next_turn p)) (next_turn p) ≡ true) h.0
+          (one_left (nat_lt 0 (length (block_of proc (holder_of proc None outer) (next_turn p)))) (has_turn old.log.records (in_next_turn p.holder)) (lt-ltb 0 _ filled)));
+      holders = held_more (length old.log.records) outer (next_turn p) (held_outer (length old.log.records) outer p (subst (AreHeldBefore (length old.log.records)) due.are t.holders))
+          (same_holder (length old.log.records) p.holder (held_last (length old.log.records) outer p (subst (AreHeldBefore (length old.log.records)) due.are t.holders)));
       some = omega (arith, length-append outer (next_turn p ∷ []));
       empty = t.empty;
       undo = t.undo;
@@ -192,25 +192,25 @@ turned_before proc old outer p t due = record {
       let s : Option RStmt = holder_of proc None outer in
       let site : Site = site_of outside outer in
       let block : List RStmt = block_of proc s p in
-      let js : List Job = jobs_left proc old.records outer in
+      let js : List Job = jobs_left proc old.log.records outer in
       let st : State = state_of old db in
-      let next : State = record st { env = with_next_row old.records p.holder st.env } in
+      let next : State = record st { env = with_next_row old.log.records p.holder st.env } in
       sym
-      (ap (λ ps. left tables old.parameters (jobs_left proc old.records ps) old.records st) due.are
-      ∙ (ap (λ is. left tables old.parameters is old.records st) (jobs_more proc old.records None outside outer p)
-      ∙ (turn_by tables old.parameters old.records block site p.holder p.first p.at p.number js (filled_last proc None outer p (subst (AreFilled proc None) due.are t.filled))
-      (none_past block p.at due.none) (turn_due proc old.records (places_of old) outer p due t.ends) old.records st
-      ∙ (ap (λ (bl : List RStmt). left tables old.parameters ((some_run (site_in (in_next_turn p.holder) site) p.first bl ++ turns_of old.records site bl p.first (in_next_turn p.holder)) ++ js) old.records next)
+      (ap (λ ps. left tables old.parameters (jobs_left proc old.log.records ps) old.log.records st) due.are
+      ∙ (ap (λ is. left tables old.parameters is old.log.records st) (jobs_more proc old.log.records None outside outer p)
+      ∙ (turn_by tables old.parameters old.log.records block site p.holder p.first p.at p.number js (filled_last proc None outer p (subst (AreFilled proc None) due.are t.filled))
+      (none_past block p.at due.none) (turn_due proc old.log.records (places_of old) outer p due t.ends) old.log.records st
+      ∙ (ap (λ (bl : List RStmt). left tables old.parameters ((some_run (site_in (in_next_turn p.holder) site) p.first bl ++ turns_of old.log.records site bl p.first (in_next_turn p.holder)) ++ js) old.log.records next)
       (sym (same_block proc s p.holder))
-      ∙ ap (λ is. left tables old.parameters is old.records next) (sym (jobs_more proc old.records None outside outer (next_turn p)))))));
+      ∙ ap (λ is. left tables old.parameters is old.log.records next) (sym (jobs_more proc old.log.records None outside outer (next_turn p)))))));
 }
 
 pub standing_live : (b : Bool) (ps : List Place) → b ≡ false → standing b ps ≡ ps
 standing_live b ps e = ap (λ c. standing c ps) e
 
 -- where no statement is left at the innermost place a turn is
-pub turn_owed : (proc : ProcInfo) (task : Task) (rs : List Record) (ps outer : List Place) (p : Place) → IsTask proc task → task.ended ≡ false → ps ≡ task.places → rs ≡ task.records
+pub turn_owed : (proc : ProcInfo) (task : Task) (rs : List Record) (ps outer : List Place) (p : Place) → IsTask proc task → task.ended ≡ false → ps ≡ task.places → rs ≡ task.log.records
     → ps ≡ outer ++ p ∷ [] → nat_lt p.at (length (block_of proc (holder_of proc None outer) p)) ≡ false → has_turn rs p.holder ≡ true
 turn_owed proc task rs ps outer p t live same records are none =
     subst (λ qs. has_turn qs p.holder ≡ true) (sym records)
-    (turn_due proc task.records (places_of task) outer p (record { are = standing_live task.ended task.places live ∙ (sym same ∙ are); none = none }) t.ends)
+    (turn_due proc task.log.records (places_of task) outer p (record { are = standing_live task.ended task.places live ∙ (sym same ∙ are); none = none }) t.ends)

@@ -55,15 +55,15 @@ first_earlier n (suc k) (r ∷ rs) =
     ∙ ap (λ ws. r.writes ++ ws) (ap (λ m. earlier m (undo_of_all (n + 1) rs)) (let e : n + suc k ≡ n + 1 + k = omega arith in e) ∙ first_earlier (n + 1) k rs))
 
 -- before each of its records, the own writes of a call are those of the records before it
-pub has_writes : (proc : ProcInfo) (task : Task) → IsTask proc task → HasWritesOf task.undo task.records
+pub has_writes : (proc : ProcInfo) (task : Task) → IsTask proc task → HasWritesOf task.undo task.log.records
 has_writes proc task t number le =
-    ap (earlier number) t.undo ∙ (ap (λ n. earlier n (undo_of_all 0 task.records)) (let e : number ≡ 0 + number = omega arith in e) ∙ first_earlier 0 number task.records)
+    ap (earlier number) t.undo ∙ (ap (λ n. earlier n (undo_of_all 0 task.log.records)) (let e : number ≡ 0 + number = omega arith in e) ∙ first_earlier 0 number task.log.records)
 
 -- before the next statement they are those of all records
-pub own_writes : (proc : ProcInfo) (task : Task) → IsTask proc task → earlier (length task.records) task.undo ≡ writes_in task.records
-own_writes proc task t = has_writes proc task t (length task.records) (omega arith) ∙ ap writes_in (take_all (length task.records) task.records (omega arith))
+pub own_writes : (proc : ProcInfo) (task : Task) → IsTask proc task → earlier (length task.log.records) task.undo ≡ writes_in task.log.records
+own_writes proc task t = has_writes proc task t (length task.log.records) (omega arith) ∙ ap writes_in (take_all (length task.log.records) task.log.records (omega arith))
 
 -- behind them the keys stand
-pub keys_before : (proc : ProcInfo) (tables : List TableInfo) (task : Task) (db : Tables) → IsTask proc task → KeysStand tables (applied (writes_in task.records) db)
-    → KeysStand tables (applied (earlier (length task.records) task.undo) db)
+pub keys_before : (proc : ProcInfo) (tables : List TableInfo) (task : Task) (db : Tables) → IsTask proc task → KeysStand tables (applied (writes_in task.log.records) db)
+    → KeysStand tables (applied (earlier (length task.log.records) task.undo) db)
 keys_before proc tables task db t h = subst (λ ws. KeysStand tables (applied ws db)) (sym (own_writes proc task t)) h

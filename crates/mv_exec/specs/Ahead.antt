@@ -11,7 +11,7 @@ use Rattle.mv_recorded.specs.Recorded.{Site}
 use Rattle.mv_graph.specs.declared.graph.Step.{Step}
 use Rattle.mv_graph.specs.Steps.{TellsOf}
 use Rattle.mv_exec.specs.declared.places.Place.{Place}
-use Rattle.mv_exec.specs.declared.task.Ahead.{Ahead}
+use Rattle.mv_exec.specs.Foreseen.{Ahead}
 use Rattle.mv_exec.specs.declared.task.Task.{Task}
 use Rattle.mv_exec.specs.Places.{block_of, holder_of, place_due}
 use Rattle.mv_exec.specs.Tasks.{left_of, definer_in}

@@ -2,6 +2,8 @@ pub mod Left
 pub mod Places
 pub mod Env
 pub mod Keeping
+pub mod Foreseen
+pub mod Recording
 pub mod Tasks
 pub mod Moves
 pub mod Running

@@ -17,26 +17,28 @@ use Rattle.mv_graph.specs.declared.graph.Graph.{Graph}
 use Rattle.mv_graph.specs.Nodes.{meaning_of}
 use Rattle.mv_exec.specs.declared.step.Stepped.{Stepped}
 use Rattle.mv_exec.specs.declared.step.Stepped.TheVariants.{Ran, Ended}
-use Rattle.mv_exec.specs.declared.task.Ahead.{Ahead}
+use Rattle.mv_exec.specs.Foreseen.{Ahead}
 use Rattle.mv_exec.specs.declared.task.Task.{Task}
+use Rattle.mv_exec.specs.Recording.{IsAtRest}
 use Rattle.mv_exec.specs.Tasks.{IsTask, BeginsCall, left_of}
 
 -- What a running call is
 
 -- the full run of the call on a database adds these records after those of the task
 abbrev pub HasLeft : Graph → Call → Tables → Task → List Record → Type 0
-HasLeft g call db task rest = (meaning_of g call db).records ≡ task.records ++ rest
+HasLeft g call db task rest = (meaning_of g call db).records ≡ task.log.records ++ rest
 
 -- the task is this call of the graph, at some point of its run. What it keeps beside its records and its own writes is
 -- private.
 pub record IsTaskOf (g : Graph) (call : Call) (task : Task) : Type 0 where
   pub whole : IsTask g.procedure task
+  pub rest : IsAtRest task.log
   pub begins : BeginsCall task g.procedure call
   pub fits : length call.arguments ≡ length g.procedure.params
   pub found : task.variables.env.found ≡ (entered g.procedure call).found
   pub left : (db : Tables) (rest : List Record) → AreRising db → HasLeft g call db task rest → left_of g.procedure g.tables task db ≡ rest
-  pub writes : HasWritesOf task.undo task.records
-  pub keys : (db : Tables) (rest : List Record) → IsDatabaseOf g.tables db → HasLeft g call db task rest → KeysStand g.tables (applied (writes_in task.records) db)
+  pub writes : HasWritesOf task.undo task.log.records
+  pub keys : (db : Tables) (rest : List Record) → IsDatabaseOf g.tables db → HasLeft g call db task rest → KeysStand g.tables (applied (writes_in task.log.records) db)
 
 -- the task is this call of the graph, and its records are the first ones of its full run on a database
 pub record IsTaskOn (g : Graph) (call : Call) (db : Tables) (task : Task) : Type 0 where
@@ -62,7 +64,7 @@ IsSameCallOn g db old new = (call : Call) → IsTaskOn g call db old → IsTaskO
 
 -- what is public of the task is unchanged
 pub record IsUnchanged (old new : Task) : Type 0 where
-  pub records : new.records ≡ old.records
+  pub records : new.log.records ≡ old.log.records
   pub executed : new.executed ≡ old.executed
   pub ended : new.ended ≡ old.ended
   pub undo : new.undo ≡ old.undo
@@ -96,7 +98,7 @@ HasContent given r = r ≡ record given { spot = r.spot; parent = r.parent; read
 -- are those ahead
 pub record HasAdopted (g : Graph) (old : Task) (given : Record) (new : Task) : Type 0 where
   pub next : Record
-  pub records : new.records ≡ old.records ++ next ∷ []
+  pub records : new.log.records ≡ old.log.records ++ next ∷ []
   pub content : HasContent given next
   pub place : IsAhead g old (Some (record { spot = next.spot; parent = next.parent; reads = next.reads }))
   pub executed : new.executed ≡ old.executed
@@ -110,9 +112,9 @@ GoesOnWith g old given new =
 -- records before it
 pub record HasRun (old new : Task) (before after : Sight) : Type 0 where
   pub next : Record
-  pub records : new.records ≡ old.records ++ next ∷ []
+  pub records : new.log.records ≡ old.log.records ++ next ∷ []
   pub executed : new.executed ≡ old.executed + 1
-  pub asked : AskedFor next.preds (writes_in old.records) before after
+  pub asked : AskedFor next.preds (writes_in old.log.records) before after
 
 -- 1 if it was refused, else 0
 abbrev pub refusals : {A E : Type 0} → Result A E → ℕ
@@ -127,9 +129,9 @@ preds_in rs = flat_map (λ r. r.preds) rs
 -- at most once for each predicate of these records and for each refusal, and then for each key that the call has written
 pub record HasRunTo (old new : Task) (vain : ℕ) (before after : Sight) : Type 0 where
   pub more : List Record
-  pub records : new.records ≡ old.records ++ more
+  pub records : new.log.records ≡ old.log.records ++ more
   pub executed : new.executed ≡ old.executed + length more
-  pub asked : AskedAtMost (length (preds_in more) + vain) ((length (preds_in more) + vain) * different (writes_in new.records)) before after
+  pub asked : AskedAtMost (length (preds_in more) + vain) ((length (preds_in more) + vain) * different (writes_in new.log.records)) before after
 
 -- Laws
 

@@ -12,6 +12,7 @@ use Rattle.mv_alone.specs.TableAfter.{entered}
 use Rattle.mv_record.specs.declared.record.Record.{Record}
 use Rattle.mv_record.specs.Runs.{lines_in, writes_in}
 use Rattle.mv_recorded.specs.Reading.{last_place, sets_variable}
+use Rattle.mv_log.specs.Logged.{Logged}
 use Rattle.mv_exec.specs.declared.places.Holder.{Holder}
 use Rattle.mv_exec.specs.declared.places.Holder.TheVariants as by
 use Rattle.mv_exec.specs.declared.places.Place.{Place}
@@ -31,7 +32,7 @@ BeginsCall task proc call = (beginning task ≡ entered proc call) × (task.para
 
 -- the state after its records, if the call began on this database
 abbrev pub state_of : Task → Tables → State
-state_of task db = record { env = task.variables.env; tables = applied (writes_in task.records) db; lines = lines_in task.records }
+state_of task db = record { env = task.variables.env; tables = applied (writes_in task.log.records) db; lines = lines_in task.log.records }
 
 -- before the first statement of a procedure
 abbrev pub first_place : Place
@@ -51,11 +52,11 @@ places_of task = standing task.ended task.places
 
 -- the records that it will still add on a database
 abbrev pub left_of : ProcInfo → List TableInfo → Task → Tables → List Record
-left_of proc tables task db = left tables task.parameters (jobs_left proc task.records (places_of task)) task.records (state_of task db)
+left_of proc tables task db = left tables task.parameters (jobs_left proc task.log.records (places_of task)) task.log.records (state_of task db)
 
 -- all its records on a database: those that it has, and those that it will still add
 abbrev pub run_of : ProcInfo → List TableInfo → Task → Tables → List Record
-run_of proc tables task db = task.records ++ left_of proc tables task db
+run_of proc tables task db = task.log.records ++ left_of proc tables task db
 
 -- How its parts agree
 
@@ -80,18 +81,18 @@ AreHeldBefore n (p ∷ ps) = IsHeldBefore n p.holder × AreHeldBefore n ps
 pub record IsTask (proc : ProcInfo) (task : Task) : Type 0 where
   pub filled : AreFilled proc None (places_of task)
   pub numbers : AreNumbered proc None (places_of task)
-  pub ends : EndsLeft proc task.records (places_of task)
-  pub holders : AreHeldBefore (length task.records) (places_of task)
+  pub ends : EndsLeft proc task.log.records (places_of task)
+  pub holders : AreHeldBefore (length task.log.records) (places_of task)
   pub some : 0 < length task.places
   pub empty : task.empty ≡ none_in proc.body
-  pub undo : task.undo ≡ undo_of_all 0 task.records
-  pub definers : (x : ℕ) → definer_in task.definers x ≡ last_place (sets_variable x) 0 task.records
-  pub counted : task.executed ≤ length task.records
+  pub undo : task.undo ≡ undo_of_all 0 task.log.records
+  pub definers : (x : ℕ) → definer_in task.definers x ≡ last_place (sets_variable x) 0 task.log.records
+  pub counted : task.executed ≤ length task.log.records
 
 -- a call at an equal position: it has the same records, and will still add the same
 pub record StandsAsBefore (proc : ProcInfo) (old new : Task) : Type 0 where
   pub parameters : new.parameters ≡ old.parameters
-  pub records : new.records ≡ old.records
+  pub records : new.log.records ≡ old.log.records
   pub executed : new.executed ≡ old.executed
   pub undo : new.undo ≡ old.undo
   pub beginning : beginning new ≡ beginning old
@@ -101,17 +102,17 @@ pub record StandsAsBefore (proc : ProcInfo) (old new : Task) : Type 0 where
 abbrev pub in_turn_at : Task → List Place → Place → Place → Task
 in_turn_at task outer last place =
     let was = task.variables in
-    record task { variables = record was { env = with_next_row task.records last.holder was.env }; places = outer ++ place ∷ [] }
+    record task { variables = record was { env = with_next_row task.log.records last.holder was.env }; places = outer ++ place ∷ [] }
 
 -- the call at this place inside these; if a turn is due, in that turn
 abbrev pub task_at : Task → List Place → Place → Place → Bool → Task
 task_at task outer last place true = in_turn_at task outer last place
 task_at task outer last place false = task
 
--- a call that has these parameters and variables, and has executed nothing
-abbrev pub fresh_task : ℕ → Env → Bool → Task
-fresh_task params env empty =
-    record { parameters = params; variables = at_beginning env; records = []; executed = 0; undo = []; definers = []; places = first_place ∷ []; ended = empty; empty = empty }
+-- a call that has these parameters, variables and log, and has executed nothing
+abbrev pub fresh_task : ℕ → Env → Logged → Bool → Task
+fresh_task params env log empty =
+    record { parameters = params; variables = at_beginning env; log = log; executed = 0; undo = []; definers = []; places = first_place ∷ []; ended = empty; empty = empty }
 
 -- the flag is true exactly if no record is left, on any database
 abbrev pub TellsEnd : ProcInfo → Task → Bool → Type 0
@@ -122,6 +123,6 @@ pub record IsTrimmed (proc : ProcInfo) (old new : Task) : Type 0 where
   pub rest : new ≡ record old { places = new.places; ended = new.ended }
   pub stay : ℕ
   pub front : places_of new ≡ take stay old.places
-  pub left : jobs_left proc old.records (places_of new) ≡ jobs_left proc old.records old.places
-  pub ends : EndsLeft proc old.records (places_of new)
+  pub left : jobs_left proc old.log.records (places_of new) ≡ jobs_left proc old.log.records old.places
+  pub ends : EndsLeft proc old.log.records (places_of new)
   pub some : 0 < length old.places → 0 < length new.places

@@ -1,28 +1,32 @@
 //! Adds a record to a running call.
 
 ghost use Rattle.std.specs.Prelude.{◌≡◌, ◌<◌, ◌+◌, ◌++◌, ◌∷◌, [], None, false, true, All, Some, List, length, slice_get, option_to_list, max, IfOk, OnOk, OnErr};
+ghost use Rattle.mv_catalog.specs.declared.resolved.ProcInfo.{ProcInfo};
+ghost use Rattle.mv_catalog.specs.declared.resolved.RStmt.{RStmt, out-RStmt};
 ghost use Rattle.mv_record.specs.declared.record.Record.{Record};
-ghost use Rattle.mv_exec.specs.declared.places.Place.{Place};
-ghost use Rattle.mv_exec.specs.Env.{with_changes, with_changed};
-ghost use Rattle.mv_exec.specs.Keeping.{define, slot_room};
-ghost use Rattle.mv_catalog.specs.declared.resolved.RStmt.{out-RStmt};
 ghost use Rattle.mv_graph.specs.Nodes.{IsGraph, IsSound};
+ghost use Rattle.mv_graph.specs.Steps.{TellsOf};
 ghost use Rattle.mv_effect.specs.Choosing.{Chooses};
+ghost use Rattle.mv_exec.specs.declared.places.Place.{Place};
+ghost use Rattle.mv_exec.specs.declared.recording.Origin.TheVariants.{Executed};
+ghost use Rattle.mv_exec.specs.Keeping.{slot_room};
 ghost use Rattle.mv_exec.specs.Places.{AreFilled, AreNumbered, IsAtStep};
-ghost use Rattle.mv_exec.specs.Steps.{HasAddedRecord, HasFronts, IsWidened, with_writes};
+ghost use Rattle.mv_exec.specs.Recording.{closed, IsRecordOf, MayCome};
+ghost use Rattle.mv_exec.specs.Steps.{HasAddedRecord, HasFronts, IsWidened, changed_by, with_log};
 ghost use Rattle.mv_exec.specs.Running.{stepped};
 ghost use Rattle.mv_exec.specs.Tasks.{places_of, IsTask, StandsAsBefore, IsTrimmed};
 
-use crate::changes::{VariableChange, make_changes};
-use crate::keeping::{push_writes, set_definers, widen};
+use crate::changes::make_changes;
+use crate::keeping::{add_writes, set_definers, widen};
 use crate::moves::{inner_place, place_after};
 use crate::places::Place;
 use crate::position::Position;
+use crate::recording::{OpenStatement, Origin, add_record, ends_call};
 use crate::step::{Stepped, answer, changes_for};
 use crate::task::Task;
 use crate::trim::trim;
-use mv_graph::graph::Graph;
-use mv_record::record::{Record, Slot};
+use mv_graph::graph::{Graph, Step};
+use mv_record::record::Slot;
 use mv_values::list::List;
 use mv_values::memory::NoMemory;
 use std::alloc::Global;
@@ -58,55 +62,56 @@ fn push_place(places: &mut List<Place>, inner: Option<Place>) -> Result<(), NoMe
     }
 }
 
-/// Adds a place and a record, and changes variables. On `NoMemory` some of this may be done.
-fn push_rest(
+/// Makes the changes of the record with this number, which has just been added to the log: to the variables, the
+/// definers and the own writes, and by the place inside its statement. On `NoMemory` some of this may be done.
+fn make_changes_of(
+    alloc: Global,
     task: &mut Task,
-    given: Record,
-    changes: Vec<VariableChange>,
+    number: u32,
+    step: &Step,
     inner: Option<Place>,
 ) -> Result<(), NoMemory>
-    ensures ok { OnOk result (task.new ≡ record task.old { variables = with_changed changes.items task.old.variables; records = task.old.records ++ given ∷ []; places = task.old.places ++ option_to_list inner }) }
-    ensures err { OnErr result (HasFronts task.old task.new) }
+    requires there { number < length task.old.log.records }
+    requires earlier { All (λ o. o.number < number) task.old.undo }
+    ensures ok { OnOk result ((proc : ProcInfo) (s : RStmt) (r : Record) → TellsOf proc s step.now → slice_get task.old.log.records number ≡ Some r → task.new ≡ changed_by task.old number s r (option_to_list inner)) }
+    ensures err { OnErr result (HasFronts number task.old task.new) }
 {
+    let given = task.log.records().get(number as usize);
+    let changes = changes_for(alloc, step, &given)?;
+    widen(&mut task.definers, room_for(given.sets()))?;
+    add_writes(alloc, &mut task.undo, number, given.writes())?;
     push_place(&mut task.places, inner)?;
-    task.records.push(given)?;
-    make_changes(&mut task.variables, changes)
+    make_changes(&mut task.variables, changes)?;
+    set_definers(&mut task.definers, given.sets(), number);
+    Ok(())
 }
 
-/// Adds a record, its writes and the place inside its statement, and changes variables. On `NoMemory` only the room for
-/// definers may have changed.
+/// Adds the record of the open statement, and makes its changes. On `NoMemory` only the room for definers and the open
+/// statement may have changed.
 fn push_record(
     alloc: Global,
     task: &mut Task,
-    given: Record,
-    changes: Vec<VariableChange>,
+    at: OpenStatement,
+    origin: Origin,
+    step: &Step,
     inner: Option<Place>,
 ) -> Result<(), NoMemory>
-    requires { All (λ o. o.number < length task.old.records) task.old.undo }
-    ensures ok { OnOk result (task.new ≡ with_writes task.old given (with_changes changes.items task.old.variables.env) (task.old.places ++ option_to_list inner)) }
-    ensures err { OnErr result (IsWidened task.old task.new) }
+    requires origin { MayCome task.old.log origin }
+    requires earlier { All (λ o. o.number < length task.old.log.records) task.old.undo }
+    ensures ok { OnOk result ((proc : ProcInfo) (s : RStmt) (r : Record) → TellsOf proc s step.now → IsRecordOf task.old.log at origin r → task.new ≡ changed_by (with_log task.old (closed task.old.log origin r)) (length task.old.log.records) s r (option_to_list inner)) }
+    ensures err { OnErr result (IsWidened origin task.old task.new) }
 {
-    let number = task.records.len();
+    let number = task.log.len();
     let depth = task.places.len();
-    widen(&mut task.definers, room_for(given.sets.as_slice()))?;
-    push_writes(alloc, &mut task.undo, number, given.writes.as_slice())?;
-    match push_rest(task, given, changes, inner) {
+    add_record(&mut task.log, at, origin)?;
+    match make_changes_of(alloc, task, number, step, inner) {
         Ok(()) => Ok(()),
         Err(error) => {
-            task.records.truncate(number);
+            task.log.truncate(number);
             task.places.truncate(depth);
-            task.undo.drop_from(number);
+            task.undo.drop_from(number as usize);
             Err(error)
         }
-    }
-}
-
-/// Notes that the record with this number has set its variables.
-fn note_sets(definers: &mut List<Option<usize>>, records: &[Record], number: usize)
-    ensures { (r : Record) → slice_get records.now number ≡ Some r → definers.new ≡ define definers.old r.sets number }
-{
-    if let Some(last) = records.get(number) {
-        set_definers(definers, last.sets.as_slice(), number);
     }
 }
 
@@ -137,39 +142,42 @@ fn end_or_trim(graph: &Graph, task: &mut Task, ends: bool) -> Stepped
     answer(task.ended)
 }
 
-/// Adds the record of a call's next statement. An IF takes the given branch. Returns whether the call has ended. On
-/// `NoMemory` the call is unchanged.
+/// Adds the record of a call's open statement, which is its next one. An IF takes the given branch. Returns whether the
+/// call has ended. On `NoMemory` only the open statement may have changed.
 pub(crate) fn add(
     alloc: Global,
     graph: &Graph,
     task: &mut Task,
-    given: Record,
+    at: OpenStatement,
+    origin: Origin,
     position: Position<'_>,
     yes: bool,
 ) -> Result<Stepped, NoMemory>
     requires sound { IsSound graph.now }
     requires task { IsTask graph.now.procedure task.old }
     requires live { task.old.ended ≡ false }
+    requires origin { MayCome task.old.log origin }
     requires at { IsAtStep graph.now.procedure (places_of task.old) position.place position.step.now }
     requires branch { Chooses task.old.variables.env yes (out-RStmt position.step.now.statement) }
     ensures task { IsTask graph.now.procedure task.new }
-    ensures added { OnOk result (HasAddedRecord graph.now.procedure task.old given task.new) }
+    ensures added { OnOk result ((r : Record) → IsRecordOf task.old.log at origin r → HasAddedRecord graph.now.procedure task.old r task.new) }
+    ensures log { OnOk result ((r : Record) → IsRecordOf task.old.log at origin r → task.new.log ≡ closed task.old.log origin r) }
+    ensures past { task.new.log.past ≡ task.old.log.past }
+    ensures kept { origin ≡ Executed → task.new.log.kept ≡ task.old.log.kept }
     ensures executed { OnOk result (task.new.executed ≡ task.old.executed) }
     ensures tells { IfOk result (λ s. s ≡ stepped task.new.ended) }
     ensures found { task.new.variables.env.found ≡ task.old.variables.env.found }
     ensures err { OnErr result (StandsAsBefore graph.now.procedure task.old task.new) }
 {
-    let number = task.records.len();
+    let number = task.log.len();
     let depth = task.places.len();
-    let ends = given.end.is_some();
-    let changes = changes_for(alloc, position.step, &given)?;
     let inner = inner_place(position, number, yes);
-    push_record(alloc, task, given, changes, inner)?;
-    note_sets(&mut task.definers, task.records.as_slice(), number);
+    push_record(alloc, task, at, origin, position.step, inner)?;
     put_place(
         &mut task.places,
         depth.saturating_sub(1),
         place_after(position),
     );
+    let ends = ends_call(&task.log.records(), number);
     Ok(end_or_trim(graph, task, ends))
 }

@@ -1,9 +1,12 @@
-//! What is around the statement at a place: the record that holds it, and the loops with their turns.
+//! What is around the statement at a place: the record that holds it, the loops with their turns, and the records that
+//! last set its variables.
 
 ghost use Rattle.std.specs.Prelude.{◌≡◌, count_by, IfOk, OnOk};
+ghost use Rattle.std.specs.Option.{option_or};
 ghost use Rattle.mv_recorded.specs.Reading.{loop_of};
 ghost use Rattle.mv_recorded.specs.Recorded.{Site, outside};
 ghost use Rattle.mv_exec.specs.Places.{is_loop, site_in, site_of};
+ghost use Rattle.mv_exec.specs.Tasks.{definer_in};
 
 use crate::places::{Holder, Place};
 use mv_values::list::List;
@@ -11,7 +14,7 @@ use mv_values::memory::NoMemory;
 use std::alloc::Global;
 
 /// Returns the record that holds the holder's statements, given the record around the holder.
-fn parent_in(holder: Holder, parent: Option<usize>) -> Option<usize>
+fn parent_in(holder: Holder, parent: Option<u32>) -> Option<u32>
     ensures { (site : Site) → parent ≡ site.parent → result ≡ (site_in holder site).parent }
 {
     match holder {
@@ -22,7 +25,7 @@ fn parent_in(holder: Holder, parent: Option<usize>) -> Option<usize>
 }
 
 /// Returns the number of the record that holds the statements of the innermost place.
-fn parent_of(places: &[Place]) -> Option<usize>
+fn parent_of(places: &[Place]) -> Option<u32>
     ensures { result ≡ (site_of outside places.now).parent }
 {
     let mut parent = None;
@@ -33,7 +36,7 @@ fn parent_of(places: &[Place]) -> Option<usize>
 }
 
 /// Returns the number of the record that holds the statements of a place with this holder, inside these places.
-pub(crate) fn parent_at(places: &[Place], holder: Holder) -> Option<usize>
+pub(crate) fn parent_at(places: &[Place], holder: Holder) -> Option<u32>
     ensures { result ≡ (site_in holder (site_of outside places.now)).parent }
 {
     match holder {
@@ -44,7 +47,7 @@ pub(crate) fn parent_at(places: &[Place], holder: Holder) -> Option<usize>
 }
 
 /// Returns the record of the FOR whose row a variable is, given the one found outside the holder.
-fn loop_in(holder: Holder, variable: u16, found: Option<usize>) -> Option<usize>
+fn loop_in(holder: Holder, variable: u16, found: Option<u32>) -> Option<u32>
     ensures { (site : Site) → found ≡ loop_of variable site.loops → result ≡ loop_of variable (site_in holder site).loops }
 {
     match holder {
@@ -59,7 +62,7 @@ fn loop_in(holder: Holder, variable: u16, found: Option<usize>) -> Option<usize>
 }
 
 /// Returns the record of the FOR around the innermost place whose row a variable is.
-fn loop_around(places: &[Place], variable: u16) -> Option<usize>
+fn loop_around(places: &[Place], variable: u16) -> Option<u32>
     ensures { result ≡ loop_of variable (site_of outside places.now).loops }
 {
     let mut found = None;
@@ -70,10 +73,36 @@ fn loop_around(places: &[Place], variable: u16) -> Option<usize>
 }
 
 /// Returns the record of the FOR whose row a variable is, around a place with this holder inside these places.
-pub(crate) fn loop_at(places: &[Place], holder: Holder, variable: u16) -> Option<usize>
+fn loop_at(places: &[Place], holder: Holder, variable: u16) -> Option<u32>
     ensures { result ≡ loop_of variable (site_in holder (site_of outside places.now)).loops }
 {
     loop_in(holder, variable, loop_around(places, variable))
+}
+
+/// Returns the number of the record that last set a variable, other than the row of a loop.
+fn last_definer(definers: &[Option<u32>], variable: u16) -> Option<u32>
+    ensures { result ≡ definer_in definers.now variable }
+{
+    match definers.get(variable as usize) {
+        Some(definer) => *definer,
+        None => None,
+    }
+}
+
+/// Returns the number of the record that last set a variable, for a statement at a place with this holder inside these
+/// places. For a loop's row it is the record of the FOR.
+pub(crate) fn definer_of(
+    places: &[Place],
+    holder: Holder,
+    definers: &[Option<u32>],
+    variable: u16,
+) -> Option<u32>
+    ensures { result ≡ option_or (loop_of variable (site_in holder (site_of outside places.now)).loops) (definer_in definers.now variable) }
+{
+    match loop_at(places, holder, variable) {
+        Some(record) => Some(record),
+        None => last_definer(definers, variable),
+    }
 }
 
 /// Whether a holder is a loop.
@@ -103,12 +132,22 @@ fn loops_at(places: &[Place], holder: Holder) -> usize {
     }
 }
 
+/// Returns the number of a turn in four bytes. Fails with `NoMemory` if it has no room there; no loop has so many rows.
+pub(crate) fn turn_number(turn: usize) -> Result<u32, NoMemory>
+    ensures { IfOk result (λ number. number ≡ turn) }
+{
+    if turn > 4_294_967_295 {
+        return Err(NoMemory);
+    }
+    Ok(turn as u32)
+}
+
 /// Adds the turn of a holder if it is a loop.
-fn add_turn(turns: &mut List<usize>, holder: Holder) -> Result<(), NoMemory>
+fn add_turn(turns: &mut List<u32>, holder: Holder) -> Result<(), NoMemory>
     ensures { OnOk result ((site : Site) → turns.old ≡ site.turns → turns.new ≡ (site_in holder site).turns) }
 {
     match holder {
-        Holder::Loop { turn, .. } => turns.push(turn),
+        Holder::Loop { turn, .. } => turns.push(turn_number(turn)?),
         _ => Ok(()),
     }
 }
@@ -118,7 +157,7 @@ pub(crate) fn turns_at(
     alloc: Global,
     places: &[Place],
     holder: Holder,
-) -> Result<List<usize>, NoMemory>
+) -> Result<List<u32>, NoMemory>
     ensures { IfOk result (λ turns. turns ≡ (site_in holder (site_of outside places.now)).turns) }
 {
     let mut turns = turns_around(alloc, places, loops_at(places, holder))?;
@@ -127,7 +166,7 @@ pub(crate) fn turns_at(
 }
 
 /// Returns the turns of the loops around the innermost place, from the outside in, with room for so many.
-fn turns_around(alloc: Global, places: &[Place], room: usize) -> Result<List<usize>, NoMemory>
+fn turns_around(alloc: Global, places: &[Place], room: usize) -> Result<List<u32>, NoMemory>
     ensures { IfOk result (λ turns. turns ≡ (site_of outside places.now).turns) }
 {
     let mut turns = List::with_room(alloc, room)?;

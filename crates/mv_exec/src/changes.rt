@@ -14,7 +14,7 @@ use crate::moves::{Holds, holds_in};
 use crate::variables::Variables;
 use mv_alone::state::Content;
 use mv_graph::graph::Step;
-use mv_record::record::{Record, Slot};
+use mv_record::record::Slot;
 use mv_values::copied::Copied;
 use mv_values::memory::NoMemory;
 use mv_values::value::Row;

@@ -1,6 +1,6 @@
 //! What a call derives from its records: its own writes, and which record last set each variable.
 
-ghost use Rattle.std.specs.Prelude.{◌≡◌, ◌<◌, ◌≤◌, ◌++◌, All, ℕ, Some, slice_set, OnOk, OnErr};
+ghost use Rattle.std.specs.Prelude.{◌≡◌, ◌≤◌, ◌++◌, All, ℕ, Some, slice_set, OnOk, OnErr};
 ghost use Rattle.mv_exec.specs.Keeping.{undo_of, HasMore, define, with_room};
 ghost use Rattle.mv_exec.specs.Tasks.{definer_in};
 
@@ -13,10 +13,10 @@ use mv_values::patch::Write;
 use std::alloc::Global;
 
 /// Adds copies of writes with the number of their record.
-fn add_writes(
+pub(crate) fn add_writes(
     alloc: Global,
     undo: &mut Undo,
-    number: usize,
+    number: u32,
     writes: &[Write],
 ) -> Result<(), NoMemory>
     requires { All (λ o. o.number ≤ number) undo.old }
@@ -25,35 +25,14 @@ fn add_writes(
 {
     for write in writes {
         let own = write.copy(alloc)?;
-        undo.push(number, own)?;
+        undo.push(number as usize, own)?;
     }
     Ok(())
 }
 
-/// Adds copies of writes with the number of their record. It must be larger than those of the writes before. On
-/// `NoMemory` the writes are unchanged.
-pub(crate) fn push_writes(
-    alloc: Global,
-    undo: &mut Undo,
-    number: usize,
-    writes: &[Write],
-) -> Result<(), NoMemory>
-    requires { All (λ o. o.number < number) undo.old }
-    ensures ok { OnOk result (undo.new ≡ undo.old ++ undo_of number writes.now) }
-    ensures err { OnErr result (undo.new ≡ undo.old) }
-{
-    match add_writes(alloc, undo, number, writes) {
-        Ok(()) => Ok(()),
-        Err(error) => {
-            undo.drop_from(number);
-            Err(error)
-        }
-    }
-}
-
 /// Extends the list of definers to at least this length. The definer of each variable is unchanged.
 #[tactic(auto, using(crate::proofs::Defining::widen_longer, crate::proofs::Defining::room_full, crate::proofs::Defining::none_behind))]
-pub(crate) fn widen(definers: &mut List<Option<usize>>, len: usize) -> Result<(), NoMemory>
+pub(crate) fn widen(definers: &mut List<Option<u32>>, len: usize) -> Result<(), NoMemory>
     ensures ok { OnOk result (definers.new ≡ with_room len definers.old) }
     ensures same { (x : ℕ) → definer_in definers.new x ≡ definer_in definers.old x }
 {
@@ -64,7 +43,7 @@ pub(crate) fn widen(definers: &mut List<Option<usize>>, len: usize) -> Result<()
 }
 
 /// Records which record last set a variable. A variable past the end of the list is ignored.
-fn set_definer(definers: &mut List<Option<usize>>, variable: u16, number: usize)
+fn set_definer(definers: &mut List<Option<u32>>, variable: u16, number: u32)
     ensures { definers.new ≡ slice_set definers.old variable (Some number) }
 {
     if (variable as usize) < definers.len() {
@@ -73,7 +52,7 @@ fn set_definer(definers: &mut List<Option<usize>>, variable: u16, number: usize)
 }
 
 /// Records which record last set these variables. A variable past the end of the list is ignored.
-pub(crate) fn set_definers(definers: &mut List<Option<usize>>, sets: &[Slot], number: usize)
+pub(crate) fn set_definers(definers: &mut List<Option<u32>>, sets: &[Slot], number: u32)
     ensures { definers.new ≡ define definers.old sets.now number }
 {
     for set in sets {

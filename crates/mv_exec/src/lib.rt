@@ -2,7 +2,7 @@
 #![tactic(auto)]
 
 mod add;
-mod ahead;
+pub mod ahead;
 mod around;
 mod changes;
 mod execute;
@@ -10,6 +10,7 @@ mod keeping;
 mod moves;
 pub mod places;
 mod position;
+mod recording;
 pub mod running;
 pub mod step;
 pub mod task;

@@ -51,7 +51,7 @@ pub(crate) fn holds_in(statement: &RStmt) -> Holds
 }
 
 /// Returns the place before the first statement of a branch, or none if it has no statements.
-fn branch_place(record: usize, yes: bool, first: usize, some: bool) -> Option<Place>
+fn branch_place(record: u32, yes: bool, first: usize, some: bool) -> Option<Place>
     ensures { option_to_list result ≡ some_branch «record» yes first some }
 {
     if some {
@@ -67,7 +67,7 @@ fn branch_place(record: usize, yes: bool, first: usize, some: bool) -> Option<Pl
 
 /// Returns the place before the first turn of a loop, or none if its body has no statements. `size` counts those with
 /// what they hold.
-fn loop_place(record: usize, row: u16, first: usize, size: u16) -> Option<Place>
+fn loop_place(record: u32, row: u16, first: usize, size: u16) -> Option<Place>
     requires { first < 2 ^ 17 }
     ensures { option_to_list result ≡ some_loop «record» row first size }
 {
@@ -87,7 +87,7 @@ fn loop_place(record: usize, row: u16, first: usize, size: u16) -> Option<Place>
 }
 
 /// Returns the place inside a statement whose record has this number. An IF takes the given branch.
-pub(crate) fn inner_place(position: Position<'_>, record: usize, yes: bool) -> Option<Place>
+pub(crate) fn inner_place(position: Position<'_>, record: u32, yes: bool) -> Option<Place>
     requires { position.place.number < 2 ^ 16 }
     ensures { (proc : ProcInfo) (s : RStmt) → TellsOf proc s position.entry.step.now → option_to_list result ≡ inner_places «record» position.entry.place.number yes (out-RStmt s) }
 {

@@ -8,7 +8,7 @@ ghost use Rattle.mv_exec.specs.declared.places.Place.{Place};
 ghost use Rattle.mv_exec.specs.Places.{has_turn, is_left, loop_rows, AreFilled, AreNumbered, IsNumbered, StaysTo};
 
 use mv_graph::graph::{Graph, Step};
-use mv_record::record::Record;
+use mv_log::records::Records;
 use mv_values::value::Row;
 
 /// What holds a list of statements: the procedure, a branch of an IF, or a FOR. `record` is the number of the record of
@@ -17,15 +17,8 @@ use mv_values::value::Row;
 #[derive(Clone, Copy)]
 pub enum Holder {
     Procedure,
-    Branch {
-        record: usize,
-        yes: bool,
-    },
-    Loop {
-        record: usize,
-        row: u16,
-        turn: usize,
-    },
+    Branch { record: u32, yes: bool },
+    Loop { record: u32, row: u16, turn: usize },
 }
 
 /// A place in a list of statements. It is before the statement `at`, counted from 0, which has this number in the text
@@ -39,17 +32,17 @@ pub struct Place {
 }
 
 /// Returns the rows of the loop whose FOR's record has this number.
-pub(crate) fn rows_of(records: &[Record], number: usize) -> &[Row]
+pub(crate) fn rows_of<'a>(records: &Records<'a>, number: u32) -> &'a [Row]
     ensures { result.now ≡ loop_rows records.now number }
 {
-    match records.get(number) {
-        Some(record) => record.rows.as_slice(),
-        None => &[],
+    if number as usize >= records.len() {
+        return &[];
     }
+    records.get(number as usize).rows()
 }
 
 /// Whether a loop has a turn after this one.
-fn has_next_turn(records: &[Record], holder: Holder) -> bool
+fn has_next_turn(records: &Records<'_>, holder: Holder) -> bool
     ensures { result ≡ has_turn records.now holder }
 {
     match holder {
@@ -77,7 +70,7 @@ pub(crate) fn is_before_end(graph: &Graph, place: Place) -> bool
 }
 
 /// Whether a statement or a turn is left at a place. Takes constant time.
-fn has_left(graph: &Graph, records: &[Record], place: Place) -> bool
+fn has_left(graph: &Graph, records: &Records<'_>, place: Place) -> bool
     requires { IsGraph graph.now }
     ensures { (block : List RStmt) → IsNumbered graph.now.procedure block place → 0 < length block → result ≡ is_left records.now block place }
 {
@@ -86,7 +79,7 @@ fn has_left(graph: &Graph, records: &[Record], place: Place) -> bool
 
 /// Returns the number of places that stay. Nothing is left at the places inside them. Takes time proportional to the
 /// number of those.
-pub(crate) fn staying(graph: &Graph, records: &[Record], places: &[Place]) -> usize
+pub(crate) fn staying(graph: &Graph, records: &Records<'_>, places: &[Place]) -> usize
     requires graph { IsGraph graph.now }
     requires filled { AreFilled graph.now.procedure None places.now }
     requires numbers { AreNumbered graph.now.procedure None places.now }

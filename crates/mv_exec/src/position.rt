@@ -9,7 +9,7 @@ ghost use Rattle.mv_exec.specs.Tasks.{IsTask};
 use crate::places::{Holder, Place, innermost, is_before_end, rows_of, step_at};
 use crate::task::Task;
 use mv_graph::graph::{Graph, Step};
-use mv_record::record::Record;
+use mv_log::records::Records;
 
 /// The step of the next statement of a call, and its place. `turn` tells whether a loop's turn begins with it.
 #[derive(Clone, Copy)]
@@ -20,7 +20,7 @@ pub(crate) struct Position<'g> {
 }
 
 /// Returns the place before the first statement of the next turn.
-fn place_in_next_turn(records: &[Record], place: Place) -> Place
+fn place_in_next_turn(records: &Records<'_>, place: Place) -> Place
     requires { has_turn records.now place.holder ≡ true }
     ensures { result ≡ next_turn place }
 {
@@ -44,7 +44,7 @@ fn place_in_next_turn(records: &[Record], place: Place) -> Place
 }
 
 /// Returns the place itself, or the one in the next turn if a turn is due.
-fn place_due(records: &[Record], place: Place, turn: bool) -> Place
+fn place_due(records: &Records<'_>, place: Place, turn: bool) -> Place
     requires { turn ≡ true → has_turn records.now place.holder ≡ true }
     ensures { result ≡ place_due turn place }
 {
@@ -66,7 +66,7 @@ pub(crate) fn next_position<'g>(graph: &'g Graph, task: &Task) -> Position<'g>
         unreachable!();
     };
     let turn = !is_before_end(graph, last);
-    let place = place_due(task.records.as_slice(), last, turn);
+    let place = place_due(&task.log.records(), last, turn);
     let Some(step) = step_at(graph, place.number) else {
         unreachable!();
     };

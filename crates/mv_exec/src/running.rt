@@ -1,39 +1,46 @@
 //! Running calls of a graph: one statement at a time over a view, or to the end.
 
-ghost use Rattle.std.specs.Prelude.{◌≡◌, ◌↔◌, ◌≤◌, [], None, false, true, length, IfOk, OnOk, OnErr, Some};
+ghost use Rattle.std.specs.Prelude.{◌≡◌, ◌↔◌, ◌<◌, ◌≤◌, ◌+◌, [], None, false, true, length, slice_get, IfOk, OnOk, OnErr, Some};
 ghost use Rattle.mv_values.specs.declared.calls.Call.{Call};
 ghost use Rattle.mv_values.specs.Tables.{Tables};
-ghost use Rattle.mv_record.specs.Runs.{writes_in};
-ghost use Rattle.mv_graph.specs.Nodes.{IsSound, meaning_of};
+ghost use Rattle.mv_record.specs.declared.record.Record.{Record};
 ghost use Rattle.mv_record.specs.Databases.{IsDatabaseOf};
+ghost use Rattle.mv_record.specs.Runs.{writes_in};
+ghost use Rattle.mv_log.specs.Logged.{empty as no_records};
+ghost use Rattle.mv_graph.specs.Nodes.{IsSound, meaning_of};
 ghost use Rattle.mv_effect.specs.Looking.{AskedAtMost, OnlyAsks, different};
+ghost use Rattle.mv_exec.specs.Recording.{IsAtRest};
 ghost use Rattle.mv_exec.specs.Running.{IsRunning, IsRunningOn, IsSameCall, IsSameCallOn, IsTaskOf, IsTaskOn, IsUnchanged, IsAhead, GoesOnWith, HasAdopted, HasRun, HasRunTo, refusals, stepped, EndsExactly};
+ghost use Rattle.mv_exec.specs.Steps.{HasAddedNext};
+ghost use Rattle.mv_exec.specs.Tasks.{IsTask, StandsAsBefore};
 
 use crate::add::add;
-use crate::ahead::{come_to, foresee, move_on};
-use crate::execute::execute;
+use crate::ahead::{Ahead, come_to, foresee};
+use crate::execute::execute_next;
 use crate::moves::branch;
+use crate::recording::Origin;
 use crate::step::Stepped;
-use crate::task::{Ahead, Task};
+use crate::task::Task;
 use mv_graph::graph::Graph;
-use mv_record::record::Record;
+use mv_log::log::Log;
 use mv_values::calls::Call;
 use mv_values::memory::NoMemory;
 use mv_view::view::{Refused, View};
 use std::alloc::Global;
 
 impl Task {
-    /// Returns a call before its first statement. It copies the arguments.
-    pub fn new(alloc: Global, graph: &Graph, call: &Call) -> Result<Task, NoMemory>
+    /// Returns a call before its first statement, whose records go into this log. It copies the arguments.
+    pub fn new(alloc: Global, graph: &Graph, call: &Call, log: Log) -> Result<Task, NoMemory>
         requires sound { IsSound graph.now }
         requires arguments { length call.now.arguments ≡ length graph.now.procedure.params }
+        requires log { log ≡ no_records }
         ensures call { IfOk result (IsTaskOf graph.now call.now) }
         ensures begins { IfOk result (λ task. (db : Tables) → IsTaskOn graph.now call.now db task) }
-        ensures records { IfOk result (λ task. task.records ≡ []) }
+        ensures records { IfOk result (λ task. task.log.records ≡ []) }
         ensures executed { IfOk result (λ task. task.executed ≡ 0) }
         ensures running { IfOk result (λ task. (db : Tables) → IsRunningOn graph.now db task) }
     {
-        let task = Task::of(alloc, &graph.procedure, call)?;
+        let task = Task::of(alloc, &graph.procedure, call, log)?;
         Ok(task)
     }
 }
@@ -50,65 +57,58 @@ pub fn peek(alloc: Global, graph: &Graph, task: &Task) -> Result<Option<Ahead>, 
     Ok(ahead)
 }
 
-/// Returns the given record, with the place, controller and definers that are ahead.
-fn record_at(ahead: Ahead, given: Record) -> Record
-    ensures { result ≡ record given { spot = ahead.spot; parent = ahead.parent; reads = ahead.reads } }
-{
-    let mut record = given;
-    record.spot = ahead.spot;
-    record.parent = ahead.parent;
-    record.reads = ahead.reads;
-    record
-}
-
-/// Adds a given record for the next statement, without executing it. The record gets that statement's place, controller
-/// and definers, and is otherwise added as it is. Returns whether the call has ended. On `NoMemory` the call is
-/// unchanged.
-pub fn adopt(
-    alloc: Global,
-    graph: &Graph,
-    task: &mut Task,
-    given: Record,
-) -> Result<Stepped, NoMemory>
+/// Adds a record of the run before the repair as the record of the next statement. On `NoMemory` only the open statement
+/// may have changed.
+fn adopt_next(alloc: Global, graph: &Graph, task: &mut Task, old: u32) -> Result<Stepped, NoMemory>
     requires sound { IsSound graph.now }
-    requires running { IsRunning graph.now task.old }
+    requires task { IsTask graph.now.procedure task.old }
+    requires params { task.old.parameters ≡ length graph.now.procedure.params }
     requires live { task.old.ended ≡ false }
-    ensures running { IsRunning graph.now task.new }
-    ensures call { IsSameCall graph.now task.old task.new }
-    ensures adopted { OnOk result (HasAdopted graph.now task.old given task.new) }
-    ensures goes_on { OnOk result (GoesOnWith graph.now task.old given task.new) }
-    ensures tells { IfOk result (λ it. it ≡ stepped task.new.ended) }
-    ensures err { OnErr result (IsUnchanged task.old task.new) }
+    requires rest { IsAtRest task.old.log }
+    requires there { old < length task.old.log.past }
+    requires rises { task.old.log.kept ≤ old }
+    ensures task { IsTask graph.now.procedure task.new }
+    ensures added { OnOk result ((given : Record) → slice_get task.old.log.past old ≡ Some given → HasAddedNext graph.now.procedure task.old given task.new) }
+    ensures executed { OnOk result (task.new.executed ≡ task.old.executed) }
+    ensures tells { IfOk result (λ s. s ≡ stepped task.new.ended) }
+    ensures found { task.new.variables.env.found ≡ task.old.variables.env.found }
+    ensures rest { OnOk result (IsAtRest task.new.log) }
+    ensures past { task.new.log.past ≡ task.old.log.past }
+    ensures kept { OnOk result (task.new.log.kept ≡ old + 1) }
+    ensures err { OnErr result (StandsAsBefore graph.now.procedure task.old task.new) }
 {
-    let Some(ahead) = peek(alloc, graph, task)? else {
-        unreachable!();
-    };
-    adopt_ahead(alloc, graph, task, ahead, given)
-}
-
-/// Adds a given record for the next statement, as `adopt` does. `ahead` is what `peek` returns for the call, so that
-/// nothing of it is found twice.
-pub fn adopt_ahead(
-    alloc: Global,
-    graph: &Graph,
-    task: &mut Task,
-    ahead: Ahead,
-    given: Record,
-) -> Result<Stepped, NoMemory>
-    requires sound { IsSound graph.now }
-    requires running { IsRunning graph.now task.old }
-    requires live { task.old.ended ≡ false }
-    requires next { IsAhead graph.now task.old (Some ahead) }
-    ensures running { IsRunning graph.now task.new }
-    ensures call { IsSameCall graph.now task.old task.new }
-    ensures adopted { OnOk result (HasAdopted graph.now task.old given task.new) }
-    ensures goes_on { OnOk result (GoesOnWith graph.now task.old given task.new) }
-    ensures tells { IfOk result (λ it. it ≡ stepped task.new.ended) }
-    ensures err { OnErr result (IsUnchanged task.old task.new) }
-{
-    let position = move_on(alloc, graph, task)?;
+    let (at, position) = come_to(alloc, graph, task)?;
     let yes = branch(alloc, &position.step.statement, task.variables.env())?;
-    add(alloc, graph, task, record_at(ahead, given), position, yes)
+    add(alloc, graph, task, at, Origin::Kept(old), position, yes)
+}
+
+/// Keeps a record of the run before the repair as the record of the next statement, without executing that. The record
+/// gets the statement's place, controller and definers, and is otherwise the old one. Its items aren't moved or copied,
+/// but for its own writes and the variables. Old records are kept in their order. Returns whether the call has ended. On
+/// `NoMemory` the call is unchanged, but the old record can't be kept any more.
+pub fn adopt(alloc: Global, graph: &Graph, task: &mut Task, old: u32) -> Result<Stepped, NoMemory>
+    requires sound { IsSound graph.now }
+    requires running { IsRunning graph.now task.old }
+    requires live { task.old.ended ≡ false }
+    requires there { old < length task.old.log.past }
+    requires rises { task.old.log.kept ≤ old }
+    ensures running { IsRunning graph.now task.new }
+    ensures call { IsSameCall graph.now task.old task.new }
+    ensures adopted { OnOk result ((given : Record) → slice_get task.old.log.past old ≡ Some given → HasAdopted graph.now task.old given task.new) }
+    ensures goes_on { OnOk result ((given : Record) → slice_get task.old.log.past old ≡ Some given → GoesOnWith graph.now task.old given task.new) }
+    ensures tells { IfOk result (λ it. it ≡ stepped task.new.ended) }
+    ensures past { task.new.log.past ≡ task.old.log.past }
+    ensures kept { OnOk result (task.new.log.kept ≡ old + 1) }
+    ensures err { OnErr result (IsUnchanged task.old task.new) }
+{
+    let number = task.log.len();
+    match adopt_next(alloc, graph, task, old) {
+        Ok(stepped) => Ok(stepped),
+        Err(error) => {
+            task.log.truncate(number);
+            Err(error)
+        }
+    }
 }
 
 /// Executes the next statement over the view and the call's own writes, and adds its record. An IF only evaluates its
@@ -129,22 +129,30 @@ pub fn next<V: View>(
     ensures call { IsSameCall graph.now task.old task.new }
     ensures goes_on { IsSameCallOn graph.now (V.sight view.old).database task.old task.new }
     ensures ran { OnOk result (task.old.ended ≡ false → HasRun task.old task.new (V.sight view.old) (V.sight view.new)) }
+    ensures past { task.new.log.past ≡ task.old.log.past }
+    ensures kept { task.new.log.kept ≡ task.old.log.kept }
     ensures rests { task.old.ended ≡ true → IsUnchanged task.old task.new }
     ensures idle { task.old.ended ≡ true → V.sight view.new ≡ V.sight view.old }
     ensures tells { IfOk result (λ it. it ≡ stepped task.new.ended) }
     ensures err { OnErr result (IsUnchanged task.old task.new) }
     ensures view { OnlyAsks (V.sight view.old) (V.sight view.new) result }
-    ensures bounded { AskedAtMost 1 (different (writes_in task.old.records)) (V.sight view.old) (V.sight view.new) }
+    ensures bounded { AskedAtMost 1 (different (writes_in task.old.log.records)) (V.sight view.old) (V.sight view.new) }
 {
     if task.ended {
         return Ok(Stepped::Ended);
     }
-    let (ahead, position) = come_to(alloc, graph, task)?;
-    execute(alloc, graph, task, ahead, position, view)
+    let number = task.log.len();
+    match execute_next(alloc, graph, task, view) {
+        Ok(stepped) => Ok(stepped),
+        Err(refused) => {
+            task.log.truncate(number);
+            Err(refused)
+        }
+    }
 }
 
 /// Executes the rest of a call over a view. On an error the call keeps the records added so far. `finish` can then
-/// continue it, and `restart` can begin it again.
+/// continue it, and `restart` and `begin_repair` can begin it again.
 ///
 /// Fails with `NoMemory` if memory runs out, and with `Stale` if the view reports it.
 pub fn finish<V: View>(
@@ -159,7 +167,7 @@ pub fn finish<V: View>(
     ensures running { IsRunningOn graph.now (V.sight view.old).database task.new }
     ensures call { IsSameCall graph.now task.old task.new }
     ensures goes_on { IsSameCallOn graph.now (V.sight view.old).database task.old task.new }
-    ensures records { OnOk result ((call : Call) → IsTaskOf graph.now call task.old → task.new.records ≡ (meaning_of graph.now call (V.sight view.old).database).records) }
+    ensures records { OnOk result ((call : Call) → IsTaskOf graph.now call task.old → task.new.log.records ≡ (meaning_of graph.now call (V.sight view.old).database).records) }
     ensures ended { OnOk result (task.new.ended ≡ true) }
     ensures ran { HasRunTo task.old task.new (refusals result) (V.sight view.old) (V.sight view.new) }
     ensures view { OnlyAsks (V.sight view.old) (V.sight view.new) result }

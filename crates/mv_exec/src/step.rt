@@ -14,7 +14,7 @@ ghost use Rattle.mv_exec.specs.Running.{stepped};
 use crate::changes::{VariableChange, changes_of, row_of_empty};
 use mv_alone::state::Content;
 use mv_graph::graph::Step;
-use mv_record::record::Record;
+use mv_log::record_ref::RecordRef;
 use mv_values::copied::Copied;
 use mv_values::memory::NoMemory;
 use mv_values::value::Row;
@@ -81,11 +81,11 @@ fn add_turns(
 pub(crate) fn changes_for(
     alloc: Global,
     step: &Step,
-    given: &Record,
+    given: &RecordRef<'_>,
 ) -> Result<Vec<VariableChange>, NoMemory>
     ensures { IfOk result (λ cs. (proc : ProcInfo) (s : RStmt) → TellsOf proc s step.now → (e : Env) → with_changes cs.items e ≡ after_empty_loop (out-RStmt s) given.now.rows (with_slots given.now.sets e)) }
 {
-    let mut changes = changes_of(alloc, given.sets.as_slice())?;
-    add_turns(alloc, &mut changes, step, given.rows.as_slice())?;
+    let mut changes = changes_of(alloc, given.sets())?;
+    add_turns(alloc, &mut changes, step, given.rows())?;
     Ok(changes)
 }

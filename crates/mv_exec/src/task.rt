@@ -7,10 +7,11 @@ ghost use Rattle.mv_values.specs.Tables.{Tables};
 ghost use Rattle.mv_catalog.specs.declared.resolved.ProcInfo.{ProcInfo};
 ghost use Rattle.mv_catalog.specs.declared.resolved.RStmt.{RStmt};
 ghost use Rattle.mv_alone.specs.TableAfter.{entered};
+ghost use Rattle.mv_alone.specs.declared.state.Env.{Env};
 ghost use Rattle.mv_recorded.specs.Recorded.{recorded};
+ghost use Rattle.mv_log.specs.Logged.{empty as no_records};
 ghost use Rattle.mv_graph.specs.declared.graph.Graph.{Graph};
 ghost use Rattle.mv_exec.specs.Env.{at_beginning};
-ghost use Rattle.mv_alone.specs.declared.state.Env.{Env};
 ghost use Rattle.mv_exec.specs.Running.{IsRunning, IsRunningOn, IsTaskOf, IsTaskOn};
 ghost use Rattle.mv_exec.specs.Tasks.{first_place, none_in, run_of, IsTask, BeginsCall, fresh_task as fresh};
 
@@ -18,35 +19,26 @@ use crate::places::{Holder, Place};
 use crate::variables::Variables;
 use mv_alone::enter::variables_for;
 use mv_catalog::resolved::{ProcInfo, RStmt};
-use mv_record::record::{Read, Record, Spot};
+use mv_log::log::Log;
+use mv_log::records::Records;
 use mv_undo::undo::Undo;
 use mv_values::calls::Call;
 use mv_values::list::List;
 use mv_values::memory::NoMemory;
 use std::alloc::Global;
-use std::mem;
 
-/// The place, controller and definers of a record that hasn't been added yet.
-#[derive(Drop)]
-pub struct Ahead {
-    pub spot: Spot,
-    /// The number of the record of the IF or FOR that directly holds its statement.
-    pub parent: Option<usize>,
-    pub reads: List<Read>,
-}
-
-/// A running call: its records so far, its own writes, and its position.
+/// A running call: the log of its records so far, its own writes, and its position.
 #[derive(Drop)]
 pub struct Task {
     /// The number of variables that are parameters.
     pub(crate) parameters: usize,
     pub(crate) variables: Variables,
-    pub(crate) records: List<Record>,
+    pub(crate) log: Log,
     /// The number of records that were added by executing a statement.
     pub(crate) executed: usize,
     pub(crate) undo: Undo,
     /// For each variable the number of the record that last set it.
-    pub(crate) definers: List<Option<usize>>,
+    pub(crate) definers: List<Option<u32>>,
     /// The position of the call, from the outside in. Each place but the first lies in the statement just before the
     /// place around it.
     pub(crate) places: List<Place>,
@@ -83,19 +75,19 @@ fn fresh_task(
     alloc: Global,
     parameters: usize,
     variables: Variables,
-    records: List<Record>,
+    log: Log,
     places: List<Place>,
     empty: bool,
 ) -> Task
-    requires records { records ≡ [] }
+    requires log { log ≡ no_records }
     requires places { places ≡ first_place ∷ [] }
     requires beginning { variables ≡ at_beginning variables.initial }
-    ensures { result ≡ fresh parameters variables.initial empty }
+    ensures { result ≡ fresh parameters variables.initial no_records empty }
 {
     Task {
         parameters,
         variables,
-        records,
+        log,
         executed: 0,
         undo: Undo::new(alloc),
         definers: List::new(alloc),
@@ -117,12 +109,17 @@ fn go_back(places: &mut List<Place>)
 }
 
 impl Task {
-    /// Returns a call of a procedure before its first statement. It copies the arguments, and takes room for a record of
-    /// each statement that is in no other.
+    /// Returns a call of a procedure before its first statement, with this log for its records. It copies the arguments.
     #[tactic(auto, using(crate::proofs::Beginning::new_begins, crate::proofs::Beginning::new_run))]
-    pub(crate) fn of(alloc: Global, procedure: &ProcInfo, call: &Call) -> Result<Task, NoMemory>
+    pub(crate) fn of(
+        alloc: Global,
+        procedure: &ProcInfo,
+        call: &Call,
+        log: Log,
+    ) -> Result<Task, NoMemory>
+        requires { log ≡ no_records }
         ensures task { IfOk result (λ t. IsTask procedure.now t) }
-        ensures records { IfOk result (λ t. t.records ≡ []) }
+        ensures log { IfOk result (λ t. t.log ≡ no_records) }
         ensures executed { IfOk result (λ t. t.executed ≡ 0) }
         ensures begins { IfOk result (λ t. BeginsCall t procedure.now call.now) }
         ensures variables { IfOk result (λ t. t.variables.env ≡ entered procedure.now call.now) }
@@ -133,17 +130,23 @@ impl Task {
         let empty = is_empty(procedure.body.as_slice());
         let mut places = List::new(alloc);
         places.push(before_all())?;
-        let records = List::with_room(alloc, procedure.body.len())?;
         let parameters = call.arguments.len();
-        let task = fresh_task(alloc, parameters, variables, records, places, empty);
+        let task = fresh_task(alloc, parameters, variables, log, places, empty);
         Ok(task)
     }
 
     /// Returns the records so far.
-    pub fn records(&self) -> &[Record]
-        ensures { result.now ≡ self.now.records }
+    pub fn records(&self) -> Records<'_>
+        ensures { result ≡ self.now.log.records }
     {
-        self.records.as_slice()
+        self.log.records()
+    }
+
+    /// Returns the records of the run before the repair.
+    pub fn past(&self) -> Records<'_>
+        ensures { result ≡ self.now.log.past }
+    {
+        self.log.past()
     }
 
     /// The number of records that were added by executing a statement.
@@ -167,14 +170,20 @@ impl Task {
         &self.undo
     }
 
-    /// Returns the records, and puts the call back before its first statement. It allocates no memory.
-    pub fn restart(&mut self, alloc: Global) -> List<Record>
-        ensures back { result ≡ self.old.records }
-        ensures records { self.new.records ≡ [] }
+    /// Returns the log, which is empty and has its room. So another call can use it.
+    pub fn into_log(self) -> Log
+        ensures { result ≡ no_records }
+    {
+        let mut log = self.log;
+        log.clear();
+        log
+    }
+
+    /// Puts the call back before its first statement. Its log, which has no records, stays as it is.
+    fn begin_again(&mut self)
+        ensures log { self.new.log ≡ self.old.log }
         ensures executed { self.new.executed ≡ 0 }
-        ensures call { (graph : Graph) (call : Call) → IsTaskOf graph call self.old → IsTaskOf graph call self.new }
-        ensures begins { (graph : Graph) (call : Call) (db : Tables) → IsTaskOf graph call self.old → IsTaskOn graph call db self.new }
-        ensures running { (graph : Graph) (db : Tables) → IsRunning graph self.old → IsRunningOn graph db self.new }
+        ensures back { 0 < length self.old.places → self.new ≡ fresh self.old.parameters self.old.variables.initial self.old.log self.old.empty }
     {
         self.variables.begin_again();
         self.executed = 0;
@@ -182,6 +191,32 @@ impl Task {
         self.definers.truncate(0);
         go_back(&mut self.places);
         self.ended = self.empty;
-        mem::replace(&mut self.records, List::new(alloc))
+    }
+
+    /// Drops the records, and puts the call back before its first statement. It allocates no memory.
+    pub fn restart(&mut self)
+        ensures records { self.new.log.records ≡ [] }
+        ensures executed { self.new.executed ≡ 0 }
+        ensures call { (graph : Graph) (call : Call) → IsTaskOf graph call self.old → IsTaskOf graph call self.new }
+        ensures begins { (graph : Graph) (call : Call) (db : Tables) → IsTaskOf graph call self.old → IsTaskOn graph call db self.new }
+        ensures running { (graph : Graph) (db : Tables) → IsRunning graph self.old → IsRunningOn graph db self.new }
+    {
+        self.log.clear();
+        self.begin_again();
+    }
+
+    /// Begins a repair: the records become those of the run before it, and the call is put back before its first
+    /// statement. It allocates no memory, and moves no record.
+    pub fn begin_repair(&mut self)
+        ensures past { self.new.log.past ≡ self.old.log.records }
+        ensures kept { self.new.log.kept ≡ 0 }
+        ensures records { self.new.log.records ≡ [] }
+        ensures executed { self.new.executed ≡ 0 }
+        ensures call { (graph : Graph) (call : Call) → IsTaskOf graph call self.old → IsTaskOf graph call self.new }
+        ensures begins { (graph : Graph) (call : Call) (db : Tables) → IsTaskOf graph call self.old → IsTaskOn graph call db self.new }
+        ensures running { (graph : Graph) (db : Tables) → IsRunning graph self.old → IsRunningOn graph db self.new }
+    {
+        self.log.begin_repair();
+        self.begin_again();
     }
 }

@@ -16,7 +16,7 @@ pub(crate) fn trim(graph: &Graph, task: &mut Task)
     requires numbers { AreNumbered graph.now.procedure None task.old.places }
     ensures { task.old.ended ≡ false → IsTrimmed graph.now.procedure task.old task.new }
 {
-    let stay = staying(graph, task.records.as_slice(), task.places.as_slice());
+    let stay = staying(graph, &task.log.records(), task.places.as_slice());
     if stay == 0 {
         task.ended = true;
     } else {

@@ -9,7 +9,7 @@ use crate::places::{Holder, Place, innermost, rows_of};
 use crate::task::Task;
 use crate::variables::Variables;
 use mv_alone::state::Content;
-use mv_record::record::Record;
+use mv_log::records::Records;
 use mv_values::copied::Copied;
 use mv_values::list::List;
 use mv_values::memory::NoMemory;
@@ -19,7 +19,7 @@ use std::alloc::Global;
 fn set_row(
     alloc: Global,
     variables: &mut Variables,
-    records: &[Record],
+    records: &Records<'_>,
     holder: Holder,
 ) -> Result<(), NoMemory>
     ensures ok { OnOk result (variables.new ≡ (let was = variables.old in record was { env = with_next_row records.now holder was.env })) }
@@ -52,12 +52,7 @@ fn begin_turn(alloc: Global, task: &mut Task, place: Place) -> Result<(), NoMemo
     let Some((_, last)) = innermost(task.places.as_slice()) else {
         return Ok(());
     };
-    set_row(
-        alloc,
-        &mut task.variables,
-        task.records.as_slice(),
-        last.holder,
-    )?;
+    set_row(alloc, &mut task.variables, &task.log.records(), last.holder)?;
     set_innermost(&mut task.places, place);
     Ok(())
 }

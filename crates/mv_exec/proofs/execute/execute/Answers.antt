@@ -1,21 +1,26 @@
-use Rattle.std.proofs.Common.{List, length, sym, subst}
+use Rattle.std.proofs.Common.{arith, ◌∙◌, List, length, refl, sym, ap, subst}
+use Rattle.std.proofs.lemmas.List.{length_push}
 use Rattle.mv_values.specs.declared.schema.TableInfo.{TableInfo}
 use Rattle.mv_values.specs.Patching.{applied}
 use Rattle.mv_catalog.specs.declared.resolved.RStmt.{out-RStmt}
 use Rattle.mv_alone.specs.declared.state.Env.{Env}
+use Rattle.mv_log.specs.Logged.{Logged}
 use Rattle.mv_undo.specs.Owning.{earlier}
 use Rattle.mv_recorded.specs.Effects.{IsEffect}
 use Rattle.mv_effect.specs.Looking.{AskedFor, IsExecutable}
 use Rattle.mv_effect.proofs.WellNamed.{well_named}
+use Rattle.mv_exec.specs.declared.recording.Origin.TheVariants.{Executed}
+use Rattle.mv_exec.specs.Recording.{foreseen}
 use Rattle.mv_exec.specs.Tasks.{places_of}
-use Rattle.mv_exec.proofs.Executing.{counts_one, executed_next}
+use Rattle.mv_exec.proofs.Executing.{counts_one, executed_next, record_in, as_foreseen, added_effect}
 use Rattle.mv_exec.proofs.Held.{effect_told, names_told}
+use Rattle.mv_exec.proofs.Logs.{closed_rests, logged_task}
 use Rattle.mv_exec.proofs.Wellness.{well_at, columns_at}
 use Rattle.mv_exec.proofs.Writing.{keys_before}
 use Rattle.mv_exec.proofs.execute.execute.Goals as goal
 
-pub effect-requires : goal.effect-requires
-effect-requires g c =
+pub effect-requires-clause-executable : goal.effect-requires-clause-executable
+effect-requires-clause-executable g c =
     let well = well_at c.args.graph.now.tables c.args.graph.now.procedure c.requires.at.at.0 c.args.position.place c.requires.at.s c.requires.sound.procedure c.requires.at.at.1.stands in
     subst (λ (e : Env). IsExecutable c.as_slice.result.now c.args.position.step.now.statement e (earlier c.len-number.result c.args.task.now.undo) (g.V.View.sight c.args.view.now).database) (sym c.env.ensures)
     (subst (λ (ts : List TableInfo). IsExecutable ts c.args.position.step.now.statement c.args.task.now.variables.env (earlier c.len-number.result c.args.task.now.undo) (g.V.View.sight c.args.view.now).database) (sym c.as_slice.ensures)
@@ -31,22 +36,49 @@ effect-requires g c =
       found = c.requires.found;
     })))
 
+pub add-requires-clause-task : goal.add-requires-clause-task
+add-requires-clause-task g c = logged_task c.args.graph.now.procedure c.args.task.now c.effect.new.log (ap (λ (l : Logged). l.records) c.in_ok-holds.ensures.rest) c.requires.task
+
+pub overflow_sub-task : goal.overflow_sub-task
+overflow_sub-task g c =
+    omega (
+      arith,
+      ap (λ (l : Logged). length l.records) (c.in_ok-stepped.ensures.log (record_in c.effect.new.log c.args.at) refl),
+      length_push c.effect.new.log.records (record_in c.effect.new.log c.args.at),
+      ap (λ (l : Logged). length l.records) c.in_ok-holds.ensures.rest,
+      c.len.ensures,
+      c.len-number.ensures,
+    )
+
 pub returns-clause-executed : goal.returns-clause-executed
 returns-clause-executed g c =
     executed_next c.args.graph.now.procedure c.args.graph.now.tables c.args.task.now c.add.new.task (g.V.View.sight c.args.view.now) (g.V.View.sight c.effect.new.view) _
-    c.requires.at.at.0 c.args.position.place c.requires.at.s c.args.ahead c.in_ok-effect.field-0.effect c.record_of-record.result c.requires.task c.requires.at.at.1
+    c.requires.at.at.0 c.args.position.place c.requires.at.s (foreseen c.args.task.now.log c.args.at) c.effect.new.log.effect (record_in c.effect.new.log c.args.at) c.requires.task c.requires.at.at.1
     (columns_at c.args.graph.now.tables c.args.graph.now.procedure (places_of c.args.task.now) c.args.position.place c.requires.at.s c.requires.sound.procedure c.requires.at.at)
     c.requires.database.rising c.requires.next
-    (effect_told c.args.graph.now.tables c.args.graph.now.procedure c.requires.at.s c.args.position.step.now c.args.task.now.variables.env (applied (earlier (length c.args.task.now.records) c.args.task.now.undo) (g.V.View.sight c.args.view.now).database) c.in_ok-effect.field-0.effect c.requires.at.tells
-    (subst (λ (ts : List TableInfo). IsEffect ts (out-RStmt c.args.position.step.now.statement) c.args.task.now.variables.env (applied (earlier (length c.args.task.now.records) c.args.task.now.undo) (g.V.View.sight c.args.view.now).database) c.in_ok-effect.field-0.effect)
+    (effect_told c.args.graph.now.tables c.args.graph.now.procedure c.requires.at.s c.args.position.step.now c.args.task.now.variables.env (applied (earlier (length c.args.task.now.log.records) c.args.task.now.undo) (g.V.View.sight c.args.view.now).database) c.effect.new.log.effect c.requires.at.tells
+    (subst (λ (ts : List TableInfo). IsEffect ts (out-RStmt c.args.position.step.now.statement) c.args.task.now.variables.env (applied (earlier (length c.args.task.now.log.records) c.args.task.now.undo) (g.V.View.sight c.args.view.now).database) c.effect.new.log.effect)
     c.as_slice.ensures
-    (subst (λ n. IsEffect c.as_slice.result.now (out-RStmt c.args.position.step.now.statement) c.args.task.now.variables.env (applied (earlier n c.args.task.now.undo) (g.V.View.sight c.args.view.now).database) c.in_ok-effect.field-0.effect)
+    (subst (λ n. IsEffect c.as_slice.result.now (out-RStmt c.args.position.step.now.statement) c.args.task.now.variables.env (applied (earlier n c.args.task.now.undo) (g.V.View.sight c.args.view.now).database) c.effect.new.log.effect)
     c.len-number.ensures
-    (subst (λ (e : Env). IsEffect c.as_slice.result.now (out-RStmt c.args.position.step.now.statement) e (applied (earlier c.len-number.result c.args.task.now.undo) (g.V.View.sight c.args.view.now).database) c.in_ok-effect.field-0.effect)
-    c.env.ensures c.in_ok-effect.ensures.effect))))
-    (subst (λ n. AskedFor c.in_ok-effect.field-0.effect.preds (earlier n c.args.task.now.undo) (g.V.View.sight c.args.view.now) (g.V.View.sight c.effect.new.view)) c.len-number.ensures c.in_ok-effect.ensures.looks)
-    c.record_of-record.ensures c.in_ok-stepped.ensures.added
+    (subst (λ (e : Env). IsEffect c.as_slice.result.now (out-RStmt c.args.position.step.now.statement) e (applied (earlier c.len-number.result c.args.task.now.undo) (g.V.View.sight c.args.view.now).database) c.effect.new.log.effect)
+    c.env.ensures c.in_ok-holds.ensures.effect))))
+    (subst (λ n. AskedFor c.effect.new.log.effect.preds (earlier n c.args.task.now.undo) (g.V.View.sight c.args.view.now) (g.V.View.sight c.effect.new.view)) c.len-number.ensures c.in_ok-holds.ensures.looks)
+    (as_foreseen c.args.task.now.log c.effect.new.log c.args.at c.in_ok-holds.ensures.rest)
+    (added_effect c.args.graph.now.procedure c.args.task.now c.effect.new.log c.args.at c.add.new.task c.in_ok-holds.ensures.rest c.in_ok-stepped.ensures.added)
 
 pub returns-clause-counted : goal.returns-clause-counted
 returns-clause-counted g c =
-    counts_one c.args.graph.now.procedure c.args.task.now c.record_of-record.result c.add.new.task c.len.result c.len-number.result c.in_ok-stepped.ensures.added c.in_ok-stepped.ensures.executed c.len.ensures c.len-number.ensures
+    counts_one c.args.graph.now.procedure c.args.task.now (record_in c.effect.new.log c.args.at) c.add.new.task c.len.result c.len-number.result
+    (added_effect c.args.graph.now.procedure c.args.task.now c.effect.new.log c.args.at c.add.new.task c.in_ok-holds.ensures.rest c.in_ok-stepped.ensures.added)
+    c.in_ok-stepped.ensures.executed c.len.ensures c.len-number.ensures
+
+pub returns-clause-rest : goal.returns-clause-rest
+returns-clause-rest g c =
+    closed_rests c.effect.new.log c.add.new.task.log Executed (record_in c.effect.new.log c.args.at) (c.in_ok-stepped.ensures.log (record_in c.effect.new.log c.args.at) refl)
+
+pub returns-clause-kept : goal.returns-clause-kept
+returns-clause-kept g c = c.add.ensures.kept refl ∙ ap (λ (l : Logged). l.kept) c.in_ok-holds.ensures.rest
+
+pub returns-in_err-stepped-clause-kept : goal.returns-in_err-stepped-clause-kept
+returns-in_err-stepped-clause-kept g c = c.add.ensures.kept refl ∙ ap (λ (l : Logged). l.kept) c.in_ok-holds.ensures.rest

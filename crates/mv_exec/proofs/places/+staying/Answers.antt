@@ -1,5 +1,5 @@
-use Rattle.std.proofs.Common.{◌≡◌, ◌<◌, ◌++◌, ◌∷◌, [], None, length, refl, sym, ap, subst, ◌∙◌, arith, length-append}
-use Rattle.mv_exec.specs.Places.{block_of, holder_of, is_left, AreFilled, IsNumbered, AreNumbered}
+use Rattle.std.proofs.Common.{◌<◌, ◌∷◌, [], None, length, refl, sym, ap, subst, ◌∙◌, arith, length-append}
+use Rattle.mv_exec.specs.Places.{AreFilled, IsNumbered, AreNumbered}
 use Rattle.mv_exec.proofs.Placing.{all_stay, outer_stay}
 use Rattle.mv_exec.proofs.Turning.{every_outer, filled_outer}
 use Rattle.mv_exec.proofs.Trimming.{left_at}

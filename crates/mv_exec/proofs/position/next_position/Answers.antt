@@ -1,13 +1,12 @@
-use Rattle.std.proofs.Common.{◌≡◌, nat_lt, not, length, refl}
-use Rattle.mv_exec.specs.Places.{block_of, holder_of}
+use Rattle.std.proofs.Common.{not, refl}
 use Rattle.mv_exec.proofs.Positioning.{turn_there, left_here, NextThere, next_there, some_step, next_step}
 use Rattle.mv_exec.proofs.position.next_position.Goals as goal
 use Rattle.mv_exec.proofs.position.next_position.Goals.{After-step_at}
 
 pub place_due-place-requires : goal.place_due-place-requires
 place_due-place-requires c = λ due.
-    turn_there c.args.graph.now.procedure c.args.task.now c.as_slice-2.result.now c.as_slice.result.now c.in-Some.field-0-0.now c.in-Some.last _ c.is_before_end-turn.result
-    c.requires.task c.requires.live c.as_slice.ensures c.as_slice-2.ensures c.in-Some.ensures refl
+    turn_there c.args.graph.now.procedure c.args.task.now c.records.result c.as_slice.result.now c.in-Some.field-0-0.now c.in-Some.last _ c.is_before_end-turn.result
+    c.requires.task c.requires.live c.as_slice.ensures c.records.ensures c.in-Some.ensures refl
     (left_here c.args.graph.now.procedure c.args.task.now c.as_slice.result.now c.in-Some.field-0-0.now c.in-Some.last c.is_before_end-turn.result c.requires.task c.requires.live c.as_slice.ensures
     c.in-Some.ensures c.is_before_end-turn.ensures) due
 
