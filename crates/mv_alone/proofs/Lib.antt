@@ -8,3 +8,4 @@ pub mod Ranking
 pub mod Standing
 pub mod FirstRows
 pub mod Few
+pub mod Printing

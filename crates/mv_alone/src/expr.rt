@@ -1,6 +1,6 @@
 //! Evaluates expressions.
 
-ghost use Rattle.std.specs.Prelude.{◌≡◌, ◌++◌, ◌+ℤ◌, ◌-ℤ◌, ◌*ℤ◌, neg_ℤ, IfOk, All};
+ghost use Rattle.std.specs.Prelude.{◌≡◌, ◌++◌, ◌+ℤ◌, ◌-ℤ◌, ◌*ℤ◌, neg_ℤ, IfOk, OnOk, All};
 ghost use Rattle.mv_values.specs.declared.value.Value.TheVariants.{Text};
 ghost use Rattle.mv_values.specs.Printable.{IsPrintable};
 ghost use Rattle.std.specs.Fmt.{signed_decimal};
@@ -11,6 +11,7 @@ ghost use Rattle.mv_alone.specs.Alone.{offset_of};
 
 use crate::env::{column_value, scalar, truth_of, turn};
 use crate::state::{Env, Stop};
+use itoa::Buffer;
 use memchr::memmem;
 use mv_ast::tree::{OneOp, TwoOp};
 use mv_catalog::resolved::{RExpr, RExprKind};
@@ -149,16 +150,23 @@ fn is_in(u: &[u8], t: &[u8]) -> bool
     memmem::find(t, u).is_some()
 }
 
-/// Returns the decimal digits of a number, after `-` if it is negative.
-pub(crate) fn digits(alloc: Global, n: i64) -> Result<Txt, NoMemory>
-    ensures { IfOk result (λ t. t ≡ signed_decimal n) }
+/// Adds the decimal digits of a number, after `-` if it is negative.
+pub(crate) fn add_number(text: &mut Txt, n: i64) -> Result<(), NoMemory>
+    ensures { OnOk result (text.new ≡ text.old ++ signed_decimal n) }
 {
-    let mut text = Txt::new(alloc);
     if n < 0 {
         text.append(b"-")?;
     }
-    let digits = n.unsigned_abs().to_string(alloc)?;
-    text.append(digits.as_bytes())?;
+    let mut digits = Buffer::new();
+    text.append(digits.format(n.unsigned_abs()).as_bytes())
+}
+
+/// Returns the decimal digits of a number, after `-` if it is negative.
+fn digits(alloc: Global, n: i64) -> Result<Txt, NoMemory>
+    ensures { IfOk result (λ t. t ≡ signed_decimal n) }
+{
+    let mut text = Txt::new(alloc);
+    add_number(&mut text, n)?;
     Ok(text)
 }
 

@@ -5,13 +5,15 @@ ghost use Rattle.mv_values.specs.Printable.{IsPrintable};
 ghost use Rattle.mv_values.specs.Texts.{doubled};
 ghost use Rattle.mv_alone.specs.Line.{printed, line_of};
 
-use crate::expr::digits;
+use crate::expr::add_number;
+use memchr::memchr;
 use mv_values::memory::NoMemory;
 use mv_values::txt::Txt;
 use mv_values::value::Value;
 use std::alloc::Global;
 
-fn add_doubled(text: &mut Txt, bytes: &[u8]) -> Result<(), NoMemory>
+/// Adds bytes one by one, with each quote doubled.
+fn add_bytes(text: &mut Txt, bytes: &[u8]) -> Result<(), NoMemory>
     requires { All IsPrintable bytes.now }
     ensures { OnOk result (text.new ≡ text.old ++ doubled bytes.now) }
 {
@@ -25,11 +27,23 @@ fn add_doubled(text: &mut Txt, bytes: &[u8]) -> Result<(), NoMemory>
     Ok(())
 }
 
-fn add_value(alloc: Global, line: &mut Txt, value: &Value) -> Result<(), NoMemory>
+/// Adds bytes with each quote doubled. Few texts have one.
+#[tactic(auto, using(crate::proofs::Printing::no_quote))]
+fn add_doubled(text: &mut Txt, bytes: &[u8]) -> Result<(), NoMemory>
+    requires { All IsPrintable bytes.now }
+    ensures { OnOk result (text.new ≡ text.old ++ doubled bytes.now) }
+{
+    match memchr(b'\'', bytes) {
+        None => text.append(bytes),
+        Some(_) => add_bytes(text, bytes),
+    }
+}
+
+fn add_value(line: &mut Txt, value: &Value) -> Result<(), NoMemory>
     ensures { OnOk result (line.new ≡ line.old ++ printed value.now) }
 {
     match value {
-        Value::Int(n) => line.append(digits(alloc, *n)?.as_slice()),
+        Value::Int(n) => add_number(line, *n),
         Value::Text(t) => {
             line.append(b"'")?;
             add_doubled(line, t.as_slice())?;
@@ -48,7 +62,7 @@ pub fn line_from(alloc: Global, values: &[Value]) -> Result<Txt, NoMemory>
         if 0 < i {
             line.append(b",")?;
         }
-        add_value(alloc, &mut line, value)?;
+        add_value(&mut line, value)?;
     }
     Ok(line)
 }
