@@ -15,7 +15,7 @@ use Rattle.mv_record.specs.Paths.{IsEarlierPath}
 use Rattle.mv_record.specs.Runs.{IsEarlier, ReadsEarlier, NamesEarlier}
 use Rattle.mv_recorded.specs.Own.{Each}
 use Rattle.mv_recorded.proofs.Held.{get_last}
-use Rattle.mv_exec.specs.declared.task.Ahead.{Ahead}
+use Rattle.mv_exec.specs.Foreseen.{Ahead}
 use Rattle.mv_history.specs.declared.change.Change.{Change}
 use Rattle.mv_history.specs.Hits.{any_hits, touches}
 use Rattle.mv_history.specs.Kept.{Path, Placed, with_paths, is_path, at, front, path_at, is_kept, reads_stay, other_writes, is_untouched, stays_with, stays}
@@ -29,7 +29,7 @@ use Rattle.mv_alike.proofs.Walking.{earlier_then, climbs_parts, at_past}
 use Rattle.mv_repair.proofs.Lists.{first_dropped, none_dropped, any_of_all}
 use Rattle.mv_repair.proofs.Placing.{many_placed}
 use Rattle.mv_repair.proofs.Marking.{controller_is, definers_are}
-use Rattle.mv_repair.proofs.Passing.{all_apart, old_lower}
+use Rattle.mv_repair.proofs.Passing.{all_apart, next_is, old_lower}
 
 -- The old record of a path
 
@@ -90,10 +90,10 @@ pub record Decides (changes : List Change) (os : List Record) (kept : List Path)
   pub along : IsNew os kept (b ∷ more) ns new
   pub stops : is_before (slice_get old.paths old.at) b.path ≡ false
 
-untouched_is : (o : Record) (kept : List Path) (before ns : List Placed) (old : OldRun) (new : NewRun) (rs : List Record) → writes_at old.records old.others ≡ other_writes kept before → writes_at rs new.others ≡ other_writes kept ns
-    → not (is_touched o old.records old.others || is_touched o rs new.others) ≡ is_untouched kept before ns o
-untouched_is o kept before ns old new rs h k =
-    ap (λ b. not (b || is_touched o rs new.others)) (sym (any_of_all (touches o) old.records old.others) ∙ ap (list_any (touches o)) h)
+untouched_is : (o : Record) (kept : List Path) (before ns : List Placed) (old : OldRun) (new : NewRun) (os rs : List Record) → writes_at os old.others ≡ other_writes kept before → writes_at rs new.others ≡ other_writes kept ns
+    → not (is_touched o os old.others || is_touched o rs new.others) ≡ is_untouched kept before ns o
+untouched_is o kept before ns old new os rs h k =
+    ap (λ b. not (b || is_touched o rs new.others)) (sym (any_of_all (touches o) os old.others) ∙ ap (list_any (touches o)) h)
     ∙ (ap (λ b. not (list_any (touches o) (other_writes kept before) || b)) (sym (any_of_all (touches o) rs new.others) ∙ ap (list_any (touches o)) k)
     ∙ ap not (sym (list_any-append (touches o) (other_writes kept before) (other_writes kept ns))))
 
@@ -103,7 +103,7 @@ four a b c d a' b' c' d' h k l m = cc
 -- the record of the old run, where it has the path
 here_is : (changes : List Change) (os : List Record) (kept : List Path) (ns : List Record) (b : Placed) (more : List Placed) (ahead : Ahead) (old : OldRun) (new : NewRun) → (d : Decides changes os kept ns b more ahead old new)
     → (o : Placed) (cs : List Placed) → d.beside.coming ≡ o ∷ cs → is_path o.path b.path ≡ true
-    → record_stays old new ns ahead o.it (any_hits changes (map (λ (p : Placed). p.it) d.beside.passed) o.it) ≡ stays changes kept (with_paths os) (with_paths ns) b
+    → record_stays os old new ns ahead o.it (any_hits changes (map (λ (p : Placed). p.it) d.beside.passed) o.it) ≡ stays changes kept (with_paths os) (with_paths ns) b
 here_is changes os kept ns b more ahead old new d o cs e same =
     let is : with_paths os ≡ d.beside.passed ++ o ∷ cs = d.beside.split ∙ ap (λ l. d.beside.passed ++ l) e in
     let past = front_past b.path d.beside.passed o cs (all_apart b.path d.beside.passed (old_lower changes os kept b more old d.beside)) same in
@@ -114,7 +114,7 @@ here_is changes os kept ns b more ahead old new d o cs e same =
     (sym (controller_is kept (with_paths os) (with_paths ns) new.kept b.it.parent d.along.marks (subst (λ n. IsEarlier n b.it.parent) (sym (many_placed ns)) d.early) ∙ ap (is_kept_by new.kept) d.parent))
     (sym (definers_are kept (with_paths os) (with_paths ns) new.kept o.it.reads b.it.reads d.climbs d.along.marks (old_reads os d.beside.passed o cs is d.names) (subst (λ n. ReadsEarlier n b.it.reads) (sym (many_placed ns)) d.early_reads)
     ∙ ap (reads_by new.kept o.it.reads) d.reads))
-    refl (untouched_is o.it kept d.beside.passed (with_paths ns) old new ns d.beside.others d.along.others)
+    refl (untouched_is o.it kept d.beside.passed (with_paths ns) old new os ns d.beside.others d.along.others)
     ∙ sym (ap (λ q. stays_with changes kept (with_paths os) (front b.path (with_paths os)) (with_paths ns) b.it q) found
     ∙ ap (λ l. stays_with changes kept (with_paths os) l (with_paths ns) b.it (Some o)) fronts)
 
@@ -123,18 +123,18 @@ none_stays changes os kept ns b h = ap (λ q. stays_with changes kept (with_path
 
 -- what the walk decides is what the rule says
 pub decided : (changes : List Change) (os : List Record) (kept : List Path) (ns : List Record) (b : Placed) (more : List Placed) (ahead : Ahead) (old : OldRun) (new : NewRun) → Decides changes os kept ns b more ahead old new
-    → stays_at old new ns ahead b.path ≡ stays changes kept (with_paths os) (with_paths ns) b
+    → stays_at os old new ns ahead b.path ≡ stays changes kept (with_paths os) (with_paths ns) b
 decided changes os kept ns b more ahead old new d = by d.beside.coming refl
   where
     lows : Each (λ (a : Placed). is_path a.path b.path ≡ false) d.beside.passed
     lows = all_apart b.path d.beside.passed (old_lower changes os kept b more old d.beside)
 
     by : (l : List Placed) → d.beside.coming ≡ l
-        → stays_at old new ns ahead b.path ≡ stays changes kept (with_paths os) (with_paths ns) b
+        → stays_at os old new ns ahead b.path ≡ stays changes kept (with_paths os) (with_paths ns) b
     by [] e =
         let none : slice_get old.paths old.at ≡ None = none_dropped old.at old.paths (d.beside.paths ∙ ap (map (λ (p : Placed). p.path)) e) in
         let all : with_paths os ≡ d.beside.passed = d.beside.split ∙ (ap (λ l. d.beside.passed ++ l) e ∙ append-nil d.beside.passed) in
-        ap (λ q. is_there q b.path && next_stays old new ns ahead (slice_get old.records old.at) (slice_get old.hits old.at)) none
+        ap (λ q. is_there q b.path && next_stays os old new ns ahead (slice_get os old.at) (slice_get old.hits old.at)) none
         ∙ sym (none_stays changes os kept ns b (ap (at b.path) all ∙ at_none b.path d.beside.passed lows))
     by (o ∷ cs) e = there (is_path o.path b.path) refl
       where
@@ -145,12 +145,12 @@ decided changes os kept ns b more ahead old new d = by d.beside.coming refl
         is = d.beside.split ∙ ap (λ l. d.beside.passed ++ l) e
 
         there : (t : Bool) → is_path o.path b.path ≡ t
-            → stays_at old new ns ahead b.path ≡ stays changes kept (with_paths os) (with_paths ns) b
+            → stays_at os old new ns ahead b.path ≡ stays changes kept (with_paths os) (with_paths ns) b
         there true same =
-            ap (λ q. is_there q b.path && next_stays old new ns ahead (slice_get old.records old.at) (slice_get old.hits old.at)) path
-            ∙ (ap (λ t. t && next_stays old new ns ahead (slice_get old.records old.at) (slice_get old.hits old.at)) same
-            ∙ (ap (λ q. next_stays old new ns ahead q (slice_get old.hits old.at)) (first_dropped old.at old.records o.it (map (λ (p : Placed). p.it) cs) (d.beside.records ∙ ap (map (λ (p : Placed). p.it)) e))
-            ∙ (ap (λ q. next_stays old new ns ahead (Some o.it) q)
+            ap (λ q. is_there q b.path && next_stays os old new ns ahead (slice_get os old.at) (slice_get old.hits old.at)) path
+            ∙ (ap (λ t. t && next_stays os old new ns ahead (slice_get os old.at) (slice_get old.hits old.at)) same
+            ∙ (ap (λ q. next_stays os old new ns ahead q (slice_get old.hits old.at)) (next_is changes os kept (b ∷ more) old o cs d.beside e)
+            ∙ (ap (λ q. next_stays os old new ns ahead (Some o.it) q)
             (first_dropped old.at old.hits (any_hits changes (map (λ (p : Placed). p.it) d.beside.passed) o.it) (hits_in changes (map (λ (p : Placed). p.it) d.beside.passed ++ o.it ∷ []) (map (λ (p : Placed). p.it) cs))
             (d.beside.hits ∙ ap (λ l. hits_in changes (map (λ (p : Placed). p.it) d.beside.passed) (map (λ (p : Placed). p.it) l)) e))
             ∙ here_is changes os kept ns b more ahead old new d o cs e same)))
@@ -159,8 +159,8 @@ decided changes os kept ns b more ahead old new d = by d.beside.coming refl
             let rest = (climbs_parts d.beside.passed o cs (subst Climbs is d.climbs)).1 in
             let highs : Each (λ (a : Placed). is_path a.path b.path ≡ false) cs =
             each_map (λ (a : Placed). IsEarlierPath o.path a.path) (λ (a : Placed). is_path a.path b.path ≡ false) cs (λ a k. apart_back b.path a.path (earlier_then b.path o.path a.path later k)) rest in
-            ap (λ q. is_there q b.path && next_stays old new ns ahead (slice_get old.records old.at) (slice_get old.hits old.at)) path
-            ∙ (ap (λ t. t && next_stays old new ns ahead (slice_get old.records old.at) (slice_get old.hits old.at)) other
+            ap (λ q. is_there q b.path && next_stays os old new ns ahead (slice_get os old.at) (slice_get old.hits old.at)) path
+            ∙ (ap (λ t. t && next_stays os old new ns ahead (slice_get os old.at) (slice_get old.hits old.at)) other
             ∙ sym (none_stays changes os kept ns b
             (ap (at b.path) is ∙ at_none b.path (d.beside.passed ++ o ∷ cs) (each_join (λ (a : Placed). is_path a.path b.path ≡ false) d.beside.passed (o ∷ cs) lows (other, highs)))))
 
@@ -173,10 +173,10 @@ pub record Found (changes : List Change) (os : List Record) (kept : List Path) (
   pub path : o.path ≡ b.path
   pub found : at b.path (with_paths os) ≡ Some o
   pub there : slice_get (with_paths os) old.at ≡ Some o
-  pub old_record : slice_get old.records old.at ≡ Some o.it
+  pub old_record : slice_get os old.at ≡ Some o.it
 
 pub found_old : (changes : List Change) (os : List Record) (kept : List Path) (ns : List Record) (b : Placed) (more : List Placed) (ahead : Ahead) (old : OldRun) (new : NewRun) → (d : Decides changes os kept ns b more ahead old new)
-    → stays_at old new ns ahead b.path ≡ true → Found changes os kept ns b more ahead old new d
+    → stays_at os old new ns ahead b.path ≡ true → Found changes os kept ns b more ahead old new d
 found_old changes os kept ns b more ahead old new d h = by d.beside.coming refl
   where
     both : (x y : Bool) → (x && y) ≡ true → x ≡ true
@@ -184,7 +184,7 @@ found_old changes os kept ns b more ahead old new d h = by d.beside.coming refl
     both false y e = e
 
     there : is_there (slice_get old.paths old.at) b.path ≡ true
-    there = both (is_there (slice_get old.paths old.at) b.path) (next_stays old new ns ahead (slice_get old.records old.at) (slice_get old.hits old.at)) h
+    there = both (is_there (slice_get old.paths old.at) b.path) (next_stays os old new ns ahead (slice_get os old.at) (slice_get old.hits old.at)) h
 
     by : (l : List Placed) → d.beside.coming ≡ l → Found changes os kept ns b more ahead old new d
     by [] e = absurd (clash (ap (λ q. is_there q b.path) (none_dropped old.at old.paths (d.beside.paths ∙ ap (map (λ (p : Placed). p.path)) e))) there)
@@ -203,5 +203,5 @@ found_old changes os kept ns b more ahead old new d h = by d.beside.coming refl
           path = path_is o.path b.path same;
           found = ap (at b.path) is ∙ past.0;
           there = ap (λ l. slice_get l old.at) is ∙ (ap (slice_get (d.beside.passed ++ o ∷ cs)) d.beside.at ∙ get_last d.beside.passed o cs);
-          old_record = first_dropped old.at old.records o.it (map (λ (p : Placed). p.it) cs) (d.beside.records ∙ ap (map (λ (p : Placed). p.it)) e);
+          old_record = next_is changes os kept (b ∷ more) old o cs d.beside e;
         }

@@ -1,5 +1,5 @@
 pub mod Lists
-pub mod Keys
+pub mod Knowing
 pub mod Placing
 pub mod Hitting
 pub mod Marking

@@ -1,8 +1,8 @@
--- Lists from an index on, and lists with one item changed.
-use Rattle.std.proofs.Common.{◌≡◌, ◌<◌, ℕ, zero, suc, ◌+◌, Bool, true, false, List, [], ◌∷◌, ◌++◌, Option, Some, None, length, take, drop, slice_set, refl, sym, ap, ◌∙◌, arith}
+-- Lists from an index on, and the writes of some records.
+use Rattle.std.proofs.Common.{◌≡◌, ◌<◌, ℕ, zero, suc, ◌+◌, Bool, true, false, List, [], ◌∷◌, ◌++◌, Option, Some, None, length, take, drop, refl, sym, ap, ◌∙◌}
 use Rattle.std.specs.Prelude.{◌||◌, ◌&&◌, slice_get}
 use Rattle.std.specs.List.{list_any, flat_map}
-use Rattle.std.proofs.lemmas.List.{drop-drop, drop-set-lt, nil_from_length, take_more}
+use Rattle.std.proofs.lemmas.List.{drop-drop, nil_from_length, take_more}
 use Rattle.std.proofs.lemmas.Option.{slice_get_within, get_or_from_slice_get}
 use Rattle.std.proofs.lemmas.List.Folds.{list_any-append}
 use Rattle.mv_values.specs.declared.patch.Write.{Write}
@@ -30,16 +30,6 @@ none_dropped (suc n) (x ∷ xs) h = none_dropped n xs h
 pub next_dropped : {A : Type 0} (n : ℕ) (xs : List A) (y : A) (ys : List A) → drop n xs ≡ y ∷ ys → drop (n + 1) xs ≡ ys
 next_dropped n xs y ys h = sym (drop-drop 1 n xs) ∙ ap (drop 1) h
 
-pub set_dropped : {A : Type 0} (n : ℕ) (xs : List A) (z : A) → drop (n + 1) (slice_set xs n z) ≡ drop (n + 1) xs
-set_dropped n xs z = drop-set-lt (n + 1) xs n z (omega arith)
-
-pub get_apart : {A : Type 0} (m n : ℕ) (xs : List A) (z : A) → m < n → slice_get (slice_set xs n z) m ≡ slice_get xs m
-get_apart m n [] z h = refl
-get_apart zero zero (x ∷ xs) z h = absurd (omega (arith, h))
-get_apart (suc m) zero (x ∷ xs) z h = absurd (omega (arith, h))
-get_apart zero (suc n) (x ∷ xs) z h = refl
-get_apart (suc m) (suc n) (x ∷ xs) z h = get_apart m n xs z (omega (arith, h))
-
 pub each_take : {A : Type 0} (P : A → Type 0) (n : ℕ) (xs : List A) → Each P xs → Each P (take n xs)
 each_take P zero xs h = tt
 each_take P (suc n) [] h = tt
@@ -54,10 +44,7 @@ same_numbers : (rs ss : List Record) (ns : List ℕ) → Each (λ n. slice_get s
 same_numbers rs ss [] h = refl
 same_numbers rs ss (n ∷ ns) h = ap (λ o. writes_of o ++ writes_at ss ns) h.0 ∙ ap (λ ws. writes_of (slice_get rs n) ++ ws) (same_numbers rs ss ns h.1)
 
--- the writes of earlier records stay where a record is changed, and where one is added
-pub writes_apart : (rs : List Record) (n : ℕ) (r : Record) (ns : List ℕ) → Each (λ m. m < n) ns → writes_at (slice_set rs n r) ns ≡ writes_at rs ns
-writes_apart rs n r ns h = same_numbers rs (slice_set rs n r) ns (each_map (λ m. m < n) (λ m. slice_get (slice_set rs n r) m ≡ slice_get rs m) ns (λ m lt. get_apart m n rs r lt) h)
-
+-- the writes of earlier records stay where one is added
 pub writes_before : (rs more : List Record) (ns : List ℕ) → Each (λ m. m < length rs) ns → writes_at (rs ++ more) ns ≡ writes_at rs ns
 writes_before rs more ns h = same_numbers rs (rs ++ more) ns (each_map (λ m. m < length rs) (λ m. slice_get (rs ++ more) m ≡ slice_get rs m) ns (λ m lt. get_front rs more m lt) h)
 

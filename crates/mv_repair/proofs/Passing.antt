@@ -1,26 +1,27 @@
 -- The old run beside the new one: records that are passed, kept or left.
-use Rattle.std.proofs.Common.{◌≡◌, ◌≤◌, ◌<◌, ℕ, ◌+◌, true, false, List, [], ◌∷◌, ◌++◌, Some, map, drop, if◌then◌else◌, refl, sym, ap, subst, ◌∙◌, arith, append_assoc, append-nil, length-append, Bool, length, take}
+use Rattle.std.proofs.Common.{◌≡◌, ◌≤◌, ◌<◌, ℕ, ◌+◌, true, false, List, [], ◌∷◌, ◌++◌, Some, map, if◌then◌else◌, refl, sym, ap, subst, ◌∙◌, arith, append_assoc, append-nil, length-append, Bool, length, take}
 use Rattle.std.specs.Prelude.{slice_get}
 use Rattle.std.specs.Ordering.{nat_cmp}
 use Rattle.std.specs.Cmp.Lexicographic.{slice_cmp}
 use Rattle.std.proofs.lemmas.Grind.{flat_map-append}
-use Rattle.std.proofs.lemmas.List.{map-append, take-append-le}
+use Rattle.std.proofs.lemmas.List.{length-map, map-append, take-append-le}
 use Rattle.mv_values.specs.declared.patch.Write.{Write}
 use Rattle.mv_values.proofs.Deciding.{less_is}
 use Rattle.mv_record.specs.declared.record.Record.{Record}
 use Rattle.mv_record.specs.Paths.{IsEarlierPath}
 use Rattle.mv_recorded.specs.Own.{Each}
-use Rattle.mv_undo.specs.declared.owned.Owned.{Owned}
+use Rattle.mv_recorded.proofs.Held.{get_last}
 use Rattle.mv_history.specs.declared.change.Change.{Change}
 use Rattle.mv_history.specs.Hits.{any_hits}
 use Rattle.mv_history.specs.Kept.{Path, Placed, with_paths, is_path, among, other_writes}
 use Rattle.mv_alike.proofs.Keeping.{Climbs, among_new}
-use Rattle.mv_alike.proofs.Placing.{apart, its}
+use Rattle.mv_alike.proofs.Placing.{apart, its, its_all}
 use Rattle.mv_repair.specs.declared.walk.OldRun.{OldRun}
-use Rattle.mv_repair.specs.Walking.{any_write, noted, hollow, is_before, hits_in, writes_of, without_next, next_writes, noted_next, AreKnown, HasLearnt, IsOld, HasPassed, writes_at}
+use Rattle.mv_repair.specs.Keys.{TableKeys}
+use Rattle.mv_repair.specs.Walking.{any_write, noted, is_before, hits_in, writes_of, next_writes, noted_next, AreKnown, HasLearnt, IsOld, HasPassed, writes_at}
 use Rattle.mv_recorded.proofs.Inverting.{each_join, each_map}
 use Rattle.mv_alike.proofs.Walking.{earlier_then, climbs_parts}
-use Rattle.mv_repair.proofs.Lists.{each_take, first_dropped, none_dropped, next_dropped, set_dropped, writes_apart}
+use Rattle.mv_repair.proofs.Lists.{first_dropped, none_dropped, next_dropped}
 use Rattle.mv_repair.proofs.Marking.{not_among, among_still}
 
 abbrev all_before : List Placed → List Placed → Type 0
@@ -89,12 +90,20 @@ behind_first o cs ks h = each_map (λ k. Each (λ (a : Placed). IsEarlierPath k 
 more_below : (at : ℕ) (ns : List ℕ) → Each (λ n. n < at) ns → Each (λ n. n < at + 1) ns
 more_below at ns h = each_map (λ n. n < at) (λ n. n < at + 1) ns (λ n lt. omega (arith, lt)) h
 
+-- The next record of the old run
+
+pub next_is : (changes : List Change) (os : List Record) (kept : List Path) (rest : List Placed) (old : OldRun) (o : Placed) (cs : List Placed) → (h : IsOld changes os kept rest old) → h.coming ≡ o ∷ cs → slice_get os old.at ≡ Some o.it
+next_is changes os kept rest old o cs h e =
+    let all : os ≡ its h.passed ++ o.it ∷ its cs = sym (its_all os) ∙ (ap its (h.split ∙ ap (λ l. h.passed ++ l) e) ∙ map-append (λ (p : Placed). p.it) h.passed (o ∷ cs)) in
+    let at : old.at ≡ length (its h.passed) = h.at ∙ sym (length-map h.passed (λ (p : Placed). p.it)) in
+    ap (λ l. slice_get l old.at) all ∙ (ap (slice_get (its h.passed ++ o.it ∷ its cs)) at ∙ get_last (its h.passed) o.it (its cs))
+
 -- One record that is passed
 
-pub passed_next : (old : OldRun) (p : Path) → is_before (slice_get old.paths old.at) p ≡ true → HasPassed old p (record (noted_next old) { at = old.at + 1 })
-passed_next old p yes' changes os kept b more is later h = by h.coming refl
+pub passed_next : (os : List Record) (old : OldRun) (p : Path) → is_before (slice_get old.paths old.at) p ≡ true → HasPassed os old p (record (noted_next os old) { at = old.at + 1 })
+passed_next os old p yes' changes kept b more is later h = by h.coming refl
   where
-    by : (l : List Placed) → h.coming ≡ l → IsOld changes os kept (b ∷ more) (record (noted_next old) { at = old.at + 1 })
+    by : (l : List Placed) → h.coming ≡ l → IsOld changes os kept (b ∷ more) (record (noted_next os old) { at = old.at + 1 })
     by [] e = absurd (clash (ap (λ o. is_before o p) (none_dropped old.at old.paths (h.paths ∙ ap (map (λ (p : Placed). p.path)) e))) yes')
       where
         clash : is_before (slice_get old.paths old.at) p ≡ false → is_before (slice_get old.paths old.at) p ≡ true → ⊥
@@ -102,51 +111,46 @@ passed_next old p yes' changes os kept b more is later h = by h.coming refl
     by (o ∷ cs) e =
         let path : slice_get old.paths old.at ≡ Some o.path = first_dropped old.at old.paths o.path (map (λ (p : Placed). p.path) cs) (h.paths ∙ ap (map (λ (p : Placed). p.path)) e) in
         let less : IsEarlierPath o.path b.path = subst (IsEarlierPath o.path) (sym is) (less_is (slice_cmp nat_cmp o.path p) (sym (ap (λ q. is_before q p) path) ∙ yes')) in
-        let records : drop old.at old.records ≡ o.it ∷ its cs = h.records ∙ ap its e in
         let behind : Each (λ k. Each (λ (a : Placed). IsEarlierPath k a.path) (o ∷ cs)) kept = subst (λ l. Each (λ k. Each (λ (a : Placed). IsEarlierPath k a.path) l) kept) e h.behind in
-        let written : writes_of (slice_get old.records old.at) ≡ o.it.writes = ap writes_of (first_dropped old.at old.records o.it (its cs) records) in
+        let written : writes_of (slice_get os old.at) ≡ o.it.writes = ap writes_of (next_is changes os kept (b ∷ more) old o cs h e) in
         record {
           passed = h.passed ++ o ∷ [];
           coming = cs;
           split = h.split ∙ (ap (λ l. h.passed ++ l) e ∙ sym (append_assoc h.passed (o ∷ []) cs));
           at = omega (arith, h.at, length-append h.passed (o ∷ []));
-          records = next_dropped old.at old.records o.it (its cs) records;
           paths = next_dropped old.at old.paths o.path (map (λ (p : Placed). p.path) cs) (h.paths ∙ ap (map (λ (p : Placed). p.path)) e);
           hits = next_dropped old.at old.hits (any_hits changes (its h.passed) o.it) (hits_in changes (its h.passed ++ o.it ∷ []) (its cs)) (h.hits ∙ ap (λ l. hits_in changes (its h.passed) (its l)) e)
               ∙ ap (λ l. hits_in changes l (its cs)) (sym (map-append (λ (p : Placed). p.it) h.passed (o ∷ [])));
           others =
-              subst (λ w. writes_at old.records (noted (any_write w) old.at old.others) ≡ other_writes kept (h.passed ++ o ∷ [])) (sym written)
-              (noted_writes old.records old.at old.others o.it.writes written
+              subst (λ w. writes_at os (noted (any_write w) old.at old.others) ≡ other_writes kept (h.passed ++ o ∷ [])) (sym written)
+              (noted_writes os old.at old.others o.it.writes written
               ∙ (ap (λ ws. ws ++ o.it.writes) h.others
               ∙ (ap (λ ws. other_writes kept h.passed ++ ws) (sym (one_other kept o (not_among kept o.path (behind_first o cs kept behind)))) ∙ sym (others_both kept h.passed (o ∷ [])))));
           numbers = subst (λ w. Each (λ n. n < old.at + 1) (noted (any_write w) old.at old.others)) (sym written) (noted_below old.at (old.at + 1) old.others (any_write o.it.writes) (omega arith) (more_below old.at old.others h.numbers));
-          first = h.first;
-          within = noted_longer old.known old.at old.others (any_write (next_writes old)) h.within;
-          known = subst (λ l. AreKnown old.keys (writes_at old.records l)) (sym (noted_take old.known old.at old.others (any_write (next_writes old)) h.within)) h.known;
+          within = noted_longer old.known old.at old.others (any_write (next_writes os old)) h.within;
+          known = subst (λ l. AreKnown old.keys (writes_at os l)) (sym (noted_take old.known old.at old.others (any_write (next_writes os old)) h.within)) h.known;
           below = each_join (λ (a : Placed). Each (λ (c : Placed). IsEarlierPath a.path c.path) (b ∷ more)) h.passed (o ∷ []) h.below ((less, after_all o.path b.path more less later), tt);
           behind = behind_rest o cs kept behind;
         }
 
-pub passed_none : (old : OldRun) (p : Path) → HasPassed old p old
-passed_none old p changes os kept b more is later h = h
+pub passed_none : (os : List Record) (old : OldRun) (p : Path) → HasPassed os old p old
+passed_none os old p changes kept b more is later h = h
 
-pub passed_then : (old mid new : OldRun) (p : Path) → HasPassed old p mid → HasPassed mid p new → HasPassed old p new
-passed_then old mid new p f g changes os kept b more is later h = g changes os kept b more is later (f changes os kept b more is later h)
+pub passed_then : (os : List Record) (old mid new : OldRun) (p : Path) → HasPassed os old p mid → HasPassed os mid p new → HasPassed os old p new
+passed_then os old mid new p f g changes kept b more is later h = g changes kept b more is later (f changes kept b more is later h)
 
 -- more keys are known
-pub learnt_old : (changes : List Change) (os : List Record) (kept : List Path) (rest : List Placed) (old : OldRun) (keys : List Owned) (known : ℕ) → HasLearnt old.records old.others old.keys old.known keys known
+pub learnt_old : (changes : List Change) (os : List Record) (kept : List Path) (rest : List Placed) (old : OldRun) (keys : List TableKeys) (known : ℕ) → HasLearnt os old.others old.keys old.known keys known
     → IsOld changes os kept rest old → IsOld changes os kept rest (record old { keys = keys; known = known })
 learnt_old changes os kept rest old keys known learnt h = record {
   passed = h.passed;
   coming = h.coming;
   split = h.split;
   at = h.at;
-  records = h.records;
   paths = h.paths;
   hits = h.hits;
   others = h.others;
   numbers = h.numbers;
-  first = learnt.first;
   within = learnt.within;
   known = learnt.still h.known;
   below = h.below;
@@ -159,9 +163,8 @@ climbs_at : (os xs : List Record) (passed : List Placed) (o : Placed) (cs : List
 climbs_at os xs passed o cs climbs is = (climbs_parts passed o cs (subst Climbs is climbs)).1
 
 pub old_kept : (changes : List Change) (os : List Record) (kept : List Path) (b : Placed) (more : List Placed) (old : OldRun) (o : Placed) (cs : List Placed) → Climbs (with_paths os)
-    → (h : IsOld changes os kept (b ∷ more) old) → h.coming ≡ o ∷ cs → o.path ≡ b.path → Each (λ (c : Placed). IsEarlierPath b.path c.path) more → IsOld changes os (kept ++ b.path ∷ []) more (without_next old)
+    → (h : IsOld changes os kept (b ∷ more) old) → h.coming ≡ o ∷ cs → o.path ≡ b.path → Each (λ (c : Placed). IsEarlierPath b.path c.path) more → IsOld changes os (kept ++ b.path ∷ []) more (record old { at = old.at + 1 })
 old_kept changes os kept b more old o cs climbs h e same later =
-    let records : drop old.at old.records ≡ o.it ∷ its cs = h.records ∙ ap its e in
     let is : with_paths os ≡ h.passed ++ o ∷ cs = h.split ∙ ap (λ l. h.passed ++ l) e in
     let behind : Each (λ k. Each (λ (a : Placed). IsEarlierPath k a.path) (o ∷ cs)) kept = subst (λ l. Each (λ k. Each (λ (a : Placed). IsEarlierPath k a.path) l) kept) e h.behind in
     record {
@@ -169,21 +172,18 @@ old_kept changes os kept b more old o cs climbs h e same later =
       coming = cs;
       split = is ∙ sym (append_assoc h.passed (o ∷ []) cs);
       at = omega (arith, h.at, length-append h.passed (o ∷ []));
-      records = set_dropped old.at old.records hollow ∙ next_dropped old.at old.records o.it (its cs) records;
       paths = next_dropped old.at old.paths o.path (map (λ (p : Placed). p.path) cs) (h.paths ∙ ap (map (λ (p : Placed). p.path)) e);
       hits = next_dropped old.at old.hits (any_hits changes (its h.passed) o.it) (hits_in changes (its h.passed ++ o.it ∷ []) (its cs)) (h.hits ∙ ap (λ l. hits_in changes (its h.passed) (its l)) e)
           ∙ ap (λ l. hits_in changes l (its cs)) (sym (map-append (λ (p : Placed). p.it) h.passed (o ∷ [])));
       others =
-          writes_apart old.records old.at hollow old.others h.numbers
-          ∙ (h.others
+          h.others
           ∙ (sym (others_still kept b.path h.passed (all_apart b.path h.passed (lower b more h.passed h.below)))
           ∙ (sym (append-nil (other_writes (kept ++ b.path ∷ []) h.passed))
           ∙ (ap (λ ws. other_writes (kept ++ b.path ∷ []) h.passed ++ ws) (sym (no_other (kept ++ b.path ∷ []) o (ap (among (kept ++ b.path ∷ [])) same ∙ among_new kept b.path)))
-          ∙ sym (others_both (kept ++ b.path ∷ []) h.passed (o ∷ []))))));
+          ∙ sym (others_both (kept ++ b.path ∷ []) h.passed (o ∷ [])))));
       numbers = more_below old.at old.others h.numbers;
-      first = h.first;
       within = h.within;
-      known = subst (AreKnown old.keys) (sym (writes_apart old.records old.at hollow (take old.known old.others) (each_take (λ n. n < old.at) old.known old.others h.numbers))) h.known;
+      known = h.known;
       below = each_join (λ (a : Placed). Each (λ (c : Placed). IsEarlierPath a.path c.path) more) h.passed (o ∷ []) (lower_rest b more h.passed h.below) (same_before o.path b.path more same later, tt);
       behind = each_join (λ k. Each (λ (a : Placed). IsEarlierPath k a.path) cs) kept (b.path ∷ []) (behind_rest o cs kept behind) (same_before b.path o.path cs (sym same) (climbs_at os [] h.passed o cs climbs is), tt);
     }
@@ -194,12 +194,10 @@ old_left changes os kept b more old h = record {
   coming = h.coming;
   split = h.split;
   at = h.at;
-  records = h.records;
   paths = h.paths;
   hits = h.hits;
   others = h.others;
   numbers = h.numbers;
-  first = h.first;
   within = h.within;
   known = h.known;
   below = lower_rest b more h.passed h.below;

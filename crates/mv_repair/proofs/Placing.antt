@@ -1,5 +1,5 @@
 -- The paths of records, one record more.
-use Rattle.std.proofs.Common.{◌≡◌, ℕ, zero, suc, ◌+◌, List, [], ◌∷◌, ◌++◌, Some, None, map, length, drop, nat_lt, if◌then◌else◌, refl, sym, ap, ◌∙◌, arith, length-append}
+use Rattle.std.proofs.Common.{◌≡◌, ℕ, zero, suc, ◌+◌, List, [], ◌∷◌, ◌++◌, Option, Some, None, map, length, take, drop, nat_lt, if◌then◌else◌, refl, sym, ap, ◌∙◌, arith, length-append}
 use Rattle.std.specs.Prelude.{slice_get}
 use Rattle.std.specs.Option.{option_and_then}
 use Rattle.std.proofs.lemmas.List.{length-map, map_push, nil_from_length}
@@ -10,6 +10,7 @@ use Rattle.mv_recorded.proofs.Nesting.{many_nests}
 use Rattle.mv_history.specs.Kept.{Path, Placed, zip_paths, with_paths, next_placed}
 use Rattle.mv_history.proofs.Joining.{placed_front}
 use Rattle.mv_repair.specs.Walking.{path_behind}
+use Rattle.mv_repair.proofs.Lists.{got_there}
 
 -- How many there are
 
@@ -49,7 +50,22 @@ paths_more xs r =
     ∙ (ap (map (λ (p : Placed). p.path)) (placed_more xs r)
     ∙ (map_push (λ (p : Placed). p.path) (with_paths xs) (next_placed xs r) ∙ ap (λ l. l ++ path_behind xs r.spot r.parent ∷ []) (placed_paths xs)))
 
--- The order of paths
+-- the path of the record that was got
+pub path_next : (rs : List Record) (n : ℕ) (r : Record) (before : List Record) (known : List Path) (statement : ℕ) (turns : List ℕ) (parent : Option ℕ) (p : Path) → slice_get rs n ≡ Some r → before ≡ take n rs → known ≡ paths (take n rs)
+    → statement ≡ r.spot.statement → turns ≡ r.spot.turns → parent ≡ r.parent → p ≡ path_behind before (record { statement = statement; turns = turns }) parent → known ++ p ∷ [] ≡ paths (take (n + 1) rs)
+path_next rs n r before known statement turns parent p there front all s t c is =
+    ap (λ l. l ++ p ∷ []) all
+    ∙ (ap (λ q. paths (take n rs) ++ q ∷ []) at
+    ∙ (sym (paths_more (take n rs) r) ∙ ap paths (sym (got_there rs n r there))))
+  where
+    spot : (a : ℕ) (b : List ℕ) → Spot
+    spot a b = record { statement = a; turns = b }
+
+    at : p ≡ path_behind (take n rs) r.spot r.parent
+    at = is
+        ∙ (ap (λ (l : List Record). path_behind l (spot statement turns) parent) front
+        ∙ (ap (λ a. path_behind (take n rs) (spot a turns) parent) s
+        ∙ (ap (λ b. path_behind (take n rs) (spot r.spot.statement b) parent) t ∙ ap (path_behind (take n rs) r.spot) c)))
 
 -- The path of one record
 

@@ -1,13 +1,11 @@
 -- The beginning and the end of a repair.
 use Rattle.std.proofs.Common.{◌≡◌, ℕ, ◌+◌, ◌*◌, Bool, true, Option, List, [], ◌++◌, length, refl, sym, ap, subst, ◌∙◌, arith, append-nil}
-use Rattle.std.proofs.lemmas.List.Elements.{All-nil}
 use Rattle.mv_values.specs.declared.calls.Call.{Call}
 use Rattle.mv_values.specs.Tables.{Tables}
 use Rattle.mv_record.specs.declared.record.Record.{Record}
 use Rattle.mv_record.specs.Paths.{paths}
 use Rattle.mv_record.specs.Runs.{writes_in}
 use Rattle.mv_record.specs.Writes.{AreRising}
-use Rattle.mv_undo.specs.declared.owned.Owned.{Owned}
 use Rattle.mv_view.specs.Viewing.{Sight}
 use Rattle.mv_effect.specs.Looking.{AskedAtMost, different}
 use Rattle.mv_graph.specs.declared.graph.Graph.{Graph}
@@ -20,6 +18,7 @@ use Rattle.mv_history.specs.Kept.{Path, Placed, with_paths, executions, kept_pat
 use Rattle.mv_alike.proofs.Placing.{its_all}
 use Rattle.mv_repair.specs.declared.walk.OldRun.{OldRun}
 use Rattle.mv_repair.specs.declared.walk.NewRun.{NewRun}
+use Rattle.mv_repair.specs.Keys.{TableKeys}
 use Rattle.mv_repair.specs.Repairing.{IsRepairable, queried, HasQueried}
 use Rattle.mv_repair.specs.Walking.{hits_in, IsOld, IsNew, IsUnderway}
 use Rattle.mv_repair.proofs.Asking.{keys_within, queried_once}
@@ -27,63 +26,62 @@ use Rattle.mv_repair.proofs.Placing.{placed_paths}
 
 -- A call that has ended has all records of its full run
 
-pub all_of : (g : Graph) (call : Call) (db : Tables) (task : Task) → AreRising db → IsTaskOn g call db task → task.ended ≡ true → task.records ≡ (meaning_of g call db).records
+pub all_of : (g : Graph) (call : Call) (db : Tables) (task : Task) → AreRising db → IsTaskOn g call db task → task.ended ≡ true → task.log.records ≡ (meaning_of g call db).records
 all_of g call db task rise on ended =
     let none : on.rest ≡ [] = (ends_exactly g call db task on.rest on.is rise on.leaves).0 ended in
-    sym (append-nil task.records) ∙ (ap (λ rs. task.records ++ rs) (sym none) ∙ sym on.leaves)
+    sym (append-nil task.log.records) ∙ (ap (λ rs. task.log.records ++ rs) (sym none) ∙ sym on.leaves)
 
 -- The beginning
 
-pub begins : (g : Graph) (changes : List Change) (db : Tables) (was task : Task) (old : OldRun) (new : NewRun) → IsRepairable g was changes db → IsSameCall g was task → task.records ≡ [] → task.executed ≡ 0
-    → old ≡ record { records = was.records; paths = paths was.records; hits = hits_in changes [] was.records; at = 0; others = []; keys = []; known = 0 } → new ≡ record { paths = []; kept = []; others = []; keys = []; known = 0 }
-    → IsUnderway g changes db was.records task old new
-begins g changes db was task old new r same none zero old_is new_is = record {
+pub begins : (g : Graph) (changes : List Change) (db : Tables) (was task : Task) (old : OldRun) (new : NewRun) → IsRepairable g was changes db → IsSameCall g was task → task.log.records ≡ [] → task.executed ≡ 0 → task.log.past ≡ was.log.records → task.log.kept ≡ 0
+    → old ≡ record { paths = paths was.log.records; hits = hits_in changes [] was.log.records; at = 0; others = []; keys = []; known = 0 } → new ≡ record { paths = []; kept = []; others = []; keys = []; known = 0 }
+    → IsUnderway g changes db was.log.records task old new
+begins g changes db was task old new r same none zero past kept old_is new_is = record {
   call = r.call;
   was = r.old;
   runs = r.runs;
   olds = all_of g r.call r.old was r.runs.old_is.rising r.on r.ended;
+  past = past;
+  rises = omega (arith, kept);
   is = same r.call r.on.is;
   left = (meaning_of g r.call db).records;
   leaves = ap (λ l. l ++ (meaning_of g r.call db).records) (sym none);
   rest = rest;
   split = ap (λ l. with_paths l ++ rest) (sym none);
   beside =
-      subst (λ (rs : List Record). IsOld changes was.records (kept_paths was.records rs changes) rest old) (sym none)
-      (subst (IsOld changes was.records [] rest) (sym old_is) (record {
+      subst (λ (rs : List Record). IsOld changes was.log.records (kept_paths was.log.records rs changes) rest old) (sym none)
+      (subst (IsOld changes was.log.records [] rest) (sym old_is) (record {
         passed = [];
-        coming = with_paths was.records;
+        coming = with_paths was.log.records;
         split = refl;
         at = refl;
-        records = sym (its_all was.records);
-        paths = sym (placed_paths was.records);
-        hits = ap (hits_in changes []) (sym (its_all was.records));
+        paths = sym (placed_paths was.log.records);
+        hits = ap (hits_in changes []) (sym (its_all was.log.records));
         others = refl;
         numbers = tt;
-        first = All-nil _;
         within = omega arith;
         known = tt;
         below = tt;
         behind = tt;
       }));
   along =
-      subst (λ (rs : List Record). IsNew was.records (kept_paths was.records rs changes) rest rs new) (sym none)
-      (subst (IsNew was.records [] rest []) (sym new_is) (record { paths = refl; marks = tt; others = refl; numbers = tt; first = All-nil _; within = omega arith; known = tt; behind = tt }));
-  count = subst (λ (rs : List Record). task.executed + length (kept_paths was.records rs changes) ≡ length rs) (sym none) (omega (arith, zero));
+      subst (λ (rs : List Record). IsNew was.log.records (kept_paths was.log.records rs changes) rest rs new) (sym none)
+      (subst (IsNew was.log.records [] rest []) (sym new_is) (record { paths = refl; marks = tt; others = refl; numbers = tt; within = omega arith; known = tt; behind = tt }));
+  count = subst (λ (rs : List Record). task.executed + length (kept_paths was.log.records rs changes) ≡ length rs) (sym none) (omega (arith, zero));
 }
   where
     rest : List Placed
     rest = with_paths (meaning_of g r.call db).records
 
-same_old : (a b : List Record) (ps qs : List Path) (hs is : List Bool) (ns : List ℕ) (ks : List Owned) → a ≡ b → ps ≡ qs → hs ≡ is → ns ≡ [] → ks ≡ []
-    → ◌≡◌ {A = OldRun} (record { records = a; paths = ps; hits = hs; at = 0; others = ns; keys = ks; known = 0 }) (record { records = b; paths = qs; hits = is; at = 0; others = []; keys = []; known = 0 })
-same_old a b ps qs hs is ns ks h k l m n =
-    ap (λ x. (let o : OldRun = record { records = x; paths = ps; hits = hs; at = 0; others = ns; keys = ks; known = 0 } in o)) h
-    ∙ (ap (λ x. (let o : OldRun = record { records = b; paths = x; hits = hs; at = 0; others = ns; keys = ks; known = 0 } in o)) k
-    ∙ (ap (λ x. (let o : OldRun = record { records = b; paths = qs; hits = x; at = 0; others = ns; keys = ks; known = 0 } in o)) l
-    ∙ (ap (λ x. (let o : OldRun = record { records = b; paths = qs; hits = is; at = 0; others = x; keys = ks; known = 0 } in o)) m
-    ∙ ap (λ x. (let o : OldRun = record { records = b; paths = qs; hits = is; at = 0; others = []; keys = x; known = 0 } in o)) n)))
+same_old : (ps qs : List Path) (hs is : List Bool) (ns : List ℕ) (ks : List TableKeys) → ps ≡ qs → hs ≡ is → ns ≡ [] → ks ≡ []
+    → ◌≡◌ {A = OldRun} (record { paths = ps; hits = hs; at = 0; others = ns; keys = ks; known = 0 }) (record { paths = qs; hits = is; at = 0; others = []; keys = []; known = 0 })
+same_old ps qs hs is ns ks k l m n =
+    ap (λ x. (let o : OldRun = record { paths = x; hits = hs; at = 0; others = ns; keys = ks; known = 0 } in o)) k
+    ∙ (ap (λ x. (let o : OldRun = record { paths = qs; hits = x; at = 0; others = ns; keys = ks; known = 0 } in o)) l
+    ∙ (ap (λ x. (let o : OldRun = record { paths = qs; hits = is; at = 0; others = x; keys = ks; known = 0 } in o)) m
+    ∙ ap (λ x. (let o : OldRun = record { paths = qs; hits = is; at = 0; others = []; keys = x; known = 0 } in o)) n))
 
-same_new : (ps : List Path) (ks : List (Option ℕ)) (ns : List ℕ) (ms : List Owned) → ps ≡ [] → ks ≡ [] → ns ≡ [] → ms ≡ []
+same_new : (ps : List Path) (ks : List (Option ℕ)) (ns : List ℕ) (ms : List TableKeys) → ps ≡ [] → ks ≡ [] → ns ≡ [] → ms ≡ []
     → ◌≡◌ {A = NewRun} (record { paths = ps; kept = ks; others = ns; keys = ms; known = 0 }) (record { paths = []; kept = []; others = []; keys = []; known = 0 })
 same_new ps ks ns ms h k l m =
     ap (λ x. (let o : NewRun = record { paths = x; kept = ks; others = ns; keys = ms; known = 0 } in o)) h
@@ -92,12 +90,12 @@ same_new ps ks ns ms h k l m =
     ∙ ap (λ x. (let o : NewRun = record { paths = []; kept = []; others = []; keys = x; known = 0 } in o)) m))
 
 -- what `repair` makes
-pub begun : (g : Graph) (changes : List Change) (db : Tables) (was task : Task) (rs : List Record) (ps : List Path) (hs : List Bool) (ns : List ℕ) (us : List Owned) (qs : List Path) (ks : List (Option ℕ)) (ms : List ℕ) (vs : List Owned)
-    → IsRepairable g was changes db → IsSameCall g was task → task.records ≡ [] → task.executed ≡ 0
-    → rs ≡ was.records → ps ≡ paths was.records → hs ≡ hits_in changes [] was.records → ns ≡ [] → us ≡ [] → qs ≡ [] → ks ≡ [] → ms ≡ [] → vs ≡ []
-    → IsUnderway g changes db was.records task (record { records = rs; paths = ps; hits = hs; at = 0; others = ns; keys = us; known = 0 }) (record { paths = qs; kept = ks; others = ms; keys = vs; known = 0 })
-begun g changes db was task rs ps hs ns us qs ks ms vs r same none zero a b c d u e f h v =
-    begins g changes db was task _ _ r same none zero (same_old rs was.records ps (paths was.records) hs (hits_in changes [] was.records) ns us a b c d u) (same_new qs ks ms vs e f h v)
+pub begun : (g : Graph) (changes : List Change) (db : Tables) (was task : Task) (ps : List Path) (hs : List Bool) (ns : List ℕ) (us : List TableKeys) (qs : List Path) (ks : List (Option ℕ)) (ms : List ℕ) (vs : List TableKeys)
+    → IsRepairable g was changes db → IsSameCall g was task → task.log.records ≡ [] → task.executed ≡ 0 → task.log.past ≡ was.log.records → task.log.kept ≡ 0
+    → ps ≡ paths was.log.records → hs ≡ hits_in changes [] was.log.records → ns ≡ [] → us ≡ [] → qs ≡ [] → ks ≡ [] → ms ≡ [] → vs ≡ []
+    → IsUnderway g changes db was.log.records task (record { paths = ps; hits = hs; at = 0; others = ns; keys = us; known = 0 }) (record { paths = qs; kept = ks; others = ms; keys = vs; known = 0 })
+begun g changes db was task ps hs ns us qs ks ms vs r same none zero past kept b c d u e f h v =
+    begins g changes db was task _ _ r same none zero past kept (same_old ps (paths was.log.records) hs (hits_in changes [] was.log.records) ns us b c d u) (same_new qs ks ms vs e f h v)
 
 -- nothing was queried yet
 pub none_queried : (os ns : List Record) (changes : List Change) (vain : ℕ) (now : Sight) → HasQueried os ns changes vain now now
@@ -106,23 +104,23 @@ none_queried os ns changes vain now = record { for_rows = omega arith; for_row =
 -- The end
 
 pub all_there : (g : Graph) (changes : List Change) (db : Tables) (os : List Record) (task : Task) (old : OldRun) (new : NewRun) → IsUnderway g changes db os task old new → task.ended ≡ true
-    → (call : Call) → IsTaskOf g call task → task.records ≡ (meaning_of g call db).records
+    → (call : Call) → IsTaskOf g call task → task.log.records ≡ (meaning_of g call db).records
 all_there g changes db os task old new u ended call is =
     all_of g u.call db task u.runs.new_is.rising (record { is = u.is; rest = u.left; leaves = u.leaves }) ended ∙ one_run g u.call call task db u.is is
 
 -- the call is on the new database
-pub is_on : (g : Graph) (call : Call) (db : Tables) (task : Task) → IsTaskOf g call task → task.records ≡ (meaning_of g call db).records → IsTaskOn g call db task
-is_on g call db task is all = record { is = is; rest = []; leaves = sym all ∙ sym (append-nil task.records) }
+pub is_on : (g : Graph) (call : Call) (db : Tables) (task : Task) → IsTaskOf g call task → task.log.records ≡ (meaning_of g call db).records → IsTaskOn g call db task
+is_on g call db task is all = record { is = is; rest = []; leaves = sym all ∙ sym (append-nil task.log.records) }
 
-pub all_counted : (g : Graph) (changes : List Change) (db : Tables) (os : List Record) (task : Task) (old : OldRun) (new : NewRun) → IsUnderway g changes db os task old new → task.executed ≡ executions os task.records changes
+pub all_counted : (g : Graph) (changes : List Change) (db : Tables) (os : List Record) (task : Task) (old : OldRun) (new : NewRun) → IsUnderway g changes db os task old new → task.executed ≡ executions os task.log.records changes
 all_counted g changes db os task old new u = omega (arith, u.count)
 
 -- A record that was tried in vain
 
-pub tried : (os : List Record) (task task' : Task) (changes : List Change) (start now after : Sight) → HasQueried os task.records changes 0 start now → IsUnchanged task task' → AskedAtMost 1 (different (writes_in task.records)) now after
-    → HasQueried os task'.records changes 1 start after
+pub tried : (os : List Record) (task task' : Task) (changes : List Change) (start now after : Sight) → HasQueried os task.log.records changes 0 start now → IsUnchanged task task' → AskedAtMost 1 (different (writes_in task.log.records)) now after
+    → HasQueried os task'.log.records changes 1 start after
 tried os task task' changes start now after q same last =
     subst (λ (rs : List Record). HasQueried os rs changes 1 start after) (sym same.records)
-    (queried_once (length (queried os task.records changes) + 0) (length (queried os task.records changes) + 1) 1 (different (writes_in task.records)) (different (writes_in (os ++ task.records))) start now after q
-    (record { for_rows = last.for_rows; for_row = let one : 1 * different (writes_in task.records) ≡ different (writes_in task.records) = omega arith in omega (arith, last.for_row, one) })
-    (keys_within os task.records) (omega arith))
+    (queried_once (length (queried os task.log.records changes) + 0) (length (queried os task.log.records changes) + 1) 1 (different (writes_in task.log.records)) (different (writes_in (os ++ task.log.records))) start now after q
+    (record { for_rows = last.for_rows; for_row = let one : 1 * different (writes_in task.log.records) ≡ different (writes_in task.log.records) = omega arith in omega (arith, last.for_row, one) })
+    (keys_within os task.log.records) (omega arith))

@@ -14,13 +14,12 @@ use Rattle.mv_recorded.specs.Own.{Each}
 use Rattle.mv_recorded.proofs.Held.{get_last}
 use Rattle.mv_recorded.proofs.Naming.{recorded_names}
 use Rattle.mv_recorded.proofs.Rising.{recorded_rises}
-use Rattle.mv_undo.specs.declared.owned.Owned.{Owned}
 use Rattle.mv_view.specs.Viewing.{Sight}
 use Rattle.mv_effect.specs.Looking.{AskedAtMost, different}
 use Rattle.mv_graph.specs.declared.graph.Graph.{Graph}
 use Rattle.mv_graph.specs.Nodes.{meaning_of}
-use Rattle.mv_exec.specs.declared.task.Ahead.{Ahead}
 use Rattle.mv_exec.specs.declared.task.Task.{Task}
+use Rattle.mv_exec.specs.Foreseen.{Ahead}
 use Rattle.mv_exec.specs.Running.{IsTaskOf, IsTaskOn, IsSameCall, IsSameCallOn, HasLeft, Foresees, IsAhead, HasContent, HasRun}
 use Rattle.mv_exec.proofs.Adding.{first_same}
 use Rattle.mv_exec.proofs.Fronts.{fewer_left}
@@ -32,6 +31,7 @@ use Rattle.mv_alike.proofs.Keeping.{Climbs, climbs_of, among_new}
 use Rattle.mv_alike.proofs.Meant.{next_same}
 use Rattle.mv_repair.specs.declared.walk.OldRun.{OldRun}
 use Rattle.mv_repair.specs.declared.walk.NewRun.{NewRun}
+use Rattle.mv_repair.specs.Keys.{TableKeys}
 use Rattle.mv_repair.specs.Repairing.{queried, HasQueried}
 use Rattle.mv_repair.specs.Walking.{path_behind, is_before, writes_of, next_stays, is_there, stays_at, added, renewed, IsOld, AreMarked, IsNew, IsUnderway, HasPassed, HasKept, any_write, writes_at, AreKnown, AreKnownIfMany, HasLearnt, HasCaughtUp}
 use Rattle.mv_repair.specs.Stepping.{HasStepped, IsOnWay}
@@ -55,40 +55,40 @@ pub record Comes (g : Graph) (changes : List Change) (db : Tables) (os : List Re
   pub tail : List Record
   pub more : List Placed
   pub left_is : u.left ≡ r ∷ tail
-  pub rest_is : u.rest ≡ next_placed task.records r ∷ more
-  pub all : (meaning_of g u.call db).records ≡ task.records ++ r ∷ tail
-  pub placed : with_paths (meaning_of g u.call db).records ≡ with_paths task.records ++ next_placed task.records r ∷ more
+  pub rest_is : u.rest ≡ next_placed task.log.records r ∷ more
+  pub all : (meaning_of g u.call db).records ≡ task.log.records ++ r ∷ tail
+  pub placed : with_paths (meaning_of g u.call db).records ≡ with_paths task.log.records ++ next_placed task.log.records r ∷ more
   pub parent : r.parent ≡ ahead.parent
   pub reads : r.reads ≡ ahead.reads
-  pub path : (next_placed task.records r).path ≡ p
-  pub before : Each (λ (a : Placed). IsEarlierPath a.path (next_placed task.records r).path) (with_paths task.records)
-  pub later : Each (λ (c : Placed). IsEarlierPath (next_placed task.records r).path c.path) more
-  pub early : IsEarlier (length task.records) r.parent
-  pub early_reads : ReadsEarlier (length task.records) r.reads
+  pub path : (next_placed task.log.records r).path ≡ p
+  pub before : Each (λ (a : Placed). IsEarlierPath a.path (next_placed task.log.records r).path) (with_paths task.log.records)
+  pub later : Each (λ (c : Placed). IsEarlierPath (next_placed task.log.records r).path c.path) more
+  pub early : IsEarlier (length task.log.records) r.parent
+  pub early_reads : ReadsEarlier (length task.log.records) r.reads
 
 pub comes : (g : Graph) (changes : List Change) (db : Tables) (os : List Record) (task : Task) (old : OldRun) (new : NewRun) (u : IsUnderway g changes db os task old new) (ahead : Ahead) (p : Path) → IsAhead g task (Some ahead)
-    → p ≡ path_behind task.records ahead.spot ahead.parent → Comes g changes db os task old new u ahead p
+    → p ≡ path_behind task.log.records ahead.spot ahead.parent → Comes g changes db os task old new u ahead p
 comes g changes db os task old new u ahead p next is = by u.left refl (next u.call db u.left u.is u.runs.new_is.rising u.leaves)
   where
     by : (l : List Record) → u.left ≡ l → Foresees (Some ahead) l → Comes g changes db os task old new u ahead p
     by [] e f = absurd f
     by (r ∷ tail) e f =
-        let all : (meaning_of g u.call db).records ≡ task.records ++ r ∷ tail = u.leaves ∙ ap (λ l. task.records ++ l) e in
-        let it = placed_front task.records r tail in
-        let placed : with_paths (meaning_of g u.call db).records ≡ with_paths task.records ++ next_placed task.records r ∷ it.0 = ap with_paths all ∙ it.1 in
-        let around = climbs_parts (with_paths task.records) (next_placed task.records r) it.0 (subst Climbs placed (climbs_of (meaning_of g u.call db).records (recorded_rises g.tables g.procedure u.call db))) in
-        let names = names_at task.records r tail (length task.records) refl (subst (NamesEarlier 0) all (recorded_names g.tables g.procedure u.call db)) in
+        let all : (meaning_of g u.call db).records ≡ task.log.records ++ r ∷ tail = u.leaves ∙ ap (λ l. task.log.records ++ l) e in
+        let it = placed_front task.log.records r tail in
+        let placed : with_paths (meaning_of g u.call db).records ≡ with_paths task.log.records ++ next_placed task.log.records r ∷ it.0 = ap with_paths all ∙ it.1 in
+        let around = climbs_parts (with_paths task.log.records) (next_placed task.log.records r) it.0 (subst Climbs placed (climbs_of (meaning_of g u.call db).records (recorded_rises g.tables g.procedure u.call db))) in
+        let names = names_at task.log.records r tail (length task.log.records) refl (subst (NamesEarlier 0) all (recorded_names g.tables g.procedure u.call db)) in
         record {
           r = r;
           tail = tail;
           more = it.0;
           left_is = e;
-          rest_is = append_cancel_left (with_paths task.records) u.rest (next_placed task.records r ∷ it.0) (sym u.split ∙ placed);
+          rest_is = append_cancel_left (with_paths task.log.records) u.rest (next_placed task.log.records r ∷ it.0) (sym u.split ∙ placed);
           all = all;
           placed = placed;
           parent = f.1;
           reads = f.2;
-          path = ap (λ (s : Spot). path_behind task.records s r.parent) f.0 ∙ (ap (path_behind task.records ahead.spot) f.1 ∙ sym is);
+          path = ap (λ (s : Spot). path_behind task.log.records s r.parent) f.0 ∙ (ap (path_behind task.log.records ahead.spot) f.1 ∙ sym is);
           before = around.0;
           later = around.1;
           early = names.0;
@@ -136,7 +136,6 @@ new_kept os ns r kept more new p number o h is before later there same =
           ∙ (ap (λ ws. other_writes others (with_paths ns) ++ ws) (sym (no_other others b (among_new kept b.path)))
           ∙ (sym (others_both others (with_paths ns) (b ∷ [])) ∙ ap (other_writes others) (sym (placed_more ns r)))))));
       numbers = numbers_more (length ns) (length (ns ++ r ∷ [])) new.others (length_push ns r) h.numbers;
-      first = h.first;
       within = h.within;
       known = subst (AreKnown new.keys) (sym (writes_before ns (r ∷ []) (take new.known new.others) (each_take (λ n. n < length ns) new.known new.others h.numbers))) h.known;
       behind = each_join (λ k. Each (λ (c : Placed). IsEarlierPath k c.path) more) kept (b.path ∷ []) (behind_rest b more kept h.behind) (later, tt);
@@ -156,7 +155,6 @@ new_executed os ns r kept more new p h is =
           ∙ (ap (λ ws. other_writes kept (with_paths ns) ++ ws) (sym (one_other kept b fresh))
           ∙ (sym (others_both kept (with_paths ns) (b ∷ [])) ∙ ap (other_writes kept) (sym (placed_more ns r)))));
       numbers = noted_below (length ns) (length (ns ++ r ∷ [])) new.others (any_write r.writes) (let e = length_push ns r in omega (arith, e)) (numbers_more (length ns) (length (ns ++ r ∷ [])) new.others (length_push ns r) h.numbers);
-      first = h.first;
       within = noted_longer new.known (length ns) new.others (any_write r.writes) h.within;
       known =
           subst (λ l. AreKnown new.keys (writes_at (ns ++ r ∷ []) l)) (sym (noted_take new.known (length ns) new.others (any_write r.writes) h.within))
@@ -165,39 +163,40 @@ new_executed os ns r kept more new p h is =
     }
 
 -- more keys are known
-pub learnt_new : (os ns : List Record) (kept : List Path) (rest : List Placed) (new : NewRun) (keys : List Owned) (known : ℕ) → HasLearnt ns new.others new.keys new.known keys known
+pub learnt_new : (os ns : List Record) (kept : List Path) (rest : List Placed) (new : NewRun) (keys : List TableKeys) (known : ℕ) → HasLearnt ns new.others new.keys new.known keys known
     → IsNew os kept rest ns new → IsNew os kept rest ns (record new { keys = keys; known = known })
 learnt_new os ns kept rest new keys known learnt h = record {
   paths = h.paths;
   marks = h.marks;
   others = h.others;
   numbers = h.numbers;
-  first = learnt.first;
   within = learnt.within;
   known = learnt.still h.known;
   behind = h.behind;
 }
 
-caught : (g : Graph) (changes : List Change) (db : Tables) (os : List Record) (task : Task) (old : OldRun) (new now : NewRun) → HasCaughtUp task.records new now → IsUnderway g changes db os task old new → IsUnderway g changes db os task old now
+caught : (g : Graph) (changes : List Change) (db : Tables) (os : List Record) (task : Task) (old : OldRun) (new now : NewRun) → HasCaughtUp task.log.records new now → IsUnderway g changes db os task old new → IsUnderway g changes db os task old now
 caught g changes db os task old new now k u = record {
   call = u.call;
   was = u.was;
   runs = u.runs;
   olds = u.olds;
+  past = u.past;
+  rises = u.rises;
   is = u.is;
   left = u.left;
   leaves = u.leaves;
   rest = u.rest;
   split = u.split;
   beside = u.beside;
-  along = k.still os (kept_paths os task.records changes) u.rest u.along;
+  along = k.still os (kept_paths os task.log.records changes) u.rest u.along;
   count = u.count;
 }
 
-pub caught_way : (g : Graph) (db : Tables) (task : Task) (old : OldRun) (new now : NewRun) → HasCaughtUp task.records new now → IsOnWay g db task old new → IsOnWay g db task old now
+pub caught_way : (g : Graph) (db : Tables) (task : Task) (old : OldRun) (new now : NewRun) → HasCaughtUp task.log.records new now → IsOnWay g db task old new → IsOnWay g db task old now
 caught_way g db task old new now k w = record { changes = w.changes; os = w.os; underway = caught g w.changes db w.os task old new now k w.underway }
 
-pub caught_step : (g : Graph) (db : Tables) (task : Task) (old : OldRun) (new now : NewRun) (task' : Task) (old' : OldRun) (new' : NewRun) (before after : Sight) → HasCaughtUp task.records new now → HasStepped g db task old now task' old' new' before after
+pub caught_step : (g : Graph) (db : Tables) (task : Task) (old : OldRun) (new now : NewRun) (task' : Task) (old' : OldRun) (new' : NewRun) (before after : Sight) → HasCaughtUp task.log.records new now → HasStepped g db task old now task' old' new' before after
     → HasStepped g db task old new task' old' new' before after
 caught_step g db task old new now task' old' new' before after k s = record {
   went = λ changes os u. s.went changes os (caught g changes db os task old new now k u);
@@ -208,33 +207,35 @@ caught_step g db task old new now task' old' new' before after k s = record {
 -- The walk goes on
 
 went_on : (g : Graph) (changes : List Change) (db : Tables) (os : List Record) (task : Task) (old : OldRun) (new : NewRun) (u : IsUnderway g changes db os task old new) (ahead : Ahead) (p : Path)
-    → (c : Comes g changes db os task old new u ahead p) → (task' : Task) (old' : OldRun) (new' : NewRun) (ks : List Path) → IsTaskOf g u.call task' → task'.records ≡ task.records ++ c.r ∷ [] → HasLeft g u.call db task' c.tail
-    → kept_paths os (task.records ++ c.r ∷ []) changes ≡ ks → IsOld changes os ks c.more old' → IsNew os ks c.more (task.records ++ c.r ∷ []) new' → task'.executed + length ks ≡ length (task.records ++ c.r ∷ []) → IsUnderway g changes db os task' old' new'
-went_on g changes db os task old new u ahead p c task' old' new' ks is records leaves kept beside along count = record {
+    → (c : Comes g changes db os task old new u ahead p) → (task' : Task) (old' : OldRun) (new' : NewRun) (ks : List Path) → IsTaskOf g u.call task' → task'.log.records ≡ task.log.records ++ c.r ∷ [] → HasLeft g u.call db task' c.tail → task'.log.past ≡ task.log.past → task'.log.kept ≤ old'.at
+    → kept_paths os (task.log.records ++ c.r ∷ []) changes ≡ ks → IsOld changes os ks c.more old' → IsNew os ks c.more (task.log.records ++ c.r ∷ []) new' → task'.executed + length ks ≡ length (task.log.records ++ c.r ∷ []) → IsUnderway g changes db os task' old' new'
+went_on g changes db os task old new u ahead p c task' old' new' ks is records leaves past rises kept beside along count = record {
   call = u.call;
   was = u.was;
   runs = u.runs;
   olds = u.olds;
+  past = past ∙ u.past;
+  rises = rises;
   is = is;
   left = c.tail;
   leaves = leaves;
   rest = c.more;
   split =
       c.placed
-      ∙ (sym (append_assoc (with_paths task.records) (next_placed task.records c.r ∷ []) c.more)
-      ∙ ap (λ l. l ++ c.more) (sym (placed_more task.records c.r) ∙ ap with_paths (sym records)));
+      ∙ (sym (append_assoc (with_paths task.log.records) (next_placed task.log.records c.r ∷ []) c.more)
+      ∙ ap (λ l. l ++ c.more) (sym (placed_more task.log.records c.r) ∙ ap with_paths (sym records)));
   beside = subst (λ k. IsOld changes os k c.more old') (sym paths') beside;
-  along = subst (λ k. IsNew os k c.more task'.records new') (sym paths') (subst (λ (l : List Record). IsNew os ks c.more l new') (sym records) along);
+  along = subst (λ k. IsNew os k c.more task'.log.records new') (sym paths') (subst (λ (l : List Record). IsNew os ks c.more l new') (sym records) along);
   count = ap (λ k. task'.executed + length k) paths' ∙ (count ∙ ap length (sym records));
 }
   where
-    paths' : kept_paths os task'.records changes ≡ ks
+    paths' : kept_paths os task'.log.records changes ≡ ks
     paths' = ap (λ (l : List Record). kept_paths os l changes) records ∙ kept
 
 -- what the walk knows of the next record, where the old run was passed up to its path
 decides : (g : Graph) (changes : List Change) (db : Tables) (os : List Record) (task : Task) (old mid : OldRun) (new : NewRun) (u : IsUnderway g changes db os task old new) (ahead : Ahead) (p : Path)
-    → (c : Comes g changes db os task old new u ahead p) → HasPassed old p mid → is_before (slice_get mid.paths mid.at) p ≡ false
-    → Decides changes os (kept_paths os task.records changes) task.records (next_placed task.records c.r) c.more ahead mid new
+    → (c : Comes g changes db os task old new u ahead p) → HasPassed task.log.past old p mid → is_before (slice_get mid.paths mid.at) p ≡ false
+    → Decides changes os (kept_paths os task.log.records changes) task.log.records (next_placed task.log.records c.r) c.more ahead mid new
 decides g changes db os task old mid new u ahead p c passed stops = record {
   climbs = subst (λ (l : List Record). Climbs (with_paths l)) (sym u.olds) (climbs_of (meaning_of g u.call u.was).records (recorded_rises g.tables g.procedure u.call u.was));
   names = subst (NamesEarlier 0) (sym u.olds) (recorded_names g.tables g.procedure u.call u.was);
@@ -242,72 +243,74 @@ decides g changes db os task old mid new u ahead p c passed stops = record {
   reads = c.reads;
   early = c.early;
   early_reads = c.early_reads;
-  beside = passed changes os kept (next_placed task.records c.r) c.more c.path c.later (subst (λ l. IsOld changes os kept l old) c.rest_is u.beside);
-  along = subst (λ l. IsNew os kept l task.records new) c.rest_is u.along;
+  beside = subst (λ (xs : List Record). HasPassed xs old p mid) u.past passed changes kept (next_placed task.log.records c.r) c.more c.path c.later (subst (λ l. IsOld changes os kept l old) c.rest_is u.beside);
+  along = subst (λ l. IsNew os kept l task.log.records new) c.rest_is u.along;
   stops = ap (is_before (slice_get mid.paths mid.at)) c.path ∙ stops;
 }
   where
     kept : List Path
-    kept = kept_paths os task.records changes
+    kept = kept_paths os task.log.records changes
 
 -- what the rule says of the next record
 says : (g : Graph) (changes : List Change) (db : Tables) (os : List Record) (task : Task) (old mid : OldRun) (new : NewRun) (u : IsUnderway g changes db os task old new) (ahead : Ahead) (p : Path)
-    → (c : Comes g changes db os task old new u ahead p) → Decides changes os (kept_paths os task.records changes) task.records (next_placed task.records c.r) c.more ahead mid new
-    → (b : Bool) → stays_at mid new task.records ahead p ≡ b
-    → stays changes (kept_paths os task.records changes) (with_paths os) (with_paths task.records) (next_placed task.records c.r) ≡ b
+    → (c : Comes g changes db os task old new u ahead p) → Decides changes os (kept_paths os task.log.records changes) task.log.records (next_placed task.log.records c.r) c.more ahead mid new
+    → (b : Bool) → stays_at task.log.past mid new task.log.records ahead p ≡ b
+    → stays changes (kept_paths os task.log.records changes) (with_paths os) (with_paths task.log.records) (next_placed task.log.records c.r) ≡ b
 says g changes db os task old mid new u ahead p c d b h =
-    sym (decided changes os (kept_paths os task.records changes) task.records (next_placed task.records c.r) c.more ahead mid new d)
-    ∙ (ap (stays_at mid new task.records ahead) c.path ∙ h)
+    sym (decided changes os (kept_paths os task.log.records changes) task.log.records (next_placed task.log.records c.r) c.more ahead mid new d)
+    ∙ (ap (stays_at os mid new task.log.records ahead) c.path ∙ (ap (λ (xs : List Record). stays_at xs mid new task.log.records ahead p) (sym u.past) ∙ h))
 
 same_content : (o r : Record) → effect_in o ≡ effect_in r → r ≡ record o { spot = r.spot; parent = r.parent; reads = r.reads }
 same_content o r h = ap (record_of r.spot r.parent r.reads) (sym h)
 
 -- a record that stays has the content of the old one
 alike : (g : Graph) (changes : List Change) (db : Tables) (os : List Record) (task : Task) (old : OldRun) (new : NewRun) (u : IsUnderway g changes db os task old new) (ahead : Ahead) (p : Path)
-    → (c : Comes g changes db os task old new u ahead p) → (o : Placed) → at (next_placed task.records c.r).path (with_paths os) ≡ Some o
-    → stays changes (kept_paths os task.records changes) (with_paths os) (with_paths task.records) (next_placed task.records c.r) ≡ true → HasContent o.it c.r
+    → (c : Comes g changes db os task old new u ahead p) → (o : Placed) → at (next_placed task.log.records c.r).path (with_paths os) ≡ Some o
+    → stays changes (kept_paths os task.log.records changes) (with_paths os) (with_paths task.log.records) (next_placed task.log.records c.r) ≡ true → HasContent o.it c.r
 alike g changes db os task old new u ahead p c o found h =
-    let b : Placed = next_placed task.records c.r in
+    let b : Placed = next_placed task.log.records c.r in
     let it : AreAlike (with_paths (meaning_of g u.call u.was).records) (with_paths (meaning_of g u.call db).records) o.it c.r =
-    next_same g.tables g.procedure u.call u.was db changes u.runs (with_paths task.records) b c.more o c.placed
+    next_same g.tables g.procedure u.call u.was db changes u.runs (with_paths task.log.records) b c.more o c.placed
     (subst (λ (l : List Record). at b.path (with_paths l) ≡ Some o) u.olds found)
-    (subst (λ (l : List Record). stays changes (keep changes (with_paths l) [] [] (with_paths task.records)) (with_paths l) (with_paths task.records) b ≡ true) u.olds h) in
+    (subst (λ (l : List Record). stays changes (keep changes (with_paths l) [] [] (with_paths task.log.records)) (with_paths l) (with_paths task.log.records) b ≡ true) u.olds h) in
     same_content o.it c.r it.effect
 
 -- What the walk decides
 
 -- the keys of the others are known
-pub known_old : (g : Graph) (db : Tables) (task : Task) (old mid : OldRun) (new : NewRun) (o : Option Ahead) (ahead : Ahead) (p q : Path) (rs : List Record) → IsOnWay g db task old new → IsAhead g task o → o ≡ Some ahead
-    → rs ≡ task.records → p ≡ path_behind rs ahead.spot ahead.parent → q ≡ p → HasPassed old q mid → is_before (slice_get mid.paths mid.at) q ≡ false → (16 < length mid.others → mid.known ≡ length mid.others) → AreKnownIfMany mid.keys mid.records mid.others
-known_old g db task old mid new o ahead p q rs w next some first path second passed stops all many =
-    let c = comes g w.changes db w.os task old new w.underway ahead p (subst (IsAhead g task) some next) (subst (λ (xs : List Record). p ≡ path_behind xs ahead.spot ahead.parent) first path) in
-    let it = decides g w.changes db w.os task old mid new w.underway ahead p c (subst (λ (x : Path). HasPassed old x mid) second passed) (subst (λ (x : Path). is_before (slice_get mid.paths mid.at) x ≡ false) second stops) in
-    subst (λ l. AreKnown mid.keys (writes_at mid.records l)) (take_all mid.known mid.others (omega (arith, all many))) it.beside.known
+pub known_old : (g : Graph) (db : Tables) (task : Task) (old mid : OldRun) (new : NewRun) (o : Option Ahead) (ahead : Ahead) (p q : Path) (os : List Record) → IsOnWay g db task old new → IsAhead g task o → o ≡ Some ahead
+    → p ≡ path_behind task.log.records ahead.spot ahead.parent → q ≡ p → os ≡ task.log.past → HasPassed os old q mid → is_before (slice_get mid.paths mid.at) q ≡ false → (16 < length mid.others → mid.known ≡ length mid.others)
+    → AreKnownIfMany mid.keys task.log.past mid.others
+known_old g db task old mid new o ahead p q os w next some path second past passed stops all many =
+    let c = comes g w.changes db w.os task old new w.underway ahead p (subst (IsAhead g task) some next) path in
+    let it = decides g w.changes db w.os task old mid new w.underway ahead p c (subst (λ (x : Path). HasPassed task.log.past old x mid) second (subst (λ (xs : List Record). HasPassed xs old q mid) past passed))
+    (subst (λ (x : Path). is_before (slice_get mid.paths mid.at) x ≡ false) second stops) in
+    subst (λ (xs : List Record). AreKnown mid.keys (writes_at xs mid.others)) (sym w.underway.past)
+    (subst (λ l. AreKnown mid.keys (writes_at w.os l)) (take_all mid.known mid.others (omega (arith, all many))) it.beside.known)
 
-pub known_new : (g : Graph) (db : Tables) (task : Task) (old : OldRun) (new now : NewRun) (rs : List Record) → IsOnWay g db task old new → HasCaughtUp task.records new now → rs ≡ task.records → AreKnownIfMany now.keys rs now.others
-known_new g db task old new now rs w k is many =
+pub known_new : (g : Graph) (db : Tables) (task : Task) (old : OldRun) (new now : NewRun) → IsOnWay g db task old new → HasCaughtUp task.log.records new now → AreKnownIfMany now.keys task.log.records now.others
+known_new g db task old new now w k many =
     let u = caught g w.changes db w.os task old new now k w.underway in
-    subst (λ (xs : List Record). AreKnown now.keys (writes_at xs now.others)) (sym is)
-    (subst (λ l. AreKnown now.keys (writes_at task.records l)) (take_all now.known now.others (omega (arith, k.all many))) u.along.known)
+    subst (λ l. AreKnown now.keys (writes_at task.log.records l)) (take_all now.known now.others (omega (arith, k.all many))) u.along.known
 
 -- the old run was passed up to the path of the next record, and the walk has decided whether that record stays
 pub record HasDecided (g : Graph) (task : Task) (old mid : OldRun) (new : NewRun) (ahead : Ahead) (p : Path) (b : Bool) : Type 0 where
   pub next : IsAhead g task (Some ahead)
-  pub path : p ≡ path_behind task.records ahead.spot ahead.parent
-  pub passed : HasPassed old p mid
+  pub path : p ≡ path_behind task.log.records ahead.spot ahead.parent
+  pub passed : HasPassed task.log.past old p mid
   pub stops : is_before (slice_get mid.paths mid.at) p ≡ false
-  pub stays : stays_at mid new task.records ahead p ≡ b
+  pub stays : stays_at task.log.past mid new task.log.records ahead p ≡ b
 
 -- the same of what `step` has
-pub has_decided : (g : Graph) (task : Task) (old mid : OldRun) (new : NewRun) (o : Option Ahead) (ahead : Ahead) (p q u : Path) (rs ss : List Record) (r b : Bool) → IsAhead g task o → o ≡ Some ahead
-    → rs ≡ task.records → p ≡ path_behind rs ahead.spot ahead.parent → q ≡ p → HasPassed old q mid → is_before (slice_get mid.paths mid.at) q ≡ false
-    → ss ≡ task.records → u ≡ p → r ≡ stays_at mid new ss ahead u → r ≡ b → HasDecided g task old mid new ahead p b
-has_decided g task old mid new o ahead p q u rs ss r b next some first path second passed stops third fourth stays is = record {
+pub has_decided : (g : Graph) (task : Task) (old mid : OldRun) (new : NewRun) (o : Option Ahead) (ahead : Ahead) (p q u : Path) (os : List Record) (r b : Bool) → IsAhead g task o → o ≡ Some ahead
+    → p ≡ path_behind task.log.records ahead.spot ahead.parent → q ≡ p → os ≡ task.log.past → HasPassed os old q mid → is_before (slice_get mid.paths mid.at) q ≡ false
+    → u ≡ p → r ≡ stays_at task.log.past mid new task.log.records ahead u → r ≡ b → HasDecided g task old mid new ahead p b
+has_decided g task old mid new o ahead p q u os r b next some path second past passed stops third stays is = record {
   next = subst (IsAhead g task) some next;
-  path = subst (λ (xs : List Record). p ≡ path_behind xs ahead.spot ahead.parent) first path;
-  passed = subst (λ (x : Path). HasPassed old x mid) second passed;
+  path = path;
+  passed = subst (λ (x : Path). HasPassed task.log.past old x mid) second (subst (λ (xs : List Record). HasPassed xs old q mid) past passed);
   stops = subst (λ (x : Path). is_before (slice_get mid.paths mid.at) x ≡ false) second stops;
-  stays = sym (ap (λ (xs : List Record). stays_at mid new xs ahead u) third ∙ ap (stays_at mid new task.records ahead) fourth) ∙ (sym stays ∙ is);
+  stays = sym (ap (stays_at task.log.past mid new task.log.records ahead) third) ∙ (sym stays ∙ is);
 }
 
 -- A record that is kept
@@ -321,9 +324,9 @@ pub record Keeps (g : Graph) (task : Task) (old mid : OldRun) (new : NewRun) (ah
 -- what that leaves
 record Kept (g : Graph) (changes : List Change) (db : Tables) (os : List Record) (task : Task) (old : OldRun) (new : NewRun) (u : IsUnderway g changes db os task old new) (ahead : Ahead) (p : Path) (task' : Task) (old' : OldRun) (new' : NewRun) : Type 0 where
   c : Comes g changes db os task old new u ahead p
-  records : task'.records ≡ task.records ++ c.r ∷ []
+  records : task'.log.records ≡ task.log.records ++ c.r ∷ []
   leaves : HasLeft g u.call db task' c.tail
-  kept : kept_paths os (task.records ++ c.r ∷ []) changes ≡ kept_paths os task.records changes ++ (next_placed task.records c.r).path ∷ []
+  kept : kept_paths os (task.log.records ++ c.r ∷ []) changes ≡ kept_paths os task.log.records changes ++ (next_placed task.log.records c.r).path ∷ []
   went : IsUnderway g changes db os task' old' new'
 
 some_same : (a b : Record) → Some a ≡ Some b → a ≡ b
@@ -333,30 +336,30 @@ it_kept : (g : Graph) (changes : List Change) (db : Tables) (os : List Record) (
     → Keeps g task old mid new ahead p task' old' new' → Kept g changes db os task old new u ahead p task' old' new'
 it_kept g changes db os task old mid new u ahead p task' old' new' k =
     let c : Comes g changes db os task old new u ahead p = comes g changes db os task old new u ahead p k.decided.next k.decided.path in
-    let b : Placed = next_placed task.records c.r in
-    let ks : List Path = kept_paths os task.records changes in
-    let d : Decides changes os ks task.records b c.more ahead mid new = decides g changes db os task old mid new u ahead p c k.decided.passed k.decided.stops in
-    let h : stays changes ks (with_paths os) (with_paths task.records) b ≡ true = says g changes db os task old mid new u ahead p c d true k.decided.stays in
-    let f : Found changes os ks task.records b c.more ahead mid new d = found_old changes os ks task.records b c.more ahead mid new d
-    (ap (stays_at mid new task.records ahead) c.path ∙ k.decided.stays) in
-    let given : k.kept.given ≡ f.o.it = some_same k.kept.given f.o.it (sym k.kept.there ∙ f.old_record) in
+    let b : Placed = next_placed task.log.records c.r in
+    let ks : List Path = kept_paths os task.log.records changes in
+    let d : Decides changes os ks task.log.records b c.more ahead mid new = decides g changes db os task old mid new u ahead p c k.decided.passed k.decided.stops in
+    let h : stays changes ks (with_paths os) (with_paths task.log.records) b ≡ true = says g changes db os task old mid new u ahead p c d true k.decided.stays in
+    let f : Found changes os ks task.log.records b c.more ahead mid new d = found_old changes os ks task.log.records b c.more ahead mid new d
+    (ap (stays_at os mid new task.log.records ahead) c.path ∙ (ap (λ (xs : List Record). stays_at xs mid new task.log.records ahead p) (sym u.past) ∙ k.decided.stays)) in
+    let given : k.kept.given ≡ f.o.it = some_same k.kept.given f.o.it (sym k.kept.there ∙ (ap (λ (xs : List Record). slice_get xs mid.at) u.past ∙ f.old_record)) in
     let content : HasContent k.kept.given c.r = subst (λ q. HasContent q c.r) (sym given) (alike g changes db os task old new u ahead p c f.o f.found h) in
     let leaves : HasLeft g u.call db task (c.r ∷ c.tail) = subst (HasLeft g u.call db task) c.left_is u.leaves in
     let leaves' : HasLeft g u.call db task' c.tail = k.kept.goes_on u.call db c.r c.tail u.is u.runs.new_is.rising leaves content in
-    let one = one_more (meaning_of g u.call db).records task.records k.kept.adopted.next c.r c.tail c.tail (leaves' ∙ ap (λ l. l ++ c.tail) k.kept.adopted.records) c.all in
-    let records : task'.records ≡ task.records ++ c.r ∷ [] = k.kept.adopted.records ∙ ap (λ q. task.records ++ q ∷ []) one.0 in
-    let kept : kept_paths os (task.records ++ c.r ∷ []) changes ≡ ks ++ b.path ∷ [] = kept_is changes os task.records c.r true h in
+    let one = one_more (meaning_of g u.call db).records task.log.records k.kept.adopted.next c.r c.tail c.tail (leaves' ∙ ap (λ l. l ++ c.tail) k.kept.adopted.records) c.all in
+    let records : task'.log.records ≡ task.log.records ++ c.r ∷ [] = k.kept.adopted.records ∙ ap (λ q. task.log.records ++ q ∷ []) one.0 in
+    let kept : kept_paths os (task.log.records ++ c.r ∷ []) changes ≡ ks ++ b.path ∷ [] = kept_is changes os task.log.records c.r true h in
     record {
       c = c;
       records = records;
       leaves = leaves';
       kept = kept;
       went =
-          went_on g changes db os task old new u ahead p c task' old' new' (ks ++ b.path ∷ []) (k.same u.call u.is) records leaves' kept
+          went_on g changes db os task old new u ahead p c task' old' new' (ks ++ b.path ∷ []) (k.same u.call u.is) records leaves' k.kept.past (let next : old'.at ≡ mid.at + 1 = ap (λ (o : OldRun). o.at) k.kept.old_is in omega (arith, next, k.kept.kept)) kept
           (subst (IsOld changes os (ks ++ b.path ∷ []) c.more) (sym k.kept.old_is) (old_kept changes os ks b c.more mid f.o f.cs d.climbs d.beside f.coming f.path c.later))
-          (subst (IsNew os (ks ++ b.path ∷ []) c.more (task.records ++ c.r ∷ [])) (sym k.kept.new_is)
-          (new_kept os task.records c.r ks c.more new p mid.at f.o d.along c.path c.before c.later f.there f.path))
-          (omega (arith, k.kept.adopted.executed, u.count, length-append ks (b.path ∷ []), length-append task.records (c.r ∷ [])));
+          (subst (IsNew os (ks ++ b.path ∷ []) c.more (task.log.records ++ c.r ∷ [])) (sym k.kept.new_is)
+          (new_kept os task.log.records c.r ks c.more new p mid.at f.o d.along c.path c.before c.later f.there f.path))
+          (omega (arith, k.kept.adopted.executed, u.count, length-append ks (b.path ∷ []), length-append task.log.records (c.r ∷ [])));
     }
 
 pub kept_step : (g : Graph) (db : Tables) (task : Task) (old mid : OldRun) (new : NewRun) (ahead : Ahead) (p : Path) (task' : Task) (old' : OldRun) (new' : NewRun) (now : Sight)
@@ -365,12 +368,12 @@ kept_step g db task old mid new ahead p task' old' new' now k w = record {
   went = λ changes os u. (it_kept g changes db os task old mid new u ahead p task' old' new' k).went;
   queried = λ changes os start u q.
       let it : Kept g changes db os task old new u ahead p task' old' new' = it_kept g changes db os task old mid new u ahead p task' old' new' k in
-      let b : Placed = next_placed task.records it.c.r in
-      let count : length (queried os (task.records ++ it.c.r ∷ []) changes) ≡ length (queried os task.records changes) =
-      kept_counts os task.records it.c.r changes it.kept (among_new (kept_paths os task.records changes) b.path) (all_apart b.path (with_paths task.records) it.c.before) in
+      let b : Placed = next_placed task.log.records it.c.r in
+      let count : length (queried os (task.log.records ++ it.c.r ∷ []) changes) ≡ length (queried os task.log.records changes) =
+      kept_counts os task.log.records it.c.r changes it.kept (among_new (kept_paths os task.log.records changes) b.path) (all_apart b.path (with_paths task.log.records) it.c.before) in
       subst (λ (l : List Record). HasQueried os l changes 0 start now) (sym it.records)
-      (still_queried (length (queried os task.records changes) + 0) (length (queried os (task.records ++ it.c.r ∷ []) changes) + 0) (writes_in (os ++ task.records)) (writes_in (os ++ (task.records ++ it.c.r ∷ []))) start now
-      (omega (arith, count)) (keys_more os task.records it.c.r) q);
+      (still_queried (length (queried os task.log.records changes) + 0) (length (queried os (task.log.records ++ it.c.r ∷ []) changes) + 0) (writes_in (os ++ task.log.records)) (writes_in (os ++ (task.log.records ++ it.c.r ∷ []))) start now
+      (omega (arith, count)) (keys_more os task.log.records it.c.r) q);
   less =
       let u : IsUnderway g w.changes db w.os task old new = w.underway in
       let it : Kept g w.changes db w.os task old new u ahead p task' old' new' = it_kept g w.changes db w.os task old mid new u ahead p task' old' new' k in
@@ -385,32 +388,35 @@ pub record Renews (g : Graph) (db : Tables) (task : Task) (old mid : OldRun) (ne
   pub same : IsSameCall g task task'
   pub goes_on : IsSameCallOn g db task task'
   pub ran : HasRun task task' now after
-  pub new_is : new' ≡ renewed p (length task.records) (any_write (writes_of (slice_get task'.records (length task.records)))) new
-  pub bounded : AskedAtMost 1 (different (writes_in task.records)) now after
+  pub past : task'.log.past ≡ task.log.past
+  pub kept : task'.log.kept ≡ task.log.kept
+  pub on : old.at ≤ mid.at
+  pub new_is : new' ≡ renewed p (length task.log.records) (any_write (writes_of (slice_get task'.log.records (length task.log.records)))) new
+  pub bounded : AskedAtMost 1 (different (writes_in task.log.records)) now after
 
 -- what that leaves
 record Renewed (g : Graph) (changes : List Change) (db : Tables) (os : List Record) (task : Task) (old mid : OldRun) (new : NewRun) (u : IsUnderway g changes db os task old new) (ahead : Ahead) (p : Path) (task' : Task) (new' : NewRun) (r : Record) : Type 0 where
   c : Comes g changes db os task old new u ahead p
   is : r ≡ c.r
-  records : task'.records ≡ task.records ++ c.r ∷ []
+  records : task'.log.records ≡ task.log.records ++ c.r ∷ []
   leaves : HasLeft g u.call db task' c.tail
-  kept : kept_paths os (task.records ++ c.r ∷ []) changes ≡ kept_paths os task.records changes
-  behind : Each (λ k. IsEarlierPath k (next_placed task.records c.r).path) (kept_paths os task.records changes)
+  kept : kept_paths os (task.log.records ++ c.r ∷ []) changes ≡ kept_paths os task.log.records changes
+  behind : Each (λ k. IsEarlierPath k (next_placed task.log.records c.r).path) (kept_paths os task.log.records changes)
   went : IsUnderway g changes db os task' mid new'
 
 it_renewed : (g : Graph) (changes : List Change) (db : Tables) (os : List Record) (task : Task) (old mid : OldRun) (new : NewRun) (u : IsUnderway g changes db os task old new) (ahead : Ahead) (p : Path) (task' : Task) (new' : NewRun) (now after : Sight)
     → (k : Renews g db task old mid new ahead p task' new' now after) → Renewed g changes db os task old mid new u ahead p task' new' k.ran.next
 it_renewed g changes db os task old mid new u ahead p task' new' now after k =
     let c : Comes g changes db os task old new u ahead p = comes g changes db os task old new u ahead p k.decided.next k.decided.path in
-    let b : Placed = next_placed task.records c.r in
-    let ks : List Path = kept_paths os task.records changes in
-    let d : Decides changes os ks task.records b c.more ahead mid new = decides g changes db os task old mid new u ahead p c k.decided.passed k.decided.stops in
-    let h : stays changes ks (with_paths os) (with_paths task.records) b ≡ false = says g changes db os task old mid new u ahead p c d false k.decided.stays in
+    let b : Placed = next_placed task.log.records c.r in
+    let ks : List Path = kept_paths os task.log.records changes in
+    let d : Decides changes os ks task.log.records b c.more ahead mid new = decides g changes db os task old mid new u ahead p c k.decided.passed k.decided.stops in
+    let h : stays changes ks (with_paths os) (with_paths task.log.records) b ≡ false = says g changes db os task old mid new u ahead p c d false k.decided.stays in
     let on : IsTaskOn g u.call db task' = k.goes_on u.call (record { is = u.is; rest = u.left; leaves = u.leaves }) in
-    let one = one_more (meaning_of g u.call db).records task.records k.ran.next c.r on.rest c.tail (on.leaves ∙ ap (λ l. l ++ on.rest) k.ran.records) c.all in
-    let records : task'.records ≡ task.records ++ c.r ∷ [] = k.ran.records ∙ ap (λ q. task.records ++ q ∷ []) one.0 in
+    let one = one_more (meaning_of g u.call db).records task.log.records k.ran.next c.r on.rest c.tail (on.leaves ∙ ap (λ l. l ++ on.rest) k.ran.records) c.all in
+    let records : task'.log.records ≡ task.log.records ++ c.r ∷ [] = k.ran.records ∙ ap (λ q. task.log.records ++ q ∷ []) one.0 in
     let leaves : HasLeft g u.call db task' c.tail = subst (HasLeft g u.call db task') one.1 on.leaves in
-    let kept : kept_paths os (task.records ++ c.r ∷ []) changes ≡ ks = kept_is changes os task.records c.r false h in
+    let kept : kept_paths os (task.log.records ++ c.r ∷ []) changes ≡ ks = kept_is changes os task.log.records c.r false h in
     record {
       c = c;
       is = one.0;
@@ -419,10 +425,10 @@ it_renewed g changes db os task old mid new u ahead p task' new' now after k =
       kept = kept;
       behind = behind_first b c.more ks d.along.behind;
       went =
-          went_on g changes db os task old new u ahead p c task' mid new' ks (k.same u.call u.is) records leaves kept (old_left changes os ks b c.more mid d.beside)
-          (subst (IsNew os ks c.more (task.records ++ c.r ∷ [])) (sym (k.new_is ∙ ap (λ w. renewed p (length task.records) (any_write w) new) (ap (λ (xs : List Record). writes_of (slice_get xs (length task.records))) records ∙ ap writes_of (get_last task.records c.r []))))
-          (new_executed os task.records c.r ks c.more new p d.along c.path))
-          (omega (arith, k.ran.executed, u.count, length-append task.records (c.r ∷ [])));
+          went_on g changes db os task old new u ahead p c task' mid new' ks (k.same u.call u.is) records leaves k.past (omega (arith, k.kept, u.rises, k.on)) kept (old_left changes os ks b c.more mid d.beside)
+          (subst (IsNew os ks c.more (task.log.records ++ c.r ∷ [])) (sym (k.new_is ∙ ap (λ w. renewed p (length task.log.records) (any_write w) new) (ap (λ (xs : List Record). writes_of (slice_get xs (length task.log.records))) records ∙ ap writes_of (get_last task.log.records c.r []))))
+          (new_executed os task.log.records c.r ks c.more new p d.along c.path))
+          (omega (arith, k.ran.executed, u.count, length-append task.log.records (c.r ∷ [])));
     }
 
 pub renewed_step : (g : Graph) (db : Tables) (task : Task) (old mid : OldRun) (new : NewRun) (ahead : Ahead) (p : Path) (task' : Task) (new' : NewRun) (now after : Sight)
@@ -431,15 +437,15 @@ renewed_step g db task old mid new ahead p task' new' now after k w = record {
   went = λ changes os u. (it_renewed g changes db os task old mid new u ahead p task' new' now after k).went;
   queried = λ changes os start u q.
       let it : Renewed g changes db os task old mid new u ahead p task' new' k.ran.next = it_renewed g changes db os task old mid new u ahead p task' new' now after k in
-      let b : Placed = next_placed task.records it.c.r in
-      let count : length (queried os (task.records ++ it.c.r ∷ []) changes) ≡ length (queried os task.records changes) + one it.c.r.preds =
-      executed_counts os task.records it.c.r changes it.kept (not_among (kept_paths os task.records changes) b.path it.behind) in
-      let asked : AskedAtMost (one it.c.r.preds) (one it.c.r.preds * different (writes_in task.records)) now after =
-      subst (λ (r : Record). AskedAtMost (one r.preds) (one r.preds * different (writes_in task.records)) now after) it.is (asked_one k.ran.next.preds (writes_in task.records) now after k.ran.asked k.bounded) in
-      let wide : different (writes_in task.records) ≤ different (writes_in (os ++ (task.records ++ it.c.r ∷ []))) = (let a = keys_within os task.records in let e = keys_more os task.records it.c.r in omega (arith, a, e)) in
+      let b : Placed = next_placed task.log.records it.c.r in
+      let count : length (queried os (task.log.records ++ it.c.r ∷ []) changes) ≡ length (queried os task.log.records changes) + one it.c.r.preds =
+      executed_counts os task.log.records it.c.r changes it.kept (not_among (kept_paths os task.log.records changes) b.path it.behind) in
+      let asked : AskedAtMost (one it.c.r.preds) (one it.c.r.preds * different (writes_in task.log.records)) now after =
+      subst (λ (r : Record). AskedAtMost (one r.preds) (one r.preds * different (writes_in task.log.records)) now after) it.is (asked_one k.ran.next.preds (writes_in task.log.records) now after k.ran.asked k.bounded) in
+      let wide : different (writes_in task.log.records) ≤ different (writes_in (os ++ (task.log.records ++ it.c.r ∷ []))) = (let a = keys_within os task.log.records in let e = keys_more os task.log.records it.c.r in omega (arith, a, e)) in
       subst (λ (l : List Record). HasQueried os l changes 0 start after) (sym it.records)
-      (queried_once (length (queried os task.records changes) + 0) (length (queried os (task.records ++ it.c.r ∷ []) changes) + 0) (one it.c.r.preds) (different (writes_in task.records)) (different (writes_in (os ++ (task.records ++ it.c.r ∷ [])))) start now after
-      (still_queried (length (queried os task.records changes) + 0) (length (queried os task.records changes) + 0) (writes_in (os ++ task.records)) (writes_in (os ++ (task.records ++ it.c.r ∷ []))) start now (omega arith) (keys_more os task.records it.c.r) q)
+      (queried_once (length (queried os task.log.records changes) + 0) (length (queried os (task.log.records ++ it.c.r ∷ []) changes) + 0) (one it.c.r.preds) (different (writes_in task.log.records)) (different (writes_in (os ++ (task.log.records ++ it.c.r ∷ [])))) start now after
+      (still_queried (length (queried os task.log.records changes) + 0) (length (queried os task.log.records changes) + 0) (writes_in (os ++ task.log.records)) (writes_in (os ++ (task.log.records ++ it.c.r ∷ []))) start now (omega arith) (keys_more os task.log.records it.c.r) q)
       asked wide (omega (arith, count)));
   less =
       let u : IsUnderway g w.changes db w.os task old new = w.underway in
@@ -450,16 +456,16 @@ renewed_step g db task old mid new ahead p task' new' now after k w = record {
 -- What the step needs
 
 -- a record that stays is there
-pub stays_within : (old : OldRun) (new : NewRun) (ns : List Record) (ahead : Ahead) (p : Path) (r : Bool) → r ≡ stays_at old new ns ahead p → r ≡ true → old.at < length old.records
-stays_within old new ns ahead p r is h = by (slice_get old.records old.at) refl
+pub stays_within : (os : List Record) (old : OldRun) (new : NewRun) (ns : List Record) (ahead : Ahead) (p : Path) (r : Bool) → r ≡ stays_at os old new ns ahead p → r ≡ true → old.at < length os
+stays_within os old new ns ahead p r is h = by (slice_get os old.at) refl
   where
     second : (x y : Bool) → (x && y) ≡ true → y ≡ true
     second true y e = e
     second false y e = cc
 
-    next : next_stays old new ns ahead (slice_get old.records old.at) (slice_get old.hits old.at) ≡ true
-    next = second (is_there (slice_get old.paths old.at) p) (next_stays old new ns ahead (slice_get old.records old.at) (slice_get old.hits old.at)) (sym is ∙ h)
+    next : next_stays os old new ns ahead (slice_get os old.at) (slice_get old.hits old.at) ≡ true
+    next = second (is_there (slice_get old.paths old.at) p) (next_stays os old new ns ahead (slice_get os old.at) (slice_get old.hits old.at)) (sym is ∙ h)
 
-    by : (o : Option Record) → slice_get old.records old.at ≡ o → old.at < length old.records
-    by None e = absurd (both_ways (next_stays old new ns ahead (slice_get old.records old.at) (slice_get old.hits old.at)) (ap (λ o. next_stays old new ns ahead o (slice_get old.hits old.at)) e) next)
-    by (Some r) e = slice_get_within old.records old.at r e
+    by : (o : Option Record) → slice_get os old.at ≡ o → old.at < length os
+    by None e = absurd (both_ways (next_stays os old new ns ahead (slice_get os old.at) (slice_get old.hits old.at)) (ap (λ o. next_stays os old new ns ahead o (slice_get old.hits old.at)) e) next)
+    by (Some r) e = slice_get_within os old.at r e

@@ -1,3 +1,4 @@
 pub mod Repairing
+pub mod Keys
 pub mod Walking
 pub mod Stepping

@@ -22,5 +22,5 @@ pub record IsOnWay (g : Graph) (db : Tables) (task : Task) (old : OldRun) (new :
 pub record HasStepped (g : Graph) (db : Tables) (task : Task) (old : OldRun) (new : NewRun) (task' : Task) (old' : OldRun) (new' : NewRun) (before after : Sight) : Type 0 where
   pub went : (changes : List Change) (os : List Record) → IsUnderway g changes db os task old new → IsUnderway g changes db os task' old' new'
   pub queried : (changes : List Change) (os : List Record) (start : Sight) → IsUnderway g changes db os task old new
-      → HasQueried os task.records changes 0 start before → HasQueried os task'.records changes 0 start after
+      → HasQueried os task.log.records changes 0 start before → HasQueried os task'.log.records changes 0 start after
   pub less : count_left g db task' < count_left g db task

@@ -1,29 +1,29 @@
 -- Defines the walk of a repair: the new run record by record, with the old run beside it. This project's own.
-use Rattle.std.specs.Prelude.{◌≡◌, ◌<◌, ◌≤◌, ℕ, ◌+◌, ◌==◌, Bool, true, false, not, ◌&&◌, ◌||◌, List, [], ◌∷◌, ◌++◌, Option, Some, None, All, map, length, take, drop, slice_get, slice_set}
+use Rattle.std.specs.Prelude.{◌≡◌, ◌<◌, ◌≤◌, ℕ, ◌+◌, ◌==◌, Bool, true, false, not, ◌&&◌, ◌||◌, List, [], ◌∷◌, ◌++◌, Option, Some, None, map, length, take, drop, slice_get}
 use Rattle.std.specs.List.{list_any, flat_map}
 use Rattle.std.specs.Option.{option_and_then}
 use Rattle.std.specs.Ordering.{is_lt, nat_cmp}
 use Rattle.std.specs.Cmp.Lexicographic.{slice_cmp}
 use Rattle.mv_values.specs.declared.calls.Call.{Call}
 use Rattle.mv_values.specs.declared.patch.Write.{Write}
+use Rattle.mv_values.specs.declared.pred.Pred.{Pred}
 use Rattle.mv_values.specs.Tables.{Tables}
 use Rattle.mv_record.specs.declared.record.Read.{Read}
 use Rattle.mv_record.specs.declared.record.Record.{Record}
 use Rattle.mv_record.specs.declared.record.Spot.{Spot}
 use Rattle.mv_record.specs.Paths.{inside, nests_behind, paths, IsEarlierPath}
 use Rattle.mv_recorded.specs.Own.{Each}
-use Rattle.mv_undo.specs.declared.owned.Owned.{Owned}
-use Rattle.mv_undo.specs.Owning.{earlier, touches as is_on_key}
 use Rattle.mv_graph.specs.declared.graph.Graph.{Graph}
 use Rattle.mv_graph.specs.Nodes.{meaning_of}
-use Rattle.mv_exec.specs.declared.task.Ahead.{Ahead}
 use Rattle.mv_exec.specs.declared.task.Task.{Task}
+use Rattle.mv_exec.specs.Foreseen.{Ahead}
 use Rattle.mv_exec.specs.Running.{IsTaskOf, HasLeft, HasAdopted, GoesOnWith}
 use Rattle.mv_history.specs.declared.change.Change.{Change}
-use Rattle.mv_history.specs.Hits.{any_hits, touches}
+use Rattle.mv_history.specs.Hits.{any_hits, touches, touches_predicate}
 use Rattle.mv_history.specs.Kept.{Path, Placed, with_paths, is_path, among, other_writes, kept_paths}
 use Rattle.mv_alike.specs.Laws.{AreRuns}
 use Rattle.mv_changes.specs.declared.recent.Committed.{Committed}
+use Rattle.mv_repair.specs.Keys.{TableKeys, has_key}
 use Rattle.mv_repair.specs.declared.walk.OldRun.{OldRun}
 use Rattle.mv_repair.specs.declared.walk.NewRun.{NewRun}
 
@@ -48,10 +48,6 @@ is_there (Some q) p = is_path q p
 -- a record that has these writes alone
 abbrev pub hollow_with : List Write → Record
 hollow_with ws = record { spot = record { statement = 0; turns = [] }; parent = None; reads = []; preds = []; sets = []; rows = []; writes = ws; line = None; end = None }
-
--- a record without contents
-abbrev pub hollow : Record
-hollow = hollow_with []
 
 -- records that have these writes alone
 abbrev pub with_writes : List Write → List Record
@@ -84,32 +80,30 @@ abbrev pub noted : Bool → ℕ → List ℕ → List ℕ
 noted false number numbers = numbers
 noted true number numbers = numbers ++ number ∷ []
 
+-- one of these writes touches one of these predicates
+abbrev pub any_touch : List Pred → List Write → Bool
+any_touch ps ws = list_any (λ w. list_any (touches_predicate w) ps) ws
+
 -- a write of the records with these numbers touches the record
 abbrev pub is_touched : Record → List Record → List ℕ → Bool
 is_touched o rs numbers = list_any (λ n. list_any (touches o) (writes_of (slice_get rs n))) numbers
 
 -- Keys
 
--- all are under number 0
-abbrev pub AreFirst : List Owned → Type 0
-AreFirst keys = All (λ o. o.number ≤ 0) keys
-
--- each of these writes is on a key of the first ones
-abbrev pub AreKnown : List Owned → List Write → Type 0
-AreKnown keys ws = Each (λ w. is_on_key w.table w.key (earlier 1 keys) ≡ true) ws
+-- the key of each of these writes is known
+abbrev pub AreKnown : List TableKeys → List Write → Type 0
+AreKnown keys ws = Each (λ w. has_key keys w.table w.key ≡ true) ws
 
 -- the keys of these writes were added
-pub record HasAddedWrites (old : List Owned) (ws : List Write) (new : List Owned) : Type 0 where
-  pub first : AreFirst new
-  pub known : (vs : List Write) → AreKnown old vs → AreKnown new (vs ++ ws)
+abbrev pub HasAddedWrites : List TableKeys → List Write → List TableKeys → Type 0
+HasAddedWrites old ws new = (vs : List Write) → AreKnown old vs → AreKnown new (vs ++ ws)
 
--- if these numbers are many, the keys of the writes of their records are among the first ones
-abbrev pub AreKnownIfMany : List Owned → List Record → List ℕ → Type 0
+-- if these numbers are many, the keys of the writes of their records are known
+abbrev pub AreKnownIfMany : List TableKeys → List Record → List ℕ → Type 0
 AreKnownIfMany keys rs numbers = 16 < length numbers → AreKnown keys (writes_at rs numbers)
 
 -- the keys of the first `known` of these records were known, and now those of more are, and of all if they are many
-pub record HasLearnt (rs : List Record) (numbers : List ℕ) (old : List Owned) (known : ℕ) (new : List Owned) (known' : ℕ) : Type 0 where
-  pub first : AreFirst new
+pub record HasLearnt (rs : List Record) (numbers : List ℕ) (old : List TableKeys) (known : ℕ) (new : List TableKeys) (known' : ℕ) : Type 0 where
   pub within : known' ≤ length numbers
   pub all : 16 < length numbers → known' ≡ length numbers
   pub still : AreKnown old (writes_at rs (take known numbers)) → AreKnown new (writes_at rs (take known' numbers))
@@ -145,35 +139,31 @@ reads_by kept (a ∷ as') (b ∷ bs) = same_definer kept a.definer b.definer && 
 reads_by kept [] (b ∷ bs) = false
 reads_by kept (a ∷ as') [] = false
 
--- the old record stays as what is ahead of the new run, behind its first records `ns`; `hit` tells whether a change
--- hits the old record
-abbrev pub record_stays : OldRun → NewRun → List Record → Ahead → Record → Bool → Bool
-record_stays old new ns ahead o hit =
+-- the old record stays as what is ahead of the new run, behind its first records `ns`; `os` are all records of the old
+-- run, and `hit` tells whether a change hits the old record
+abbrev pub record_stays : List Record → OldRun → NewRun → List Record → Ahead → Record → Bool → Bool
+record_stays os old new ns ahead o hit =
     is_kept_by new.kept ahead.parent && (reads_by new.kept o.reads ahead.reads
-    && (not hit && not (is_touched o old.records old.others || is_touched o ns new.others)))
+    && (not hit && not (is_touched o os old.others || is_touched o ns new.others)))
 
-abbrev pub next_stays : OldRun → NewRun → List Record → Ahead → Option Record → Option Bool → Bool
-next_stays old new ns ahead (Some o) (Some hit) = record_stays old new ns ahead o hit
-next_stays old new ns ahead (Some o) None = false
-next_stays old new ns ahead None hit = false
+abbrev pub next_stays : List Record → OldRun → NewRun → List Record → Ahead → Option Record → Option Bool → Bool
+next_stays os old new ns ahead (Some o) (Some hit) = record_stays os old new ns ahead o hit
+next_stays os old new ns ahead (Some o) None = false
+next_stays os old new ns ahead None hit = false
 
 -- the next old record has this path, and stays
-abbrev pub stays_at : OldRun → NewRun → List Record → Ahead → Path → Bool
-stays_at old new ns ahead p = is_there (slice_get old.paths old.at) p && next_stays old new ns ahead (slice_get old.records old.at) (slice_get old.hits old.at)
+abbrev pub stays_at : List Record → OldRun → NewRun → List Record → Ahead → Path → Bool
+stays_at os old new ns ahead p = is_there (slice_get old.paths old.at) p && next_stays os old new ns ahead (slice_get os old.at) (slice_get old.hits old.at)
 
 -- How the walk goes on
 
--- the next record was taken out of the old run
-abbrev pub without_next : OldRun → OldRun
-without_next old = record old { records = slice_set old.records old.at hollow; at = old.at + 1 }
-
--- the writes of the next record of the old run
-abbrev pub next_writes : OldRun → List Write
-next_writes old = writes_of (slice_get old.records old.at)
+-- the writes of the next record of the old run, which has these records
+abbrev pub next_writes : List Record → OldRun → List Write
+next_writes os old = writes_of (slice_get os old.at)
 
 -- the next record of the old run is noted among the others, if it made writes
-abbrev pub noted_next : OldRun → OldRun
-noted_next old = record old { others = noted (any_write (next_writes old)) old.at old.others }
+abbrev pub noted_next : List Record → OldRun → OldRun
+noted_next os old = record old { others = noted (any_write (next_writes os old)) old.at old.others }
 
 -- the new run has one record more, with this path, which keeps this old one
 abbrev pub added : Path → Option ℕ → NewRun → NewRun
@@ -192,14 +182,12 @@ pub record IsOld (changes : List Change) (os : List Record) (kept : List Path) (
   pub coming : List Placed
   pub split : with_paths os ≡ passed ++ coming
   pub at : old.at ≡ length passed
-  pub records : drop old.at old.records ≡ map (λ (p : Placed). p.it) coming
   pub paths : drop old.at old.paths ≡ map (λ (p : Placed). p.path) coming
   pub hits : drop old.at old.hits ≡ hits_in changes (map (λ (p : Placed). p.it) passed) (map (λ (p : Placed). p.it) coming)
-  pub others : writes_at old.records old.others ≡ other_writes kept passed
+  pub others : writes_at os old.others ≡ other_writes kept passed
   pub numbers : Each (λ n. n < old.at) old.others
-  pub first : AreFirst old.keys
   pub within : old.known ≤ length old.others
-  pub known : AreKnown old.keys (writes_at old.records (take old.known old.others))
+  pub known : AreKnown old.keys (writes_at os (take old.known old.others))
   pub below : Each (λ (a : Placed). Each (λ (b : Placed). IsEarlierPath a.path b.path) rest) passed
   pub behind : Each (λ k. Each (λ (a : Placed). IsEarlierPath k a.path) coming) kept
 
@@ -221,31 +209,33 @@ pub record IsNew (os : List Record) (kept : List Path) (rest : List Placed) (ns 
   pub marks : AreMarked kept (with_paths os) (with_paths ns) new.kept
   pub others : writes_at ns new.others ≡ other_writes kept (with_paths ns)
   pub numbers : Each (λ n. n < length ns) new.others
-  pub first : AreFirst new.keys
   pub within : new.known ≤ length new.others
   pub known : AreKnown new.keys (writes_at ns (take new.known new.others))
   pub behind : Each (λ k. Each (λ (b : Placed). IsEarlierPath k b.path) rest) kept
 
--- a repair is under way from the records `os` of a full run. The task has the first records of the full run on the new
--- database. The walk has kept those that stay, and the others were executed.
+-- a repair is under way from the records `os` of a full run, which are the task's past. The task has the first records
+-- of the full run on the new database. The walk has kept those that stay, and the others were executed. No record from
+-- the next one of the old run on was kept.
 pub record IsUnderway (g : Graph) (changes : List Change) (db : Tables) (os : List Record) (task : Task) (old : OldRun) (new : NewRun) : Type 0 where
   pub call : Call
   pub was : Tables
   pub runs : AreRuns g.tables g.procedure call was db changes
   pub olds : os ≡ (meaning_of g call was).records
+  pub past : task.log.past ≡ os
+  pub rises : task.log.kept ≤ old.at
   pub is : IsTaskOf g call task
   pub left : List Record
   pub leaves : HasLeft g call db task left
   pub rest : List Placed
-  pub split : with_paths (meaning_of g call db).records ≡ with_paths task.records ++ rest
-  pub beside : IsOld changes os (kept_paths os task.records changes) rest old
-  pub along : IsNew os (kept_paths os task.records changes) rest task.records new
-  pub count : task.executed + length (kept_paths os task.records changes) ≡ length task.records
+  pub split : with_paths (meaning_of g call db).records ≡ with_paths task.log.records ++ rest
+  pub beside : IsOld changes os (kept_paths os task.log.records changes) rest old
+  pub along : IsNew os (kept_paths os task.log.records changes) rest task.log.records new
+  pub count : task.executed + length (kept_paths os task.log.records changes) ≡ length task.log.records
 
--- some records with paths before this one were passed. This is right if the next record of the new run has this path.
-abbrev pub HasPassed : OldRun → Path → OldRun → Type 0
-HasPassed old p new =
-    (changes : List Change) (os : List Record) (kept : List Path) (b : Placed) (more : List Placed) → b.path ≡ p → Each (λ (c : Placed). IsEarlierPath b.path c.path) more
+-- some of these records with paths before this one were passed. This is right if the next record of the new run has this path.
+abbrev pub HasPassed : List Record → OldRun → Path → OldRun → Type 0
+HasPassed os old p new =
+    (changes : List Change) (kept : List Path) (b : Placed) (more : List Placed) → b.path ≡ p → Each (λ (c : Placed). IsEarlierPath b.path c.path) more
     → IsOld changes os kept (b ∷ more) old → IsOld changes os kept (b ∷ more) new
 
 -- the keys of all others of the new run are known, if they are many
@@ -257,8 +247,10 @@ pub record HasCaughtUp (ns : List Record) (old new : NewRun) : Type 0 where
 -- the next record of the old run was kept
 pub record HasKept (g : Graph) (task : Task) (old : OldRun) (new : NewRun) (path : Path) (task' : Task) (old' : OldRun) (new' : NewRun) : Type 0 where
   pub given : Record
-  pub there : slice_get old.records old.at ≡ Some given
-  pub old_is : old' ≡ without_next old
+  pub there : slice_get task.log.past old.at ≡ Some given
+  pub old_is : old' ≡ record old { at = old.at + 1 }
   pub new_is : new' ≡ added path (Some old.at) new
   pub adopted : HasAdopted g task given task'
   pub goes_on : GoesOnWith g task given task'
+  pub past : task'.log.past ≡ task.log.past
+  pub kept : task'.log.kept ≡ old.at + 1

@@ -9,7 +9,8 @@ ghost use Rattle.mv_repair.specs.Walking.{hits_in, is_hit_by, with_writes};
 use mv_changes::changes::Changes;
 use mv_changes::hit::any_hit;
 use mv_changes::recent::Committed;
-use mv_record::record::Record;
+use mv_log::record_ref::RecordRef;
+use mv_log::records::Records;
 use mv_undo::undo::Undo;
 use mv_values::list::List;
 use mv_values::memory::NoMemory;
@@ -17,14 +18,14 @@ use std::alloc::Global;
 
 /// Whether a commit hits the record with this number.
 #[tactic(auto, using(crate::proofs::Hitting::all_writes))]
-fn commit_hits(record: &Record, number: usize, undo: &Undo, changes: &Changes) -> bool
+fn commit_hits(record: &RecordRef<'_>, number: usize, undo: &Undo, changes: &Changes) -> bool
     ensures { result ≡ any_hits changes.now (with_writes (earlier number undo.now)) record.now }
 {
     any_hit(record, number, undo, changes)
 }
 
 /// Whether one of the commits hits the record with this number.
-fn is_hit(record: &Record, number: usize, undo: &Undo, since: &[Committed]) -> bool
+fn is_hit(record: &RecordRef<'_>, number: usize, undo: &Undo, since: &[Committed]) -> bool
     ensures { result ≡ is_hit_by (earlier number undo.now) record.now since.now }
 {
     since.iter().any(|committed| commit_hits(record, number, undo, &committed.changes))
@@ -33,7 +34,7 @@ fn is_hit(record: &Record, number: usize, undo: &Undo, since: &[Committed]) -> b
 /// Returns for each record of a call whether one of the commits hits it. `undo` has the writes of the records.
 pub(crate) fn hits_of(
     alloc: Global,
-    records: &[Record],
+    records: &Records<'_>,
     undo: &Undo,
     since: &[Committed],
 ) -> Result<List<bool>, NoMemory>
@@ -42,7 +43,7 @@ pub(crate) fn hits_of(
 {
     let mut flags = List::with_room(alloc, records.len())?;
     for number in 0..records.len() {
-        flags.push(is_hit(&records[number], number, undo, since))?;
+        flags.push(is_hit(&records.get(number), number, undo, since))?;
     }
     Ok(flags)
 }

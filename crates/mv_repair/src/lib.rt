@@ -3,6 +3,7 @@
 #![tactic(auto)]
 
 mod hits;
+mod keys;
 mod paths;
 pub mod repair;
 mod touch;

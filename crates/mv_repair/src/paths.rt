@@ -1,6 +1,6 @@
 //! The paths of records.
 
-ghost use Rattle.std.specs.Prelude.{◌≡◌, ℕ, ◌++◌, ◌∷◌, [], List as Seq, drop, length, nat_lt, slice_get, IfOk, OnOk, if◌then◌else◌};
+ghost use Rattle.std.specs.Prelude.{◌≡◌, ◌<◌, ◌+◌, ℕ, ◌++◌, ◌∷◌, [], List as Seq, drop, length, nat_lt, slice_get, take, IfOk, OnOk, if◌then◌else◌};
 ghost use Rattle.std.specs.Option.{option_and_then, option_copied};
 ghost use Rattle.std.specs.Ordering.{is_lt, nat_cmp};
 ghost use Rattle.std.specs.Cmp.Lexicographic.{slice_cmp};
@@ -8,7 +8,7 @@ ghost use Rattle.mv_record.specs.Paths.{inside, nests_behind, paths};
 ghost use Rattle.mv_history.specs.Kept.{is_path};
 ghost use Rattle.mv_repair.specs.Walking.{path_behind};
 
-use mv_record::record::{Record, Spot};
+use mv_log::records::Records;
 use mv_values::list::List;
 use mv_values::memory::NoMemory;
 use smallvec::SmallVec;
@@ -19,7 +19,7 @@ use std::marker::Model;
 /// two FORs it allocates nothing.
 #[derive(Drop)]
 pub(crate) struct Path {
-    numbers: SmallVec<usize, 5>,
+    numbers: SmallVec<u32, 5>,
 }
 
 impl Model for Path {
@@ -40,20 +40,20 @@ impl Path {
     }
 
     /// Borrows the numbers.
-    pub(crate) fn as_slice(&self) -> &[usize]
+    pub(crate) fn as_slice(&self) -> &[u32]
         ensures { result.now ≡ self.now }
     {
         self.numbers.as_slice()
     }
 
-    fn push(&mut self, number: usize) -> Result<(), NoMemory>
+    fn push(&mut self, number: u32) -> Result<(), NoMemory>
         ensures { OnOk result (self.new ≡ self.old ++ number ∷ []) }
     {
         self.numbers.push(number)?;
         Ok(())
     }
 
-    fn append(&mut self, numbers: &[usize]) -> Result<(), NoMemory>
+    fn append(&mut self, numbers: &[u32]) -> Result<(), NoMemory>
         ensures { OnOk result (self.new ≡ self.old ++ numbers.now) }
     {
         self.numbers.extend_from_slice(numbers)?;
@@ -69,14 +69,14 @@ pub(crate) fn item<T>(items: &[T], at: usize) -> Option<&T>
 }
 
 /// Whether two paths are equal.
-pub(crate) fn is_path(a: &[usize], b: &[usize]) -> bool
+pub(crate) fn is_path(a: &[u32], b: &[u32]) -> bool
     ensures { result ≡ is_path a.now b.now }
 {
     a.cmp(b).is_eq()
 }
 
 /// Whether the first path is earlier in a program.
-pub(crate) fn is_earlier(a: &[usize], b: &[usize]) -> bool
+pub(crate) fn is_earlier(a: &[u32], b: &[u32]) -> bool
     ensures { result ≡ is_lt (slice_cmp nat_cmp a.now b.now) }
 {
     a.cmp(b).is_lt()
@@ -84,7 +84,7 @@ pub(crate) fn is_earlier(a: &[usize], b: &[usize]) -> bool
 
 /// Returns the part of a path from the enclosing statements. The innermost of these has a path, and is in `depth` FORs;
 /// `turns` has the iterations of the statement itself.
-fn around(alloc: Global, path: &[usize], depth: usize, turns: &[usize]) -> Result<Path, NoMemory>
+fn around(alloc: Global, path: &[u32], depth: usize, turns: &[u32]) -> Result<Path, NoMemory>
     ensures { IfOk result (λ p. (outer : Seq ℕ) (n : ℕ) → path.now ≡ outer ++ n ∷ [] → p ≡ (if nat_lt depth (length turns.now) then outer ++ n ∷ drop depth turns.now else outer)) }
 {
     let mut part = Path::new(alloc);
@@ -102,10 +102,10 @@ fn around(alloc: Global, path: &[usize], depth: usize, turns: &[usize]) -> Resul
 /// records have the `known` paths.
 fn around_of(
     alloc: Global,
-    records: &[Record],
+    records: &Records<'_>,
     known: &[Path],
-    parent: Option<usize>,
-    turns: &[usize],
+    parent: Option<u32>,
+    turns: &[u32],
 ) -> Result<Path, NoMemory>
     requires { known.now ≡ paths records.now }
     ensures { IfOk result (λ p. p ≡ inside (option_and_then (slice_get (nests_behind [] records.now)) parent) turns.now) }
@@ -113,47 +113,62 @@ fn around_of(
     let Some(number) = parent else {
         return Ok(Path::new(alloc));
     };
-    let Some(path) = known.get(number) else {
+    let Some(path) = known.get(number as usize) else {
         return Ok(Path::new(alloc));
     };
-    let Some(holder) = records.get(number) else {
-        unreachable!();
-    };
-    let part = around(alloc, path.as_slice(), holder.spot.turns.len(), turns)?;
+    let holder = records.get(number as usize);
+    let part = around(alloc, path.as_slice(), holder.turns().len(), turns)?;
     Ok(part)
 }
 
-/// Returns the path of the record at a place, given the number of its controller. The records before it have the
-/// `known` paths.
+/// Returns the path of the record of this statement in these iterations, given the number of its controller. The records
+/// before it have the `known` paths.
 pub(crate) fn path_of(
     alloc: Global,
-    records: &[Record],
+    records: &Records<'_>,
     known: &[Path],
-    spot: &Spot,
-    parent: Option<usize>,
+    statement: u16,
+    turns: &[u32],
+    parent: Option<u32>,
 ) -> Result<Path, NoMemory>
     requires { known.now ≡ paths records.now }
-    ensures { IfOk result (λ p. p ≡ path_behind records.now spot.now parent) }
+    ensures { IfOk result (λ p. p ≡ path_behind records.now (record { statement = statement; turns = turns.now }) parent) }
 {
-    let mut path = around_of(alloc, records, known, parent, spot.turns.as_slice())?;
-    path.push(spot.statement as usize)?;
+    let mut path = around_of(alloc, records, known, parent, turns)?;
+    path.push(statement as u32)?;
+    Ok(path)
+}
+
+/// Returns the path of the record with this number. The records before it have the `known` paths.
+fn path_at(
+    alloc: Global,
+    records: &Records<'_>,
+    number: usize,
+    known: &[Path],
+) -> Result<Path, NoMemory>
+    requires within { number < length records.now }
+    requires known { known.now ≡ paths (take number records.now) }
+    ensures { IfOk result (λ p. known.now ++ p ∷ [] ≡ paths (take (number + 1) records.now)) }
+{
+    let record = records.get(number);
+    let path = path_of(
+        alloc,
+        &records.first(number),
+        known,
+        record.statement(),
+        record.turns(),
+        record.parent(),
+    )?;
     Ok(path)
 }
 
 /// Returns the paths of the records of a run.
-pub(crate) fn paths_of(alloc: Global, records: &[Record]) -> Result<List<Path>, NoMemory>
+pub(crate) fn paths_of(alloc: Global, records: &Records<'_>) -> Result<List<Path>, NoMemory>
     ensures { IfOk result (λ ps. ps ≡ paths records.now) }
 {
     let mut all = List::with_room(alloc, records.len())?;
     for number in 0..records.len() {
-        let record = &records[number];
-        let path = path_of(
-            alloc,
-            &records[..number],
-            all.as_slice(),
-            &record.spot,
-            record.parent,
-        )?;
+        let path = path_at(alloc, records, number, all.as_slice())?;
         all.push(path)?;
     }
     Ok(all)

@@ -1,37 +1,64 @@
 //! Repairs of running calls.
 
-ghost use Rattle.std.specs.Prelude.{◌≡◌, ◌<◌, false, true, length, slice_get, Some, IfOk, OnOk, OnErr};
+ghost use Rattle.std.specs.Prelude.{◌≡◌, ◌<◌, ◌≤◌, false, true, length, slice_get, IfOk, OnOk, OnErr};
 ghost use Rattle.mv_values.specs.declared.calls.Call.{Call};
+ghost use Rattle.mv_record.specs.Paths.{paths};
 ghost use Rattle.mv_record.specs.Runs.{writes_in};
 ghost use Rattle.mv_record.specs.Databases.{IsDatabaseOf};
 ghost use Rattle.mv_effect.specs.Looking.{AskedAtMost, OnlyAsks, different};
 ghost use Rattle.mv_graph.specs.Nodes.{IsSound, meaning_of};
-ghost use Rattle.mv_exec.specs.Running.{IsRunning, IsRunningOn, IsSameCall, IsSameCallOn, IsTaskOf, IsTaskOn, IsUnchanged, IsAhead, HasRun, refusals};
+ghost use Rattle.mv_exec.specs.Running.{IsRunning, IsRunningOn, IsSameCall, IsSameCallOn, IsTaskOf, IsTaskOn, IsUnchanged, HasRun, refusals};
 ghost use Rattle.mv_history.specs.Kept.{executions};
 ghost use Rattle.mv_repair.specs.Repairing.{changes_since, IsRepairable, HasQueried};
-ghost use Rattle.mv_repair.specs.Walking.{any_write, writes_of, renewed, HasKept};
+ghost use Rattle.mv_repair.specs.Walking.{any_write, path_behind, writes_of, renewed, HasKept};
 ghost use Rattle.mv_repair.specs.Stepping.{HasStepped, IsOnWay};
 
 use crate::hits::hits_of;
-use crate::paths::{Path, item, path_of, paths_of};
+use crate::keys::Keys;
+use crate::paths::{Path, path_of, paths_of};
+use crate::touch::has_writes;
 use crate::walk::{NewRun, OldRun, stays};
 use mv_changes::recent::Committed;
-use mv_exec::running::{adopt_ahead, next, peek};
-use mv_exec::task::{Ahead, Task};
+use mv_exec::ahead::Ahead;
+use mv_exec::running::{adopt, next, peek};
+use mv_exec::task::Task;
 use mv_graph::graph::Graph;
-use mv_undo::undo::Undo;
 use mv_values::list::List;
 use mv_values::memory::NoMemory;
 use mv_view::view::{Refused, View};
 use std::alloc::Global;
 
-/// Keeps the next record of the old run as the next one of the new run, which has this path. `ahead` is what `peek`
-/// returns for the call.
+/// Returns a record's number in four bytes. Fails with `NoMemory` if it has no room there; no log has so many records.
+fn narrow(number: usize) -> Result<u32, NoMemory>
+    ensures { IfOk result (λ narrow. narrow ≡ number) }
+{
+    if number > 4_294_967_295 {
+        return Err(NoMemory);
+    }
+    Ok(number as u32)
+}
+
+/// Returns the path of the record that is ahead of the new run.
+fn path_ahead(alloc: Global, task: &Task, new: &NewRun, ahead: &Ahead) -> Result<Path, NoMemory>
+    requires { new.now.paths ≡ paths task.now.log.records }
+    ensures { IfOk result (λ p. p ≡ path_behind task.now.log.records ahead.now.spot ahead.now.parent) }
+{
+    let path = path_of(
+        alloc,
+        &task.records(),
+        new.paths.as_slice(),
+        ahead.statement(),
+        ahead.turns(),
+        ahead.parent(),
+    )?;
+    Ok(path)
+}
+
+/// Keeps the next record of the old run as the next one of the new run, which has this path.
 fn keep(
     alloc: Global,
     graph: &Graph,
     task: &mut Task,
-    ahead: Ahead,
     old: &mut OldRun,
     new: &mut NewRun,
     path: Path,
@@ -39,17 +66,16 @@ fn keep(
     requires sound { IsSound graph.now }
     requires running { IsRunning graph.now task.old }
     requires live { task.old.ended ≡ false }
-    requires next { IsAhead graph.now task.old (Some ahead) }
-    requires there { old.old.at < length old.old.records }
+    requires there { old.old.at < length task.old.log.past }
+    requires rises { task.old.log.kept ≤ old.old.at }
     ensures call { IsSameCall graph.now task.old task.new }
     ensures kept { OnOk result (HasKept graph.now task.old old.old new.old path task.new old.new new.new) }
     ensures err { OnErr result (IsUnchanged task.old task.new) }
 {
-    new.add(path, Some(old.at))?;
-    let Some(given) = old.take(alloc) else {
-        unreachable!();
-    };
-    adopt_ahead(alloc, graph, task, ahead, given)?;
+    let number = narrow(old.at)?;
+    new.add(path, Some(number))?;
+    adopt(alloc, graph, task, number)?;
+    old.at += 1;
     Ok(())
 }
 
@@ -69,15 +95,17 @@ fn renew<V: View>(
     ensures call { IsSameCall graph.now task.old task.new }
     ensures goes_on { IsSameCallOn graph.now (V.sight view.old).database task.old task.new }
     ensures ran { OnOk result (HasRun task.old task.new (V.sight view.old) (V.sight view.new)) }
-    ensures new { OnOk result (new.new ≡ renewed path (length task.old.records) (any_write (writes_of (slice_get task.new.records (length task.old.records)))) new.old) }
+    ensures new { OnOk result (new.new ≡ renewed path (length task.old.log.records) (any_write (writes_of (slice_get task.new.log.records (length task.old.log.records)))) new.old) }
+    ensures past { task.new.log.past ≡ task.old.log.past }
+    ensures kept { task.new.log.kept ≡ task.old.log.kept }
     ensures err { OnErr result (IsUnchanged task.old task.new) }
     ensures view { OnlyAsks (V.sight view.old) (V.sight view.new) result }
-    ensures bounded { AskedAtMost 1 (different (writes_in task.old.records)) (V.sight view.old) (V.sight view.new) }
+    ensures bounded { AskedAtMost 1 (different (writes_in task.old.log.records)) (V.sight view.old) (V.sight view.new) }
 {
     let number = task.records().len();
     new.add_executed(path, number)?;
     next(alloc, graph, task, view)?;
-    new.settle(item(task.records(), number));
+    new.settle(has_writes(&task.records(), number));
     Ok(())
 }
 
@@ -97,23 +125,17 @@ fn step<V: View>(
     ensures stepped { OnOk result (HasStepped graph.now (V.sight view.old).database task.old old.old new.old task.new old.new new.new (V.sight view.old) (V.sight view.new)) }
     ensures err { OnErr result (IsUnchanged task.old task.new) }
     ensures view { OnlyAsks (V.sight view.old) (V.sight view.new) result }
-    ensures bounded { AskedAtMost 1 (different (writes_in task.old.records)) (V.sight view.old) (V.sight view.new) }
+    ensures bounded { AskedAtMost 1 (different (writes_in task.old.log.records)) (V.sight view.old) (V.sight view.new) }
 {
     let Some(ahead) = peek(alloc, graph, task)? else {
         unreachable!();
     };
-    let path = path_of(
-        alloc,
-        task.records(),
-        new.paths.as_slice(),
-        &ahead.spot,
-        ahead.parent,
-    )?;
-    old.pass(alloc, path.as_slice())?;
-    new.catch_up(alloc, task.records())?;
-    let keeps = stays(alloc, old, new, task.records(), &ahead, path.as_slice())?;
+    let path = path_ahead(alloc, task, new, &ahead)?;
+    old.pass(alloc, &task.past(), path.as_slice())?;
+    new.catch_up(alloc, &task.records())?;
+    let keeps = stays(alloc, task, old, new, &ahead, path.as_slice())?;
     if keeps {
-        keep(alloc, graph, task, ahead, old, new, path)?;
+        keep(alloc, graph, task, old, new, path)?;
         return Ok(());
     }
     renew(alloc, graph, task, new, path, view)
@@ -129,10 +151,12 @@ fn step<V: View>(
 /// Fails with `NoMemory` if memory runs out, and with `Stale` if the view reports it. The call's records are then of no
 /// use, and it must begin again.
 ///
-/// A kept record is moved, and no row or text of it is copied. Each record costs a comparison of paths, and one of its
-/// definers. A record with a predicate also costs what `validate` does for the commits. If few earlier records with
-/// writes don't stay, it costs a trial of the predicate on each of their writes. Else it costs a search for their keys,
-/// and the trials only if the predicate admits one of the keys.
+/// No item of a kept record is moved, and only its own writes and the variables that it sets are copied. The records of
+/// the run before the repair stay in the log. `past` lends them until the call begins again.
+///
+/// Each record costs a comparison of paths, and one of its definers. A record with a predicate also costs what `validate`
+/// does for the commits. If few earlier records with writes don't stay, it costs a trial of the predicate on each of
+/// their writes. Else it costs a search for their keys, and the trials only if the predicate admits one of the keys.
 pub fn repair<V: View>(
     alloc: Global,
     graph: &Graph,
@@ -144,29 +168,30 @@ pub fn repair<V: View>(
     requires leads { IsRepairable graph.now task.old (changes_since since.now) (V.sight view.old).database }
     ensures call { IsSameCall graph.now task.old task.new }
     ensures on { OnOk result ((call : Call) → IsTaskOf graph.now call task.old → IsTaskOn graph.now call (V.sight view.old).database task.new) }
-    ensures records { OnOk result ((call : Call) → IsTaskOf graph.now call task.old → task.new.records ≡ (meaning_of graph.now call (V.sight view.old).database).records) }
+    ensures records { OnOk result ((call : Call) → IsTaskOf graph.now call task.old → task.new.log.records ≡ (meaning_of graph.now call (V.sight view.old).database).records) }
+    ensures past { OnOk result (task.new.log.past ≡ task.old.log.records) }
     ensures ended { OnOk result (task.new.ended ≡ true) }
-    ensures executed { OnOk result (task.new.executed ≡ executions task.old.records task.new.records (changes_since since.now)) }
+    ensures executed { OnOk result (task.new.executed ≡ executions task.old.log.records task.new.log.records (changes_since since.now)) }
     ensures answer { IfOk result (λ count. count ≡ task.new.executed) }
-    ensures queried { HasQueried task.old.records task.new.records (changes_since since.now) (refusals result) (V.sight view.old) (V.sight view.new) }
+    ensures queried { HasQueried task.old.log.records task.new.log.records (changes_since since.now) (refusals result) (V.sight view.old) (V.sight view.new) }
     ensures view { OnlyAsks (V.sight view.old) (V.sight view.new) result }
 {
-    let hits = hits_of(alloc, task.records(), task.undo(), since)?;
-    let paths = paths_of(alloc, task.records())?;
+    let hits = hits_of(alloc, &task.records(), task.undo(), since)?;
+    let paths = paths_of(alloc, &task.records())?;
+    task.begin_repair();
     let mut old = OldRun {
-        records: task.restart(alloc),
         paths,
         hits,
         at: 0,
         others: List::new(alloc),
-        keys: Undo::new(alloc),
+        keys: Keys::new(alloc),
         known: 0,
     };
     let mut new = NewRun {
         paths: List::new(alloc),
         kept: List::new(alloc),
         others: List::new(alloc),
-        keys: Undo::new(alloc),
+        keys: Keys::new(alloc),
         known: 0,
     };
     while !task.ended() {

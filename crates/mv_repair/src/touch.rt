@@ -1,33 +1,30 @@
 //! Which writes touch a record.
 
-ghost use Rattle.std.specs.Prelude.{◌≡◌, ◌≤◌, List, [], false, length, IfOk, OnOk};
+ghost use Rattle.std.specs.Prelude.{◌≡◌, ◌≤◌, List, [], false, length, slice_get, IfOk, OnOk};
 ghost use Rattle.std.specs.List.{list_any};
-ghost use Rattle.std.specs.Option.{option_copied};
 ghost use Rattle.mv_values.specs.declared.patch.Write.{Write};
 ghost use Rattle.mv_values.specs.Preds.{names};
-ghost use Rattle.mv_undo.specs.Owning.{earlier, AreSought};
-ghost use Rattle.mv_history.specs.Hits.{reaches, touches, touches_predicate};
-ghost use Rattle.mv_repair.specs.Walking.{is_touched, writes_of, AreFirst, AreKnown, AreKnownIfMany, HasAddedWrites, HasLearnt};
+ghost use Rattle.mv_history.specs.Hits.{reaches, touches_predicate};
+ghost use Rattle.mv_repair.specs.Walking.{any_touch, any_write, is_touched, writes_of, AreKnown, AreKnownIfMany, HasAddedWrites, HasLearnt};
 
-use crate::paths::item;
-use mv_record::record::Record;
-use mv_table::scan::Direction;
-use mv_undo::undo::Undo;
+use crate::keys::Keys;
+use mv_log::pred_ref::{PredRef, Preds};
+use mv_log::record_ref::RecordRef;
+use mv_log::records::Records;
 use mv_values::copied::Copied;
 use mv_values::memory::NoMemory;
 use mv_values::patch::{Assign, Patch, Write};
-use mv_values::pred::Pred;
 use std::alloc::Global;
 
 /// Whether the predicate selects or tests a column that is set.
-fn names_one(pred: &Pred, items: &[Assign]) -> bool
+fn names_one(pred: &PredRef<'_>, items: &[Assign]) -> bool
     ensures { result ≡ list_any (λ a. names pred.now a.column) items.now }
 {
     items.iter().any(|item| pred.names(item.column))
 }
 
 /// Whether the patch inserts or deletes a row, or sets a column that the predicate selects or tests.
-fn reaches(pred: &Pred, patch: &Patch) -> bool
+fn reaches(pred: &PredRef<'_>, patch: &Patch) -> bool
     ensures { result ≡ reaches pred.now patch.now }
 {
     match patch {
@@ -38,85 +35,91 @@ fn reaches(pred: &Pred, patch: &Patch) -> bool
 }
 
 /// Whether the write touches the predicate.
-fn touches_predicate(write: &Write, pred: &Pred) -> bool
+fn touches_predicate(write: &Write, pred: &PredRef<'_>) -> bool
     ensures { result ≡ touches_predicate write.now pred.now }
 {
-    write.table == pred.table && (pred.admits(&write.key) && reaches(pred, &write.patch))
+    write.table == pred.table() && (pred.admits(&write.key) && reaches(pred, &write.patch))
 }
 
-/// Whether the write touches a predicate of the record.
-fn touches(record: &Record, write: &Write) -> bool
-    ensures { result ≡ touches record.now write.now }
+/// Whether the write touches one of these predicates.
+fn touches(preds: &Preds<'_>, write: &Write) -> bool
+    ensures { result ≡ list_any (touches_predicate write.now) preds.now }
 {
-    record
-        .preds
-        .as_slice()
-        .iter()
-        .any(|pred| touches_predicate(write, pred))
+    for at in 0..preds.len() {
+        if touches_predicate(write, &preds.get(at)) {
+            return true;
+        }
+    }
+    false
 }
 
-/// Returns the writes of a record, none if there is no record.
-pub(crate) fn writes_of(record: Option<&Record>) -> &[Write]
-    ensures { result.now ≡ writes_of (option_copied record.entry) }
+/// Lends a record, if there is one with this number.
+pub(crate) fn record_at<'a>(records: &Records<'a>, number: usize) -> Option<RecordRef<'a>>
+    ensures { result ≡ slice_get records.now number }
 {
-    match record {
-        Some(record) => record.writes.as_slice(),
+    if number < records.len() {
+        Some(records.get(number))
+    } else {
+        None
+    }
+}
+
+/// Lends the writes of the record with this number, none if there is no such record.
+fn writes_of<'a>(records: &Records<'a>, number: usize) -> &'a [Write]
+    ensures { result.now ≡ writes_of (slice_get records.now number) }
+{
+    match record_at(records, number) {
+        Some(record) => record.writes(),
         None => &[],
     }
 }
 
-/// Whether one of these writes touches the record.
-fn one_touches(record: &Record, writes: &[Write]) -> bool
-    ensures { result ≡ list_any (touches record.now) writes.now }
+/// Whether there is a record with this number and it made writes.
+pub(crate) fn has_writes(records: &Records<'_>, number: usize) -> bool
+    ensures { result ≡ any_write (writes_of (slice_get records.now number)) }
 {
-    writes.iter().any(|write| touches(record, write))
+    match writes_of(records, number) {
+        [] => false,
+        _ => true,
+    }
 }
 
-/// Adds the keys that writes are on. A deletion stands for each key.
-pub(crate) fn add_keys(alloc: Global, keys: &mut Undo, writes: &[Write]) -> Result<(), NoMemory>
-    requires { AreFirst keys.old }
+/// Whether one of these writes touches one of these predicates.
+fn one_touches(preds: &Preds<'_>, writes: &[Write]) -> bool
+    ensures { result ≡ any_touch preds.now writes.now }
+{
+    writes.iter().any(|write| touches(preds, write))
+}
+
+/// Adds the keys that writes are on.
+pub(crate) fn add_keys(alloc: Global, keys: &mut Keys, writes: &[Write]) -> Result<(), NoMemory>
     ensures { OnOk result (HasAddedWrites keys.old writes.now keys.new) }
 {
     for write in writes {
-        let key = write.key.copy(alloc)?;
-        keys.push(
-            0,
-            Write {
-                table: write.table,
-                key,
-                patch: Patch::Delete,
-            },
-        )?;
+        keys.add(alloc, write.table, write.key.copy(alloc)?)?;
     }
     Ok(())
 }
 
-/// Whether the predicate admits one of the keys. Costs the logarithm of their number, and a look at each key that it
-/// passes over.
-fn admits_one(alloc: Global, keys: &Undo, pred: &Pred) -> Result<bool, NoMemory>
-    ensures { IfOk result (λ some. some ≡ false → AreSought pred.now (earlier 1 keys.now) []) }
+/// Whether one of these predicates admits one of the keys. If not, no write on these keys touches them.
+fn admits_some(alloc: Global, preds: &Preds<'_>, keys: &Keys) -> Result<bool, NoMemory>
+    ensures { IfOk result (λ some. some ≡ false → (ws : List Write) → AreKnown keys.now ws → any_touch preds.now ws ≡ false) }
 {
-    let mut sought = keys.sought_keys(alloc, 1, pred)?;
-    Ok(sought.take_next(Direction::Forward).is_some())
-}
-
-/// Whether a predicate of the record admits one of the keys. If not, no write on these keys touches the record.
-fn admits_some(alloc: Global, record: &Record, keys: &Undo) -> Result<bool, NoMemory>
-    ensures { IfOk result (λ some. some ≡ false → (ws : List Write) → AreKnown keys.now ws → list_any (touches record.now) ws ≡ false) }
-{
-    for pred in record.preds.as_slice() {
-        if admits_one(alloc, keys, pred)? {
+    for at in 0..preds.len() {
+        if keys.admits_one(alloc, &preds.get(at))? {
             return Ok(true);
         }
     }
     Ok(false)
 }
 
-/// Whether a write of the records with these numbers touches the record. Tries each write.
-fn is_touched_at(record: &Record, records: &[Record], numbers: &[usize]) -> bool
-    ensures { result ≡ is_touched record.now records.now numbers.now }
+/// Whether a write of the records with these numbers touches one of these predicates. Tries each write.
+fn is_touched_at(preds: &Preds<'_>, records: &Records<'_>, numbers: &[usize]) -> bool
+    ensures { result ≡ list_any (λ n. any_touch preds.now (writes_of (slice_get records.now n))) numbers.now }
 {
-    numbers.iter().any(|number| one_touches(record, writes_of(item(records, *number))))
+    numbers
+        .iter()
+        .any(|number| one_touches(preds, writes_of(records, *number)))
 }
 
 /// Up to this many records are tried without a search for their keys.
@@ -126,20 +129,19 @@ const FEW: usize = 16;
 /// are there. Returns how many have their keys there now.
 pub(crate) fn learn(
     alloc: Global,
-    keys: &mut Undo,
+    keys: &mut Keys,
     known: usize,
-    records: &[Record],
+    records: &Records<'_>,
     numbers: &[usize],
 ) -> Result<usize, NoMemory>
-    requires first { AreFirst keys.old }
-    requires within { known ≤ length numbers.now }
+    requires { known ≤ length numbers.now }
     ensures { IfOk result (λ now. HasLearnt records.now numbers.now keys.old known keys.new now) }
 {
     if numbers.len() <= FEW {
         return Ok(known);
     }
     for at in known..numbers.len() {
-        add_keys(alloc, keys, writes_of(item(records, numbers[at])))?;
+        add_keys(alloc, keys, writes_of(records, numbers[at]))?;
     }
     Ok(numbers.len())
 }
@@ -148,19 +150,20 @@ pub(crate) fn learn(
 /// of these writes.
 pub(crate) fn is_touched(
     alloc: Global,
-    record: &Record,
-    records: &[Record],
+    record: &RecordRef<'_>,
+    records: &Records<'_>,
     numbers: &[usize],
-    keys: &Undo,
+    keys: &Keys,
 ) -> Result<bool, NoMemory>
     requires { AreKnownIfMany keys.now records.now numbers.now }
     ensures { IfOk result (λ touched. touched ≡ is_touched record.now records.now numbers.now) }
 {
-    if record.preds.len() == 0 {
+    let preds = record.preds();
+    if preds.len() == 0 {
         return Ok(false);
     }
-    if numbers.len() > FEW && !admits_some(alloc, record, keys)? {
+    if numbers.len() > FEW && !admits_some(alloc, &preds, keys)? {
         return Ok(false);
     }
-    Ok(is_touched_at(record, records, numbers))
+    Ok(is_touched_at(&preds, records, numbers))
 }

@@ -1,23 +1,24 @@
 //! The walk of a repair: the new run record by record, with the old run beside it.
 
-ghost use Rattle.std.specs.Prelude.{◌≡◌, ◌<◌, ◌≤◌, ◌&&◌, ◌||◌, not, ◌+◌, ◌++◌, ◌∷◌, [], ℕ, List as Seq, None, Some, true, false, length, slice_get, IsSome, IfOk, OnOk};
+ghost use Rattle.std.specs.Prelude.{◌≡◌, ◌<◌, ◌≤◌, ◌&&◌, ◌||◌, not, ◌+◌, ℕ, List as Seq, None, Some, true, false, length, slice_get, IfOk, OnOk};
 ghost use Rattle.std.specs.Option.{option_copied};
-ghost use Rattle.mv_repair.specs.Walking.{any_write, writes_of, noted, hollow, is_before, is_there, is_kept_by, kept_as, next_stays, reads_by, same_definer, stays_at, is_touched, noted_next, without_next, added, renewed, AreFirst, AreKnownIfMany, HasCaughtUp, HasPassed};
+ghost use Rattle.mv_repair.specs.Walking.{noted, is_before, is_there, is_kept_by, kept_as, next_stays, reads_by, same_definer, stays_at, is_touched, noted_next, added, renewed, AreKnownIfMany, HasCaughtUp, HasPassed};
 
+use crate::keys::Keys;
 use crate::paths::{Path, is_earlier, is_path, item};
-use crate::touch::{is_touched, learn, writes_of};
-use mv_exec::task::Ahead;
-use mv_record::record::{Read, Record, Spot};
-use mv_undo::undo::Undo;
+use crate::touch::{has_writes, is_touched, learn, record_at};
+use mv_exec::ahead::Ahead;
+use mv_exec::task::Task;
+use mv_log::record_ref::RecordRef;
+use mv_log::records::Records;
+use mv_log::var_read::VarRead;
 use mv_values::list::List;
 use mv_values::memory::NoMemory;
 use std::alloc::Global;
 
-/// The old run of a call.
+/// The old run of a call. Its records are the task's past.
 #[derive(Drop)]
 pub(crate) struct OldRun {
-    /// Its records. Those that were kept have been taken out.
-    pub(crate) records: List<Record>,
     pub(crate) paths: List<Path>,
     /// Whether a change hits the record.
     pub(crate) hits: List<bool>,
@@ -25,8 +26,8 @@ pub(crate) struct OldRun {
     pub(crate) at: usize,
     /// The numbers of the passed records that made writes.
     pub(crate) others: List<usize>,
-    /// Writes on the keys of the others, under number 0.
-    pub(crate) keys: Undo,
+    /// The keys of the others' writes.
+    pub(crate) keys: Keys,
     /// How many of the others have their keys there.
     pub(crate) known: usize,
 }
@@ -36,37 +37,17 @@ pub(crate) struct OldRun {
 pub(crate) struct NewRun {
     pub(crate) paths: List<Path>,
     /// For each record the number of the old record that it keeps.
-    pub(crate) kept: List<Option<usize>>,
+    pub(crate) kept: List<Option<u32>>,
     /// The numbers of the executed records that made writes.
     pub(crate) others: List<usize>,
-    /// Writes on the keys of the others, under number 0.
-    pub(crate) keys: Undo,
+    /// The keys of the others' writes.
+    pub(crate) keys: Keys,
     /// How many of the others have their keys there.
     pub(crate) known: usize,
 }
 
-/// Returns a record without contents.
-fn hollow(alloc: Global) -> Record
-    ensures { result ≡ hollow }
-{
-    Record {
-        spot: Spot {
-            statement: 0,
-            turns: List::new(alloc),
-        },
-        parent: None,
-        reads: List::new(alloc),
-        preds: List::new(alloc),
-        sets: List::new(alloc),
-        rows: List::new(alloc),
-        writes: List::new(alloc),
-        line: None,
-        end: None,
-    }
-}
-
 /// Whether there is a path and it is before the other one.
-fn is_before(next: Option<&Path>, path: &[usize]) -> bool
+fn is_before(next: Option<&Path>, path: &[u32]) -> bool
     ensures { result ≡ is_before (option_copied next.entry) path.now }
 {
     match next {
@@ -76,7 +57,7 @@ fn is_before(next: Option<&Path>, path: &[usize]) -> bool
 }
 
 /// Whether there is a path and it is the other one.
-fn is_there(next: Option<&Path>, path: &[usize]) -> bool
+fn is_there(next: Option<&Path>, path: &[u32]) -> bool
     ensures { result ≡ is_there (option_copied next.entry) path.now }
 {
     match next {
@@ -85,93 +66,71 @@ fn is_there(next: Option<&Path>, path: &[usize]) -> bool
     }
 }
 
-/// Whether there is a record and it made writes.
-fn has_writes(record: Option<&Record>) -> bool
-    ensures { result ≡ any_write (writes_of (option_copied record.entry)) }
-{
-    let Some(record) = record else {
-        return false;
-    };
-    match record.writes.as_slice() {
-        [] => false,
-        _ => true,
-    }
-}
-
 impl OldRun {
     /// Whether the next record has a path before this one.
-    fn is_before(&self, path: &[usize]) -> bool
+    fn is_before(&self, path: &[u32]) -> bool
         ensures { result ≡ is_before (slice_get self.now.paths self.now.at) path.now }
     {
         is_before(item(self.paths.as_slice(), self.at), path)
     }
 
     /// Whether the next record has this path.
-    fn is_at(&self, path: &[usize]) -> bool
+    fn is_at(&self, path: &[u32]) -> bool
         ensures { result ≡ is_there (slice_get self.now.paths self.now.at) path.now }
     {
         is_there(item(self.paths.as_slice(), self.at), path)
     }
 
-    /// Notes the next record among the others, if it made writes.
-    fn note(&mut self) -> Result<(), NoMemory>
-        ensures { OnOk result (self.new ≡ noted_next self.old) }
+    /// Notes the next record among the others, if it made writes. `past` has the records of the old run.
+    fn note(&mut self, past: &Records<'_>) -> Result<(), NoMemory>
+        ensures { OnOk result (self.new ≡ noted_next past.now self.old) }
     {
-        if has_writes(item(self.records.as_slice(), self.at)) {
+        if has_writes(past, self.at) {
             self.others.push(self.at)?;
         }
         Ok(())
     }
 
-    /// Passes the records with paths before this one. The new run doesn't keep them.
-    fn pass_before(&mut self, path: &[usize]) -> Result<(), NoMemory>
-        requires first { AreFirst self.old.keys }
-        requires within { self.old.known ≤ length self.old.others }
-        ensures passed { OnOk result (HasPassed self.old path.now self.new) }
+    /// Passes the records with paths before this one. The new run doesn't keep them. `past` has the records of the old
+    /// run.
+    fn pass_before(&mut self, past: &Records<'_>, path: &[u32]) -> Result<(), NoMemory>
+        requires { self.old.known ≤ length self.old.others }
+        ensures passed { OnOk result (HasPassed past.now self.old path.now self.new) }
         ensures stops { OnOk result (is_before (slice_get self.new.paths self.new.at) path.now ≡ false) }
-        ensures first { OnOk result (AreFirst self.new.keys) }
+        ensures on { OnOk result (self.old.at ≤ self.new.at) }
         ensures within { OnOk result (self.new.known ≤ length self.new.others) }
     {
         while self.at < self.paths.len() && self.is_before(path) {
-            self.note()?;
+            self.note(past)?;
             self.at += 1;
         }
         Ok(())
     }
 
     /// Passes the records with paths before this one. The new run doesn't keep them. Then the keys of all others are
-    /// known, if they are many.
-    pub(crate) fn pass(&mut self, alloc: Global, path: &[usize]) -> Result<(), NoMemory>
-        requires first { AreFirst self.old.keys }
-        requires within { self.old.known ≤ length self.old.others }
-        ensures passed { OnOk result (HasPassed self.old path.now self.new) }
+    /// known, if they are many. `past` has the records of the old run.
+    pub(crate) fn pass(
+        &mut self,
+        alloc: Global,
+        past: &Records<'_>,
+        path: &[u32],
+    ) -> Result<(), NoMemory>
+        requires { self.old.known ≤ length self.old.others }
+        ensures passed { OnOk result (HasPassed past.now self.old path.now self.new) }
         ensures stops { OnOk result (is_before (slice_get self.new.paths self.new.at) path.now ≡ false) }
+        ensures on { OnOk result (self.old.at ≤ self.new.at) }
         ensures all { OnOk result (16 < length self.new.others → self.new.known ≡ length self.new.others) }
     {
-        self.pass_before(path)?;
-        let records = self.records.as_slice();
+        self.pass_before(past, path)?;
         let others = self.others.as_slice();
-        self.known = learn(alloc, &mut self.keys, self.known, records, others)?;
+        self.known = learn(alloc, &mut self.keys, self.known, past, others)?;
         Ok(())
-    }
-
-    /// Takes the next record out, if there is one.
-    pub(crate) fn take(&mut self, alloc: Global) -> Option<Record>
-        ensures record { result ≡ slice_get self.old.records self.old.at }
-        ensures old { IsSome result → self.new ≡ without_next self.old }
-    {
-        if self.at >= self.records.len() {
-            return None;
-        }
-        let record = self.records.replace(self.at, hollow(alloc));
-        self.at += 1;
-        Some(record)
     }
 }
 
 impl NewRun {
     /// Adds a record with this path. It keeps the old record with this number, if any.
-    pub(crate) fn add(&mut self, path: Path, old: Option<usize>) -> Result<(), NoMemory>
+    pub(crate) fn add(&mut self, path: Path, old: Option<u32>) -> Result<(), NoMemory>
         ensures { OnOk result (self.new ≡ added path old self.old) }
     {
         self.paths.push(path)?;
@@ -188,9 +147,8 @@ impl NewRun {
 
     /// Adds the keys of the others that aren't known yet, if the others are many. `records` are those of the new run so
     /// far.
-    pub(crate) fn catch_up(&mut self, alloc: Global, records: &[Record]) -> Result<(), NoMemory>
-        requires first { AreFirst self.old.keys }
-        requires within { self.old.known ≤ length self.old.others }
+    pub(crate) fn catch_up(&mut self, alloc: Global, records: &Records<'_>) -> Result<(), NoMemory>
+        requires { self.old.known ≤ length self.old.others }
         ensures { OnOk result (HasCaughtUp records.now self.old self.new) }
     {
         let others = self.others.as_slice();
@@ -199,27 +157,27 @@ impl NewRun {
     }
 
     /// Drops the last number noted, if its record made no writes.
-    pub(crate) fn settle(&mut self, record: Option<&Record>)
-        ensures { (numbers : Seq ℕ) (number : ℕ) → self.old.others ≡ noted true number numbers → self.new ≡ record self.old { others = noted (any_write (writes_of (option_copied record.entry))) number numbers } }
+    pub(crate) fn settle(&mut self, writes: bool)
+        ensures { (numbers : Seq ℕ) (number : ℕ) → self.old.others ≡ noted true number numbers → self.new ≡ record self.old { others = noted writes number numbers } }
     {
-        if !has_writes(record) {
+        if !writes {
             self.others.pop();
         }
     }
 }
 
 /// Returns the number of the old record that the new record with this number keeps.
-fn kept_as(kept: &[Option<usize>], number: usize) -> Option<usize>
+fn kept_as(kept: &[Option<u32>], number: u32) -> Option<u32>
     ensures { result ≡ kept_as kept.now number }
 {
-    match kept.get(number) {
+    match kept.get(number as usize) {
         Some(old) => *old,
         None => None,
     }
 }
 
 /// Whether there is no such record of the new run, or it keeps an old one.
-fn is_kept(kept: &[Option<usize>], number: Option<usize>) -> bool
+fn is_kept(kept: &[Option<u32>], number: Option<u32>) -> bool
     ensures { result ≡ is_kept_by kept.now number }
 {
     let Some(number) = number else {
@@ -232,7 +190,7 @@ fn is_kept(kept: &[Option<usize>], number: Option<usize>) -> bool
 }
 
 /// Whether the new record with one number keeps the old record with the other, or both numbers are absent.
-fn same_definer(kept: &[Option<usize>], old: Option<usize>, new: Option<usize>) -> bool
+fn same_definer(kept: &[Option<u32>], old: Option<u32>, new: Option<u32>) -> bool
     ensures { result ≡ same_definer kept.now old new }
 {
     match (old, new) {
@@ -246,95 +204,88 @@ fn same_definer(kept: &[Option<usize>], old: Option<usize>, new: Option<usize>) 
 }
 
 /// Whether each variable has the same definer in both runs, which is kept, or in both its default.
-fn reads_stay(kept: &[Option<usize>], olds: &[Read], news: &[Read]) -> bool
+fn reads_stay(kept: &[Option<u32>], olds: &[VarRead], news: &[VarRead]) -> bool
     ensures { result ≡ reads_by kept.now olds.now news.now }
 {
     if olds.len() != news.len() {
         return false;
     }
     for number in 0..olds.len() {
-        if !same_definer(kept, olds[number].definer, news[number].definer) {
+        if !same_definer(kept, olds[number].definer(), news[number].definer()) {
             return false;
         }
     }
     true
 }
 
-/// Whether a write of the others of either run touches the record. `records` are those of the new run so far.
+/// Whether a write of the others of either run touches the record.
 fn is_touched_by_others(
     alloc: Global,
-    record: &Record,
+    record: &RecordRef<'_>,
+    task: &Task,
     old: &OldRun,
     new: &NewRun,
-    records: &[Record],
 ) -> Result<bool, NoMemory>
-    requires old { AreKnownIfMany old.now.keys old.now.records old.now.others }
-    requires new { AreKnownIfMany new.now.keys records.now new.now.others }
-    ensures { IfOk result (λ touched. touched ≡ (is_touched record.now old.now.records old.now.others || is_touched record.now records.now new.now.others)) }
+    requires old { AreKnownIfMany old.now.keys task.now.log.past old.now.others }
+    requires new { AreKnownIfMany new.now.keys task.now.log.records new.now.others }
+    ensures { IfOk result (λ touched. touched ≡ (is_touched record.now task.now.log.past old.now.others || is_touched record.now task.now.log.records new.now.others)) }
 {
-    if is_touched(
-        alloc,
-        record,
-        old.records.as_slice(),
-        old.others.as_slice(),
-        &old.keys,
-    )? {
+    let past = task.past();
+    if is_touched(alloc, record, &past, old.others.as_slice(), &old.keys)? {
         return Ok(true);
     }
-    is_touched(alloc, record, records, new.others.as_slice(), &new.keys)
+    let records = task.records();
+    is_touched(alloc, record, &records, new.others.as_slice(), &new.keys)
 }
 
 /// Whether the next record of the old run may stay as the record that is ahead of the new run, but for the writes that
 /// touch it.
-fn may_stay(record: &Record, is_hit: bool, new: &NewRun, ahead: &Ahead) -> bool
+fn may_stay(record: &RecordRef<'_>, is_hit: bool, new: &NewRun, ahead: &Ahead) -> bool
     ensures { result ≡ (is_kept_by new.now.kept ahead.now.parent && (reads_by new.now.kept record.now.reads ahead.now.reads && not is_hit)) }
 {
     let kept = new.kept.as_slice();
-    is_kept(kept, ahead.parent)
-        && (reads_stay(kept, record.reads.as_slice(), ahead.reads.as_slice()) && !is_hit)
+    is_kept(kept, ahead.parent()) && (reads_stay(kept, record.reads(), ahead.reads()) && !is_hit)
 }
 
 /// Whether the next record of the old run stays as the record that is ahead of the new run, if they have the same path.
-/// `records` are those of the new run so far.
 fn next_stays(
     alloc: Global,
+    task: &Task,
     old: &OldRun,
     new: &NewRun,
-    records: &[Record],
     ahead: &Ahead,
 ) -> Result<bool, NoMemory>
-    requires old { AreKnownIfMany old.now.keys old.now.records old.now.others }
-    requires new { AreKnownIfMany new.now.keys records.now new.now.others }
-    ensures { IfOk result (λ stays. stays ≡ next_stays old.now new.now records.now ahead.now (slice_get old.now.records old.now.at) (slice_get old.now.hits old.now.at)) }
+    requires old { AreKnownIfMany old.now.keys task.now.log.past old.now.others }
+    requires new { AreKnownIfMany new.now.keys task.now.log.records new.now.others }
+    ensures { IfOk result (λ stays. stays ≡ next_stays task.now.log.past old.now new.now task.now.log.records ahead.now (slice_get task.now.log.past old.now.at) (slice_get old.now.hits old.now.at)) }
 {
-    let Some(record) = item(old.records.as_slice(), old.at) else {
+    let Some(record) = record_at(&task.past(), old.at) else {
         return Ok(false);
     };
     let Some(is_hit) = item(old.hits.as_slice(), old.at) else {
         return Ok(false);
     };
-    if !may_stay(record, *is_hit, new, ahead) {
+    if !may_stay(&record, *is_hit, new, ahead) {
         return Ok(false);
     }
-    Ok(!is_touched_by_others(alloc, record, old, new, records)?)
+    Ok(!is_touched_by_others(alloc, &record, task, old, new)?)
 }
 
 /// Whether the next record of the old run stays as the record that is ahead of the new run, which has this path.
-/// `records` are those of the new run so far.
 pub(crate) fn stays(
     alloc: Global,
+    task: &Task,
     old: &OldRun,
     new: &NewRun,
-    records: &[Record],
     ahead: &Ahead,
-    path: &[usize],
+    path: &[u32],
 ) -> Result<bool, NoMemory>
-    requires old { AreKnownIfMany old.now.keys old.now.records old.now.others }
-    requires new { AreKnownIfMany new.now.keys records.now new.now.others }
-    ensures { IfOk result (λ stays. stays ≡ stays_at old.now new.now records.now ahead.now path.now) }
+    requires old { AreKnownIfMany old.now.keys task.now.log.past old.now.others }
+    requires new { AreKnownIfMany new.now.keys task.now.log.records new.now.others }
+    ensures { IfOk result (λ stays. stays ≡ stays_at task.now.log.past old.now new.now task.now.log.records ahead.now path.now) }
 {
     if !old.is_at(path) {
         return Ok(false);
     }
-    next_stays(alloc, old, new, records, ahead)
+    next_stays(alloc, task, old, new, ahead)
 }

@@ -1,18 +1,19 @@
-use Rattle.std.proofs.Common.{◌++◌, ◌∷◌, [], List, Bool, refl, sym, ap, ◌∙◌, take, arith}
-use Rattle.std.proofs.lemmas.List.{take_more}
+use Rattle.std.proofs.Common.{◌<◌, ◌++◌, ◌∷◌, [], List, Bool, length, refl, sym, ap, subst, ◌∙◌, take, arith}
 use Rattle.mv_record.specs.declared.record.Record.{Record}
 use Rattle.mv_undo.specs.Owning.{earlier}
 use Rattle.mv_repair.specs.Repairing.{changes_since}
 use Rattle.mv_repair.specs.Walking.{hits_in}
 use Rattle.mv_repair.proofs.Hitting.{flag_more}
+use Rattle.mv_repair.proofs.Lists.{got_there}
 use Rattle.mv_repair.proofs.hits.hits_of.Goals as goal
 
 pub loop-number-preserved : goal.loop-number-preserved
 loop-number-preserved c =
-    let r : Record = c.index-records-number.result in
+    let r : Record = c.get.result in
     let n = c.loop-number.number in
     let rs = c.args.records.now in
+    let lt : n < length rs = subst (λ end. n < end) c.len-number-end.ensures c.loop-number-test.true in
     c.in_ok-push.ensures.ok
     ∙ (ap (λ (l : List Bool). l ++ c.is_hit.result ∷ []) c.loop-number.invariant
-    ∙ (flag_more (changes_since c.args.since.now) (take n rs) r (earlier n c.args.undo.now) c.args.since.now c.is_hit.result refl c.is_hit.ensures (c.requires n (let lt = c.loop-number-test.true in omega (arith, lt)))
-    ∙ ap (hits_in (changes_since c.args.since.now) []) (ap (λ (x : Record). take n rs ++ x ∷ []) c.index-records-number.is ∙ sym (take_more rs n r c.loop-number-test.true))))
+    ∙ (flag_more (changes_since c.args.since.now) (take n rs) r (earlier n c.args.undo.now) c.args.since.now c.is_hit.result refl c.is_hit.ensures (c.requires n (omega (arith, lt)))
+    ∙ ap (hits_in (changes_since c.args.since.now) []) (sym (got_there rs n r c.get.ensures))))

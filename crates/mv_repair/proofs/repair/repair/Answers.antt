@@ -15,18 +15,18 @@ use Rattle.mv_repair.proofs.repair.repair.Goals as goal
 pub hits_of-requires : goal.hits_of-requires
 hits_of-requires g c =
     subst (λ (rs : List Record). HasWritesOf c.undo.result.now rs) (sym c.records.ensures)
-    (subst (λ (ws : List Owned). HasWritesOf ws c.args.task.now.records) (sym c.undo.ensures) c.requires.leads.on.is.writes)
+    (subst (λ (ws : List Owned). HasWritesOf ws c.args.task.now.log.records) (sym c.undo.ensures) c.requires.leads.on.is.writes)
 
 pub loop-alloc-init : goal.loop-alloc-init
 loop-alloc-init g c = record {
   underway =
-      begun c.args.graph.now (changes_since c.args.since.now) (g.V.View.sight c.args.view.now).database c.args.task.now c.restart.new.self c.restart.result c.in_ok-paths.paths c.in_ok-hits.hits c.new.result c.new-2.result c.new-3.result c.new-4.result
+      begun c.args.graph.now (changes_since c.args.since.now) (g.V.View.sight c.args.view.now).database c.args.task.now c.begin_repair.new.self c.in_ok-paths.paths c.in_ok-hits.hits c.new.result c.new-2.result c.new-3.result c.new-4.result
       c.new-5.result c.new-6.result
-      c.requires.leads (λ call is. c.restart.ensures.call c.args.graph.now call is) c.restart.ensures.records c.restart.ensures.executed c.restart.ensures.back
+      c.requires.leads (λ call is. c.begin_repair.ensures.call c.args.graph.now call is) c.begin_repair.ensures.records c.begin_repair.ensures.executed c.begin_repair.ensures.past c.begin_repair.ensures.kept
       (c.in_ok-paths.ensures ∙ ap paths c.records-2.ensures) (c.in_ok-hits.ensures ∙ ap (λ (rs : List Record). hits_in (changes_since c.args.since.now) [] rs) c.records.ensures) c.new.ensures c.new-2.ensures c.new-3.ensures c.new-4.ensures
       c.new-5.ensures c.new-6.ensures;
-  call = λ call is. c.restart.ensures.call c.args.graph.now call is;
-  queried = none_queried c.args.task.now.records c.restart.new.self.records (changes_since c.args.since.now) 0 (g.V.View.sight c.args.view.now);
+  call = λ call is. c.begin_repair.ensures.call c.args.graph.now call is;
+  queried = none_queried c.args.task.now.log.records c.begin_repair.new.self.log.records (changes_since c.args.since.now) 0 (g.V.View.sight c.args.view.now);
   same = record { database = refl; start = refl; may_be_stale = refl };
   never = record { answers = refl; last_low = refl };
 }
@@ -37,9 +37,9 @@ loop-alloc-preserved g c =
     subst (λ (db : Tables). HasStepped c.args.graph.now db c.loop-alloc.task c.loop-alloc.old c.loop-alloc.new c.step.new.task c.step.new.old c.step.new.new (g.V.View.sight c.loop-alloc.view) (g.V.View.sight c.step.new.view))
     c.loop-alloc.invariant.same.database c.in_ok-step.ensures.stepped in
     record {
-      underway = stepped.went (changes_since c.args.since.now) c.args.task.now.records c.loop-alloc.invariant.underway;
+      underway = stepped.went (changes_since c.args.since.now) c.args.task.now.log.records c.loop-alloc.invariant.underway;
       call = λ call is. c.step.ensures.call call (c.loop-alloc.invariant.call call is);
-      queried = stepped.queried (changes_since c.args.since.now) c.args.task.now.records (g.V.View.sight c.args.view.now) c.loop-alloc.invariant.underway c.loop-alloc.invariant.queried;
+      queried = stepped.queried (changes_since c.args.since.now) c.args.task.now.log.records (g.V.View.sight c.args.view.now) c.loop-alloc.invariant.underway c.loop-alloc.invariant.queried;
       same = same_on (g.V.View.sight c.args.view.now) (g.V.View.sight c.loop-alloc.view) (g.V.View.sight c.step.new.view) c.step.ensures.view.same c.loop-alloc.invariant.same;
       never = never_on (g.V.View.sight c.args.view.now) (g.V.View.sight c.loop-alloc.view) (g.V.View.sight c.step.new.view) c.in_ok-step.ensures.view.passes_on c.loop-alloc.invariant.never;
     }
@@ -49,16 +49,19 @@ returns-clause-on g c = λ call is.
     let ended : c.loop-alloc.task.ended ≡ true = search rules in
     let here = c.loop-alloc.invariant.call call is in
     is_on c.args.graph.now call (g.V.View.sight c.args.view.now).database c.loop-alloc.task here
-    (all_there c.args.graph.now (changes_since c.args.since.now) (g.V.View.sight c.args.view.now).database c.args.task.now.records c.loop-alloc.task c.loop-alloc.old c.loop-alloc.new c.loop-alloc.invariant.underway ended call here)
+    (all_there c.args.graph.now (changes_since c.args.since.now) (g.V.View.sight c.args.view.now).database c.args.task.now.log.records c.loop-alloc.task c.loop-alloc.old c.loop-alloc.new c.loop-alloc.invariant.underway ended call here)
 
 pub returns-clause-records : goal.returns-clause-records
 returns-clause-records g c = λ call is.
     let ended : c.loop-alloc.task.ended ≡ true = search rules in
-    all_there c.args.graph.now (changes_since c.args.since.now) (g.V.View.sight c.args.view.now).database c.args.task.now.records c.loop-alloc.task c.loop-alloc.old c.loop-alloc.new c.loop-alloc.invariant.underway ended call (c.loop-alloc.invariant.call call is)
+    all_there c.args.graph.now (changes_since c.args.since.now) (g.V.View.sight c.args.view.now).database c.args.task.now.log.records c.loop-alloc.task c.loop-alloc.old c.loop-alloc.new c.loop-alloc.invariant.underway ended call (c.loop-alloc.invariant.call call is)
+
+pub returns-clause-past : goal.returns-clause-past
+returns-clause-past g c = c.loop-alloc.invariant.underway.past
 
 pub returns-in_err-step-clause-queried : goal.returns-in_err-step-clause-queried
 returns-in_err-step-clause-queried g c =
     let one : refusals c.from_residual-in_err-step.result ≡ 1 = search rules in
-    subst (λ n. HasQueried c.args.task.now.records c.step.new.task.records (changes_since c.args.since.now) n (g.V.View.sight c.args.view.now) (g.V.View.sight c.step.new.view)) (sym one)
-    (tried c.args.task.now.records c.loop-alloc.task c.step.new.task (changes_since c.args.since.now) (g.V.View.sight c.args.view.now) (g.V.View.sight c.loop-alloc.view) (g.V.View.sight c.step.new.view)
+    subst (λ n. HasQueried c.args.task.now.log.records c.step.new.task.log.records (changes_since c.args.since.now) n (g.V.View.sight c.args.view.now) (g.V.View.sight c.step.new.view)) (sym one)
+    (tried c.args.task.now.log.records c.loop-alloc.task c.step.new.task (changes_since c.args.since.now) (g.V.View.sight c.args.view.now) (g.V.View.sight c.loop-alloc.view) (g.V.View.sight c.step.new.view)
     c.loop-alloc.invariant.queried c.in_err-step.ensures.err c.step.ensures.bounded)

@@ -6,9 +6,9 @@ use Rattle.mv_repair.proofs.repair.repair.Given as goal
 
 abbrev pub invariant-loop-alloc : goal.invariant-loop-alloc
 invariant-loop-alloc g l = record {
-  underway : IsUnderway l.graph (changes_since l.since) (g.V.View.sight l.fn.view).database l.fn.task.records l.task l.old l.new;
+  underway : IsUnderway l.graph (changes_since l.since) (g.V.View.sight l.fn.view).database l.fn.task.log.records l.task l.old l.new;
   call : IsSameCall l.graph l.fn.task l.task;
-  queried : HasQueried l.fn.task.records l.task.records (changes_since l.since) 0 (g.V.View.sight l.fn.view) (g.V.View.sight l.view);
+  queried : HasQueried l.fn.task.log.records l.task.log.records (changes_since l.since) 0 (g.V.View.sight l.fn.view) (g.V.View.sight l.view);
   same : IsSameView (g.V.View.sight l.fn.view) (g.V.View.sight l.view);
   never : WasNeverStale (g.V.View.sight l.fn.view) (g.V.View.sight l.view);
 }

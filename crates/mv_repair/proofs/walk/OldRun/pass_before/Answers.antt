@@ -1,7 +1,7 @@
 use Rattle.std.proofs.Common.{◌+◌, ◌≤◌, length, sym, ap, subst, ◌∙◌, arith}
 use Rattle.std.proofs.lemmas.Option.{slice_get_past}
 use Rattle.mv_repair.specs.declared.walk.OldRun.{OldRun}
-use Rattle.mv_repair.specs.Walking.{any_write, is_before, next_writes, AreFirst, HasPassed}
+use Rattle.mv_repair.specs.Walking.{any_write, is_before, next_writes, HasPassed}
 use Rattle.mv_repair.proofs.Passing.{noted_longer, passed_next, passed_then}
 use Rattle.mv_repair.proofs.walk.OldRun.pass_before.Goals as goal
 
@@ -9,10 +9,10 @@ pub loop-self-preserved : goal.loop-self-preserved
 loop-self-preserved c =
     let now = c.loop-self.self in
     record {
-      passed = subst (λ (o : OldRun). HasPassed c.args.self.now c.args.path.now (record o { at = o.at + 1 })) (sym c.in_ok-note.ensures)
-          (passed_then c.args.self.now now _ c.args.path.now c.loop-self.invariant.passed (passed_next now c.args.path.now (sym c.is_before.ensures ∙ c.if-is_before.true)));
-      first = subst (λ (o : OldRun). AreFirst o.keys) (sym c.in_ok-note.ensures) c.loop-self.invariant.first;
-      within = subst (λ (o : OldRun). o.known ≤ length o.others) (sym c.in_ok-note.ensures) (noted_longer now.known now.at now.others (any_write (next_writes now)) c.loop-self.invariant.within);
+      passed = subst (λ (o : OldRun). HasPassed c.args.past.now c.args.self.now c.args.path.now (record o { at = o.at + 1 })) (sym c.in_ok-note.ensures)
+          (passed_then c.args.past.now c.args.self.now now _ c.args.path.now c.loop-self.invariant.passed (passed_next c.args.past.now now c.args.path.now (sym c.is_before.ensures ∙ c.if-is_before.true)));
+      on = let same = ap (λ (o : OldRun). o.at) c.in_ok-note.ensures in omega (arith, same, c.loop-self.invariant.on);
+      within = subst (λ (o : OldRun). o.known ≤ length o.others) (sym c.in_ok-note.ensures) (noted_longer now.known now.at now.others (any_write (next_writes c.args.past.now now)) c.loop-self.invariant.within);
     }
 
 pub returns-after-loop-self-clause-stops : goal.returns-after-loop-self-clause-stops
