@@ -10,6 +10,7 @@ pub mod Recents
 pub mod Ending
 pub mod Driving
 pub mod Telling
+pub mod Lent
 pub mod Putting
 pub mod Stored
 pub mod Taking

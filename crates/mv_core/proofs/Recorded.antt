@@ -46,7 +46,7 @@ get_apart (x ∷ xs) y (suc n) ne = get_apart xs y n (λ e. ne (ap suc e))
 pub others_begun : (c : ℕ) (ts : List (Option Running)) (o : Option Running) (now : Cored) → ts ≡ now.tasks → c ≡ length ts → (d : ℕ) → (d ≡ c → ⊥) → slice_get (ts ++ o ∷ []) d ≡ slice_get now.tasks d
 others_begun c ts o now is last d ne = get_apart ts o d (λ e. ne (e ∙ sym last)) ∙ others_kept c ts now is d ne
 
-pub begun_records : (c : ℕ) (ts : List (Option Running)) (t : Running) → c ≡ length ts → t.task.records ≡ [] → records_by (slice_get (ts ++ Some t ∷ []) c) ≡ []
+pub begun_records : (c : ℕ) (ts : List (Option Running)) (t : Running) → c ≡ length ts → t.task.log.records ≡ [] → records_by (slice_get (ts ++ Some t ∷ []) c) ≡ []
 begun_records c ts t last none = ap records_by (get_end ts (Some t) c last) ∙ none
 
 -- The task at a number
@@ -56,7 +56,7 @@ task_at s course ts c o t k live read some = slice_get_read ts (length ts) c o r
 
 -- a statement was executed
 pub runs_one : (s : Script) (course : Course) (ts : List (Option Running)) (c : ℕ) (o : Option Running) (t u : Running) (now : Cored) (new : Booked) → HasTasks s course ts → IsLiveCall course c → o ≡ get_or ts c o → o ≡ Some t
-    → ts ≡ now.tasks → course ≡ now.book.course → ((l : Live) → IsLive course c l → length t.task.records ≤ l.steps → HasRunOne t.task u.task) → ((l : Live) → IsLive course c l → l.steps < length t.task.records → u ≡ t)
+    → ts ≡ now.tasks → course ≡ now.book.course → ((l : Live) → IsLive course c l → length t.task.log.records ≤ l.steps → HasRunOne t.task u.task) → ((l : Live) → IsLive course c l → l.steps < length t.task.log.records → u ≡ t)
     → RunsOne c now (record { book = new; tasks = slice_set ts c (Some u) })
 runs_one s course ts c o t u now new k live read some tasks is one named = record {
   before = t;
@@ -71,7 +71,7 @@ runs_one s course ts c o t u now new k live read some tasks is one named = recor
 
 -- All records
 
-pub whole_set : (s : Script) (course : Course) (b : Booked) (ts : List (Option Running)) (c : ℕ) (t : Running) → HasTasks s course ts → IsLiveCall course c → AreRecordsOf b c t.task.records → AreRecordsOf b c (records_by (slice_get (slice_set ts c (Some t)) c))
+pub whole_set : (s : Script) (course : Course) (b : Booked) (ts : List (Option Running)) (c : ℕ) (t : Running) → HasTasks s course ts → IsLiveCall course c → AreRecordsOf b c t.task.log.records → AreRecordsOf b c (records_by (slice_get (slice_set ts c (Some t)) c))
 whole_set s course b ts c t k live are l here = let had = k.running c live.0 live.1 in ap records_by (set_there ts c (Some t) (Some had.0) had.1) ∙ are l here
 
 -- after a repair or a move
@@ -85,12 +85,12 @@ whole_again m old new c l rs ne live made are x at =
 
 -- The first records of a full run
 
-first_of : (s : Script) (order : List ℕ) (c : ℕ) (l : Live) (t : Running) → IsScript s → c < length s.calls → IsLiveTask s order c l t → IsPrefix t.task.records (records_at (work_of s) order l.start c)
+first_of : (s : Script) (order : List ℕ) (c : ℕ) (l : Live) (t : Running) → IsScript s → c < length s.calls → IsLiveTask s order c l t → IsPrefix t.task.log.records (records_at (work_of s) order l.start c)
 first_of s order c l t k lt task =
     let call : (call : Call) × (g : Graph) × IsCallOf s c call g = k.1.there c lt in
     let db : Tables = table_at (work_of s) order l.start in
     let way : IsTaskOn call.1 call.0 db t.task = task.runs call.0 call.1 call.2 in
     (way.rest, sym (ap (λ (r : Run). r.records) (run_is s c call.0 call.1 db call.2) ∙ way.leaves))
 
-pub first_told : (b : Booked) (c : ℕ) (t : Running) → IsScript b.script → c < length b.script.calls → ((l : Live) → IsLive b.course c l → IsLiveTask b.script b.course.order c l t) → AreFirstOf b c t.task.records
+pub first_told : (b : Booked) (c : ℕ) (t : Running) → IsScript b.script → c < length b.script.calls → ((l : Live) → IsLive b.course c l → IsLiveTask b.script b.course.order c l t) → AreFirstOf b c t.task.log.records
 first_told b c t k lt task l live = first_of b.script b.course.order c l t k lt (task l live)

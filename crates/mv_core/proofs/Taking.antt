@@ -148,14 +148,14 @@ pub due_live : (w : Work) (s : Course) (c : ℕ) (l : Live) → IsLive s c l →
 due_live w s c l live = ap (λ o. last_number (rounds_of w s.order c (turns_of o))) live.at
 
 -- the number of a live call whose task has run whole
-pub due_now : (b : Booked) (c n : ℕ) (running : Running) → IsLiveCall b.course c → IsTaskIn b c running → AreRecordsOf b c running.task.records → n ≡ count_or running.count (length running.task.records)
+pub due_now : (b : Booked) (c n : ℕ) (running : Running) → IsLiveCall b.course c → IsTaskIn b c running → AreRecordsOf b c running.task.log.records → n ≡ count_or running.count (length running.task.log.records)
     → due_number (work_in b) b.course c ≡ Some n
 due_now b c n running live taken are is =
     due_live (work_in b) b.course c live.0 live.1
     ∙ ((taken live.0 live.1).counted ∙ ap Some (ap (λ (rs : List Record). count_or running.count (length rs)) (sym (are live.0 live.1)) ∙ sym is))
 
 -- if its round has none yet, that is what the task executed
-pub due_first : (b : Booked) (c : ℕ) (running : Running) → IsLiveCall b.course c → HasNumber b c → IsTaskIn b c running → AreRecordsOf b c running.task.records → IsMissing running.task.executed b c
+pub due_first : (b : Booked) (c : ℕ) (running : Running) → IsLiveCall b.course c → HasNumber b c → IsTaskIn b c running → AreRecordsOf b c running.task.log.records → IsMissing running.task.executed b c
 due_first b c running live number taken are none =
     let l : Live = live.0 in
     let first : used l ≡ 0 = number none l live.1 in
@@ -201,7 +201,7 @@ task_ran s order c l old task t runs one = record {
 }
 
 -- it has records that the journal doesn't name, and the next one is named
-pub task_named : (s : Script) (order : List ℕ) (c : ℕ) (l : Live) (running : Running) → IsLiveTask s order c l running → (length running.task.records ≤ l.steps → ⊥) → IsLiveTask s order c (record l { steps = l.steps + 1 }) running
+pub task_named : (s : Script) (order : List ℕ) (c : ℕ) (l : Live) (running : Running) → IsLiveTask s order c l running → (length running.task.log.records ≤ l.steps → ⊥) → IsLiveTask s order c (record l { steps = l.steps + 1 }) running
 task_named s order c l running t more = record {
   runs = t.runs;
   counted = t.counted;
@@ -212,7 +212,7 @@ task_named s order c l running t more = record {
 
 -- its number is known
 pub task_given : (s : Script) (order : List ℕ) (c n : ℕ) (l : Live) (running : Running) → HasTurns (length order) l → last_number (rounds_of (work_of s) order c l.turns) ≡ Some n → running.count ≡ Some n
-    → running.task.executed ≡ length running.task.records → RunsOn s c (table_at (work_of s) order l.start) running.task → IsLiveTask s order c l running
+    → running.task.executed ≡ length running.task.log.records → RunsOn s c (table_at (work_of s) order l.start) running.task → IsLiveTask s order c l running
 task_given s order c n l running h number count all runs = record {
   runs = runs;
   counted = number ∙ ap (λ o. Some (count_or o (length (records_at (work_of s) order l.start c)))) (sym count);
@@ -222,8 +222,8 @@ task_given s order c n l running h number count all runs = record {
 }
 
 -- it has lost its records
-pub task_spent : (s : Script) (order : List ℕ) (c n : ℕ) (l : Live) (old new : Running) → IsLiveTask s order c l old → old.task.records ≡ records_at (work_of s) order l.start c
-    → n ≡ count_or old.count (length old.task.records) → new.count ≡ Some n → new.task.executed ≡ length new.task.records → RunsOn s c (table_at (work_of s) order l.start) new.task → IsLiveTask s order c l new
+pub task_spent : (s : Script) (order : List ℕ) (c n : ℕ) (l : Live) (old new : Running) → IsLiveTask s order c l old → old.task.log.records ≡ records_at (work_of s) order l.start c
+    → n ≡ count_or old.count (length old.task.log.records) → new.count ≡ Some n → new.task.executed ≡ length new.task.log.records → RunsOn s c (table_at (work_of s) order l.start) new.task → IsLiveTask s order c l new
 task_spent s order c n l old new t are is count all runs =
     task_given s order c n l new t.turns (t.counted ∙ ap Some (ap (λ (rs : List Record). count_or old.count (length rs)) (sym are) ∙ sym is)) count all runs
 
@@ -250,7 +250,7 @@ task_again s order c l running h r = record {
   turns = turns_again (length order) Plain l h;
 }
 
-task_begun : (s : Script) (order : List ℕ) (c : ℕ) (task : Task) → ((db : Tables) → RunsOn s c db task) → task.executed ≡ length task.records → IsLiveTask s order c (begin (length order)) (record { task = task; count = None })
+task_begun : (s : Script) (order : List ℕ) (c : ℕ) (task : Task) → ((db : Tables) → RunsOn s c db task) → task.executed ≡ length task.log.records → IsLiveTask s order c (begin (length order)) (record { task = task; count = None })
 task_begun s order c task runs all = record {
   runs = runs (table_at (work_of s) order (length order));
   counted = refl;
@@ -350,7 +350,7 @@ tasks_committed s course ts c l m k live ended = record {
 -- Events of a book
 
 pub begun_on : (old new : Booked) (ts : List (Option Running)) (c : ℕ) (t : Task) → HasTasks old.script old.course ts → Made (B c) old new → c ≡ length old.course.calls → c < length old.script.calls
-    → ((db : Tables) → RunsOn old.script c db t) → t.executed ≡ length t.records → HasTasks new.script new.course (ts ++ Some (record { task = t; count = None }) ∷ [])
+    → ((db : Tables) → RunsOn old.script c db t) → t.executed ≡ length t.log.records → HasTasks new.script new.course (ts ++ Some (record { task = t; count = None }) ∷ [])
 begun_on old new ts c t k made is room runs all =
     tasks_same old.script new.script _ new.course (ts ++ Some (record { task = t; count = None }) ∷ [])
     (tasks_begun old.script old.course ts (record { task = t; count = None }) k (omega (arith, is, room))
@@ -435,7 +435,7 @@ pub core_set : (b : Booked) (store : Versioned) (ts : List (Option Running)) (c 
 core_set b store ts c t k live task = record { stored = k.stored; numbers = k.numbers; tasks = tasks_set b.script b.course ts c t k.tasks live task }
 
 -- its own writes are those of its records
-pub task_writes : (s : Script) (order : List ℕ) (c : ℕ) (l : Live) (t : Running) → IsScript s → c < length s.calls → IsLiveTask s order c l t → HasWritesOf t.task.undo t.task.records
+pub task_writes : (s : Script) (order : List ℕ) (c : ℕ) (l : Live) (t : Running) → IsScript s → c < length s.calls → IsLiveTask s order c l t → HasWritesOf t.task.undo t.task.log.records
 task_writes s order c l t k lt task = let call = k.1.there c lt in (task.runs call.0 call.1 call.2).is.writes
 
 pub one_live : (s : Course) (c : ℕ) (l m : Live) → IsLive s c l → IsLive s c m → l ≡ m
@@ -450,7 +450,7 @@ pub runs_back : (b : Booked) (c n : ℕ) (s : Script) (v : Sight) (task : Task) 
 runs_back b c n s v task is shows runs = subst (λ db. RunsOn b.script c db task) shows.database (subst (λ (x : Script). RunsOn x c v.database task) is runs)
 
 -- a call that has a step, and no record that the journal doesn't name, hasn't ended
-pub goes_on : (s : Script) (course : Course) (c : ℕ) (l : Live) (t : Task) → IsScript s → c < length s.calls → RunsOn s c (table_at (work_of s) course.order l.start) t → length t.records ≤ l.steps → has_step (work_of s) course c l ≡ true → t.ended ≡ false
+pub goes_on : (s : Script) (course : Course) (c : ℕ) (l : Live) (t : Task) → IsScript s → c < length s.calls → RunsOn s c (table_at (work_of s) course.order l.start) t → length t.log.records ≤ l.steps → has_step (work_of s) course c l ≡ true → t.ended ≡ false
 goes_on s course c l t k lt runs here has = by t.ended refl where
   call : (call : Call) × (g : Graph) × IsCallOf s c call g
   call = k.1.there c lt
@@ -461,7 +461,7 @@ goes_on s course c l t k lt runs here has = by t.ended refl where
   way : IsTaskOn call.1 call.0 db t
   way = runs call.0 call.1 call.2
 
-  all : records_at (work_of s) course.order l.start c ≡ t.records ++ way.rest
+  all : records_at (work_of s) course.order l.start c ≡ t.log.records ++ way.rest
   all = ap (λ (r : Run). r.records) (run_is s c call.0 call.1 db call.2) ∙ way.leaves
 
   less : nat_lt l.steps (length (records_at (work_of s) course.order l.start c)) ≡ true
@@ -474,12 +474,12 @@ goes_on s course c l t k lt runs here has = by t.ended refl where
   by false e = e
   by true e =
       let none : way.rest ≡ [] = (ends_exactly call.1 call.0 db t way.rest way.is (table_database k.0 s course.order l.start k.1).rising way.leaves).0 e in
-      let many : length (records_at (work_of s) course.order l.start c) ≡ length t.records = ap length (all ∙ (ap (λ rs. t.records ++ rs) none ∙ append-nil t.records)) in
-      absurd (past l.steps (length t.records) here (subst (λ n. nat_lt l.steps n ≡ true) many less))
+      let many : length (records_at (work_of s) course.order l.start c) ≡ length t.log.records = ap length (all ∙ (ap (λ rs. t.log.records ++ rs) none ∙ append-nil t.log.records)) in
+      absurd (past l.steps (length t.log.records) here (subst (λ n. nat_lt l.steps n ≡ true) many less))
 
 -- the number of a call that is in its first round and has no step: it has all its records, or their number is known
 pub number_ran : (s : Script) (course : Course) (c : ℕ) (l : Live) (t : Running) → IsScript s → c < length s.calls → IsLive course c l → IsLiveTask s course.order c l t → used l ≡ 0 → has_step (work_of s) course c l ≡ false
-    → due_number (work_of s) course c ≡ Some (count_or t.count (length t.task.records))
+    → due_number (work_of s) course c ≡ Some (count_or t.count (length t.task.log.records))
 number_ran s course c l t k lt live task first none = due_live (work_of s) course c l live ∙ (task.counted ∙ ap Some (by t.count refl)) where
   call : (call : Call) × (g : Graph) × IsCallOf s c call g
   call = k.1.there c lt
@@ -493,24 +493,24 @@ number_ran s course c l t k lt live task first none = due_live (work_of s) cours
   all : List Record
   all = records_at (work_of s) course.order l.start c
 
-  many : length all ≡ length t.task.records + length way.rest
-  many = ap length (ap (λ (r : Run). r.records) (run_is s c call.0 call.1 db call.2) ∙ way.leaves) ∙ length-append t.task.records way.rest
+  many : length all ≡ length t.task.log.records + length way.rest
+  many = ap length (ap (λ (r : Run). r.records) (run_is s c call.0 call.1 db call.2) ∙ way.leaves) ∙ length-append t.task.log.records way.rest
 
   past : length all ≤ l.steps
   past = ltb-false l.steps (length all) (sym (ap (λ b. b && nat_lt l.steps (length all)) (eq-eqb (used l) 0 first)) ∙ none)
 
-  by : (o : Option ℕ) → t.count ≡ o → count_or o (length all) ≡ count_or o (length t.task.records)
+  by : (o : Option ℕ) → t.count ≡ o → count_or o (length all) ≡ count_or o (length t.task.log.records)
   by (Some n) is = refl
   by None is = let ran = task.steps is first in let le = past in let both = many in omega (arith, ran, le, both)
 
 -- what is left of a call all of whose records are counted
-pub left_told : (g : Graph) (call : Call) (db : Tables) (t : Task) (rest : List Record) (steps : ℕ) → IsTaskOf g call t → AreRising db → HasLeft g call db t rest → steps ≡ length t.records → not t.ended ≡ nat_lt steps (length (meaning_of g call db).records)
+pub left_told : (g : Graph) (call : Call) (db : Tables) (t : Task) (rest : List Record) (steps : ℕ) → IsTaskOf g call t → AreRising db → HasLeft g call db t rest → steps ≡ length t.log.records → not t.ended ≡ nat_lt steps (length (meaning_of g call db).records)
 left_told g call db t rest steps is rise leaves here = by t.ended refl where
   exact : (t.ended ≡ true) ↔ (rest ≡ [])
   exact = ends_exactly g call db t rest is rise leaves
 
-  many : length (meaning_of g call db).records ≡ length t.records + length rest
-  many = ap length leaves ∙ length-append t.records rest
+  many : length (meaning_of g call db).records ≡ length t.log.records + length rest
+  many = ap length leaves ∙ length-append t.log.records rest
 
   not_less : (n m : ℕ) → m ≡ n → nat_lt n m ≡ false
   not_less n m e = grind (arith, e)
@@ -530,18 +530,18 @@ left_told g call db t rest steps is rise leaves here = by t.ended refl where
 
 -- a repair has run on the last tables, and executed as many records as Runs says
 pub task_repaired : (b : Booked) (c n : ℕ) (s : Script) (v : Sight) (l : Live) (old new : Task) (commits : List (List Change)) → s ≡ b.script → Shows b.script b.course.order (length b.course.order) v
-    → commits ≡ since (work_in b) b.course.order l.start → old.records ≡ records_at (work_in b) b.course.order l.start c → RunsOn s c v.database new → new.records ≡ ((work_of s).run c v.database).records
-    → new.executed ≡ executions old.records new.records (flat_map (λ changes. changes) commits) → n ≡ new.executed → IsRepaired b.script b.course.order c l (record { task = new; count = Some n })
+    → commits ≡ since (work_in b) b.course.order l.start → old.log.records ≡ records_at (work_in b) b.course.order l.start c → RunsOn s c v.database new → new.log.records ≡ ((work_of s).run c v.database).records
+    → new.executed ≡ executions old.log.records new.log.records (flat_map (λ changes. changes) commits) → n ≡ new.executed → IsRepaired b.script b.course.order c l (record { task = new; count = Some n })
 task_repaired b c n s v l old new commits is shows all was runs records executed number = record {
   runs = runs_back b c (length b.course.order) s v new is shows runs;
   records = now;
   executed =
       executed
-      ∙ (ap (λ rs. executions rs new.records (flat_map (λ changes. changes) commits)) was
+      ∙ (ap (λ rs. executions rs new.log.records (flat_map (λ changes. changes) commits)) was
       ∙ (ap (λ rs. executions (records_at (work_in b) b.course.order l.start c) rs (flat_map (λ changes. changes) commits)) now
       ∙ ap (executions (records_at (work_in b) b.course.order l.start c) (records_at (work_in b) b.course.order (length b.course.order) c))
       (ap (flat_map (λ (changes : List Change). changes)) all ∙ sym (changes_to_last (work_in b) b.course.order l.start))));
   count = ap Some number;
 } where
-  now : new.records ≡ records_at (work_in b) b.course.order (length b.course.order) c
+  now : new.log.records ≡ records_at (work_in b) b.course.order (length b.course.order) c
   now = records ∙ (ap (λ (x : Script). ((work_of x).run c v.database).records) is ∙ ap (λ db. ((work_in b).run c db).records) shows.database)

@@ -72,13 +72,13 @@ IsDatabaseIn s c db = (call : Call) (g : Graph) → IsCallOf s c call g → IsDa
 
 -- one record was added by executing its statement
 pub record HasRunOne (old new : Task) : Type 0 where
-  pub records : length new.records ≡ length old.records + 1
+  pub records : length new.log.records ≡ length old.log.records + 1
   pub executed : new.executed ≡ old.executed + 1
 
 -- records were added, and each of them was executed
 pub record CountsAll (old new : Task) : Type 0 where
-  pub executed : new.executed + length old.records ≡ old.executed + length new.records
-  pub more : length old.records ≤ length new.records
+  pub executed : new.executed + length old.log.records ≡ old.executed + length new.log.records
+  pub more : length old.log.records ≤ length new.log.records
 
 -- the start of the last round
 abbrev pub last_start : List Turn → ℕ
@@ -109,8 +109,8 @@ IsCounted w order c l count = last_number (rounds_of w order c l.turns) ≡ Some
 pub record IsLiveTask (s : Script) (order : List ℕ) (c : ℕ) (l : Live) (running : Running) : Type 0 where
   pub runs : RunsOn s c (table_at (work_of s) order l.start) running.task
   pub counted : IsCounted (work_of s) order c l running.count
-  pub executed : used l ≡ 0 → running.task.executed ≡ length running.task.records
-  pub steps : running.count ≡ None → used l ≡ 0 → l.steps ≤ length running.task.records
+  pub executed : used l ≡ 0 → running.task.executed ≡ length running.task.log.records
+  pub steps : running.count ≡ None → used l ≡ 0 → l.steps ≤ length running.task.log.records
   pub turns : HasTurns (length order) l
 
 -- the same of the call of a number, if it is live
@@ -132,7 +132,7 @@ pub record IsRunningIn (b : Booked) (store : Versioned) (c : ℕ) (running : Run
 -- the task was repaired: it has run whole after all commits, and executed what a repair from the call's start executes
 pub record IsRepaired (s : Script) (order : List ℕ) (c : ℕ) (l : Live) (running : Running) : Type 0 where
   pub runs : RunsOn s c (table_at (work_of s) order (length order)) running.task
-  pub records : running.task.records ≡ records_at (work_of s) order (length order) c
+  pub records : running.task.log.records ≡ records_at (work_of s) order (length order) c
   pub executed : running.task.executed ≡ repair_run (work_of s) order c l.start (length order)
   pub count : running.count ≡ Some running.task.executed
 
@@ -154,7 +154,7 @@ pub record Cored : Type 0 where
 abbrev pub records_by : Option (Option Running) → List Record
 records_by None = []
 records_by (Some None) = []
-records_by (Some (Some running)) = running.task.records
+records_by (Some (Some running)) = running.task.log.records
 
 -- the records of a call, as far as its task has run
 abbrev pub records_in : Cored → ℕ → List Record
@@ -212,8 +212,8 @@ pub record RunsOne (c : ℕ) (old new : Cored) : Type 0 where
   pub after : Running
   pub had : slice_get old.tasks c ≡ Some (Some before)
   pub has : slice_get new.tasks c ≡ Some (Some after)
-  pub one : (l : Live) → IsLive old.book.course c l → length before.task.records ≤ l.steps → HasRunOne before.task after.task
-  pub named : (l : Live) → IsLive old.book.course c l → l.steps < length before.task.records → after ≡ before
+  pub one : (l : Live) → IsLive old.book.course c l → length before.task.log.records ≤ l.steps → HasRunOne before.task after.task
+  pub named : (l : Live) → IsLive old.book.course c l → l.steps < length before.task.log.records → after ≡ before
 
 -- a call that is hit has run whole
 abbrev pub RunsWhole : ℕ → Attempt → Cored → Type 0

@@ -391,8 +391,8 @@ impl Book {
     /// predicate of the records on each change of the predicate's table.
     pub fn check(&self, call: u32, task: &Task) -> Check
         requires live { IsLiveCall self.now.course call }
-        requires records { AreRecordsOf self.now call task.now.records }
-        requires writes { HasWritesOf task.now.undo task.now.records }
+        requires records { AreRecordsOf self.now call task.now.log.records }
+        requires writes { HasWritesOf task.now.undo task.now.log.records }
         ensures { (l : Live) → IsLive self.now.course call l → IsAnswer result (work_in self.now) self.now.course call l }
     {
         let start = self.start(call);
@@ -402,7 +402,7 @@ impl Book {
                 low: self.low,
             };
         }
-        match self.recent.first_hit(start, task.records(), task.undo()) {
+        match self.recent.first_hit(start, &task.records(), task.undo()) {
             Some(hit) => Check::Hit {
                 number: hit.number,
                 commit: hit.commit,

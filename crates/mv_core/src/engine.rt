@@ -18,7 +18,7 @@ use crate::tasks::{
 use mv_exec::step::Stepped;
 use mv_journal::event::Event;
 use mv_journal::outcome::{Outcome, Round};
-use mv_record::record::Record;
+use mv_log::records::Records;
 use mv_script::script::Script;
 use mv_store::store::Store;
 use mv_values::memory::NoMemory;
@@ -262,10 +262,10 @@ impl Core {
 
     /// Returns the records of a live call, as far as it has run. They are the first ones of its full run on the tables at
     /// its start.
-    pub fn records(&self, call: u32) -> &[Record]
+    pub fn records(&self, call: u32) -> Records<'_>
         requires { IsLiveCall self.now.book.course call }
-        ensures told { result.now ≡ records_in self.now call }
-        ensures first { AreFirstOf self.now.book call result.now }
+        ensures told { result ≡ records_in self.now call }
+        ensures first { AreFirstOf self.now.book call result }
     {
         let Some(running) = &self.tasks[call as usize] else {
             unreachable!();

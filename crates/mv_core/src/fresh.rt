@@ -16,7 +16,7 @@ use crate::told::changes_told;
 use mv_changes::changes::Changes;
 use mv_changes::recent::Committed;
 use mv_exec::task::Task;
-use mv_record::record::Record;
+use mv_log::records::Records;
 use mv_script::script::Script;
 use mv_store::view::StoreView;
 use mv_values::memory::NoMemory;
@@ -61,7 +61,7 @@ pub(crate) fn finish_fresh(
     requires runs { RunsOn script.now number view.old.database task.old }
     requires fresh { view.old.may_be_stale ≡ false }
     ensures runs { RunsOn script.now number view.old.database task.new }
-    ensures records { OnOk result (task.new.records ≡ ((work_of script.now).run number view.old.database).records) }
+    ensures records { OnOk result (task.new.log.records ≡ ((work_of script.now).run number view.old.database).records) }
     ensures ended { OnOk result (task.new.ended ≡ true) }
     ensures counts { CountsAll task.old task.new }
 {
@@ -89,8 +89,8 @@ pub(crate) fn repair_fresh(
     requires fresh { view.old.may_be_stale ≡ false }
     ensures call { IsTaskFor script.now number task.new }
     ensures runs { OnOk result (RunsOn script.now number view.old.database task.new) }
-    ensures records { OnOk result (task.new.records ≡ ((work_of script.now).run number view.old.database).records) }
-    ensures executed { OnOk result (task.new.executed ≡ executions task.old.records task.new.records (changes_since since.now)) }
+    ensures records { OnOk result (task.new.log.records ≡ ((work_of script.now).run number view.old.database).records) }
+    ensures executed { OnOk result (task.new.executed ≡ executions task.old.log.records task.new.log.records (changes_since since.now)) }
 {
     match repair_over(alloc, script, number, task, since, view) {
         Ok(_) => Ok(()),
@@ -104,7 +104,7 @@ pub(crate) fn repair_fresh(
 pub(crate) fn changes_fresh(
     alloc: Global,
     tables: usize,
-    records: &[Record],
+    records: &Records<'_>,
     view: &mut StoreView<'_>,
 ) -> Result<Changes, NoMemory>
     requires tables { tables ≡ length view.old.database }

@@ -98,7 +98,7 @@ pub fn run_all<V: View>(
     requires database { IsDatabaseIn script.now number (V.sight view.old).database }
     requires runs { RunsOn script.now number (V.sight view.old).database task.old }
     ensures runs { RunsOn script.now number (V.sight view.old).database task.new }
-    ensures records { OnOk result (task.new.records ≡ ((work_of script.now).run number (V.sight view.old).database).records) }
+    ensures records { OnOk result (task.new.log.records ≡ ((work_of script.now).run number (V.sight view.old).database).records) }
     ensures ended { OnOk result (task.new.ended ≡ true) }
     ensures counts { CountsAll task.old task.new }
     ensures view { OnlyAsks (V.sight view.old) (V.sight view.new) result }
@@ -124,8 +124,8 @@ pub fn repair_over<V: View>(
     requires leads { CanRepair script.now number task.old (changes_since since.now) (V.sight view.old).database }
     ensures call { IsTaskFor script.now number task.new }
     ensures runs { OnOk result (RunsOn script.now number (V.sight view.old).database task.new) }
-    ensures records { OnOk result (task.new.records ≡ ((work_of script.now).run number (V.sight view.old).database).records) }
-    ensures executed { OnOk result (task.new.executed ≡ executions task.old.records task.new.records (changes_since since.now)) }
+    ensures records { OnOk result (task.new.log.records ≡ ((work_of script.now).run number (V.sight view.old).database).records) }
+    ensures executed { OnOk result (task.new.executed ≡ executions task.old.log.records task.new.log.records (changes_since since.now)) }
     ensures answer { IfOk result (λ count. count ≡ task.new.executed) }
     ensures view { OnlyAsks (V.sight view.old) (V.sight view.new) result }
 {
@@ -135,7 +135,7 @@ pub fn repair_over<V: View>(
 
 /// Whether a full run of the call has more records than this many. The call must have executed so many.
 pub(crate) fn has_more(task: &Task, steps: usize) -> bool
-    requires { steps ≤ length task.now.records }
+    requires { steps ≤ length task.now.log.records }
     ensures { (g : Graph) (call : Call) (db : Tables) (rest : List Record) → IsTaskOf g call task.now → AreRising db → HasLeft g call db task.now rest → result ≡ nat_lt steps (length (meaning_of g call db).records) }
 {
     steps < task.records().len() || !task.ended()

@@ -31,7 +31,8 @@ use crate::told::{put_told, reply_of};
 use mv_changes::changes::Changes;
 use mv_exec::task::Task;
 use mv_journal::outcome::{Mark, Outcome};
-use mv_record::record::Record;
+use mv_log::log::Log;
+use mv_log::records::Records;
 use mv_script::script::Script;
 use mv_store::store::Store;
 use mv_store::view::StoreView;
@@ -51,7 +52,7 @@ pub struct Running {
 impl Running {
     /// Returns the number of the last round of a call that has run whole.
     pub fn number(&self) -> usize
-        ensures { result ≡ count_or self.now.count (length self.now.task.records) }
+        ensures { result ≡ count_or self.now.count (length self.now.task.log.records) }
     {
         match self.count {
             Some(count) => count,
@@ -61,18 +62,18 @@ impl Running {
 
     /// Drops the records of a call, whose last round has this number. It runs again from its first statement. It
     /// allocates no memory.
-    pub fn spend(&mut self, alloc: Global, number: usize)
+    pub fn spend(&mut self, number: usize)
         ensures count { self.new.count ≡ Some number }
-        ensures executed { self.new.task.executed ≡ length self.new.task.records }
+        ensures executed { self.new.task.executed ≡ length self.new.task.log.records }
         ensures begins { (g : Graph) (call : Call) (db : Tables) → IsTaskOf g call self.old.task → IsTaskOn g call db self.new.task }
     {
-        self.task.restart(alloc);
+        self.task.restart();
         self.count = Some(number);
     }
 
     /// Whether a full run of the call has more records than this many. The call is in its first round.
     pub fn has_more(&self, steps: usize) -> bool
-        requires { self.now.count ≡ None → steps ≤ length self.now.task.records }
+        requires { self.now.count ≡ None → steps ≤ length self.now.task.log.records }
         ensures known { (k : ℕ) → self.now.count ≡ Some k → result ≡ nat_lt steps k }
         ensures unknown { self.now.count ≡ None → (g : Graph) (call : Call) (db : Tables) (rest : List Record) → IsTaskOf g call self.now.task → AreRising db → HasLeft g call db self.now.task rest → result ≡ nat_lt steps (length (meaning_of g call db).records) }
     {
@@ -89,11 +90,12 @@ pub fn new_task(alloc: Global, script: &Script, number: u32) -> Result<Task, NoM
     requires script { IsScript script.now }
     requires number { number < length script.now.calls }
     ensures runs { IfOk result (λ task. (db : Tables) → RunsOn script.now number db task) }
-    ensures records { IfOk result (λ task. task.records ≡ []) }
+    ensures records { IfOk result (λ task. task.log.records ≡ []) }
     ensures executed { IfOk result (λ task. task.executed ≡ 0) }
 {
     let at = find_call(script, number);
-    Task::new(alloc, at.graph, at.call)
+    let log = Log::new(alloc);
+    Task::new(alloc, at.graph, at.call, log)
 }
 
 /// Whether a live call is in its first round, which has a statement left.
@@ -125,8 +127,8 @@ pub fn step_task(
     requires fresh { IsNotStale book.now call }
     requires left { HasStep book.now call }
     ensures ok { OnOk result ((l : Live) → IsLive book.now.course call l → IsLiveTask book.now.script book.now.course.order call (record l { steps = l.steps + 1 }) running.new) }
-    ensures one { OnOk result ((l : Live) → IsLive book.now.course call l → length running.old.task.records ≤ l.steps → HasRunOne running.old.task running.new.task) }
-    ensures named { OnOk result ((l : Live) → IsLive book.now.course call l → l.steps < length running.old.task.records → running.new ≡ running.old) }
+    ensures one { OnOk result ((l : Live) → IsLive book.now.course call l → length running.old.task.log.records ≤ l.steps → HasRunOne running.old.task running.new.task) }
+    ensures named { OnOk result ((l : Live) → IsLive book.now.course call l → l.steps < length running.old.task.log.records → running.new ≡ running.old) }
     ensures err { OnErr result (IsUnchanged running.old.task running.new.task) }
     ensures task { IsTaskIn book.now call running.new }
     ensures ran { HasRunOn running.old running.new }
@@ -149,7 +151,7 @@ pub fn finish_task(
 ) -> Result<(), NoMemory>
     requires call { IsRunningIn book.now store.now call running.old }
     requires fresh { IsNotStale book.now call }
-    ensures ok { OnOk result (AreRecordsOf book.now call running.new.task.records) }
+    ensures ok { OnOk result (AreRecordsOf book.now call running.new.task.log.records) }
     ensures ended { OnOk result (running.new.task.ended ≡ true) }
     ensures task { IsTaskIn book.now call running.new }
     ensures ran { HasRunOn running.old running.new }
@@ -168,8 +170,8 @@ pub(crate) fn validate_task(
 ) -> Result<Check, NoMemory>
     requires call { IsRunningIn book.now store.now call running.old }
     ensures answer { IfOk result (λ check. (l : Live) → IsLive book.now.course call l → IsAnswer check (work_in book.now) book.now.course call l) }
-    ensures records { IfOk result (λ check. check ≡ IsFree → AreRecordsOf book.now call running.new.task.records) }
-    ensures hit { IfOk result (λ check. (number commit : ℕ) → check ≡ IsHit number commit → AreRecordsOf book.now call running.new.task.records) }
+    ensures records { IfOk result (λ check. check ≡ IsFree → AreRecordsOf book.now call running.new.task.log.records) }
+    ensures hit { IfOk result (λ check. (number commit : ℕ) → check ≡ IsHit number commit → AreRecordsOf book.now call running.new.task.log.records) }
     ensures task { IsTaskIn book.now call running.new }
 {
     let start = book.start(call);
@@ -192,7 +194,7 @@ pub fn repair_task(
 ) -> Result<(), NoMemory>
     requires call { IsRunningIn book.now store.now call running.old }
     requires fresh { IsNotStale book.now call }
-    requires whole { AreRecordsOf book.now call running.old.task.records }
+    requires whole { AreRecordsOf book.now call running.old.task.log.records }
     requires ended { running.old.task.ended ≡ true }
     ensures ok { OnOk result ((l : Live) → IsLive book.now.course call l → IsRepaired book.now.script book.now.course.order call l running.new) }
     ensures err { OnErr result (IsTaskIn book.now call running.new) }
@@ -208,7 +210,7 @@ pub fn repair_task(
         since,
         &mut view,
     ) {
-        running.spend(alloc, number);
+        running.spend(number);
         return Err(error);
     }
     running.count = Some(running.task.executed());
@@ -227,7 +229,7 @@ pub fn rerun_task(
     requires call { IsRunningIn book.old store.now call running.old }
     requires missing { IsMissing running.old.task.executed book.old call }
     requires fresh { IsNotStale book.old call }
-    requires whole { AreRecordsOf book.old call running.old.task.records }
+    requires whole { AreRecordsOf book.old call running.old.task.log.records }
     requires ended { running.old.task.ended ≡ true }
     requires allowed { refusal (work_in book.old) book.old.course (A call) ≡ None }
     ensures made { IfOk result (λ n. Made (A call) book.old book.new × (due_number (work_in book.new) book.new.course call ≡ Some n)) }
@@ -258,8 +260,8 @@ pub fn whole_task(
     requires fresh { book.now.course.low ≤ start }
     requires past { start ≤ length book.now.course.order }
     ensures runs { IfOk result (λ task. RunsOn book.now.script call (table_at (work_in book.now) book.now.course.order start) task) }
-    ensures records { IfOk result (λ task. task.records ≡ records_at (work_in book.now) book.now.course.order start call) }
-    ensures executed { IfOk result (λ task. task.executed ≡ length task.records) }
+    ensures records { IfOk result (λ task. task.log.records ≡ records_at (work_in book.now) book.now.course.order start call) }
+    ensures executed { IfOk result (λ task. task.executed ≡ length task.log.records) }
 {
     let mut task = new_task(alloc, book.script(), call)?;
     let mut view = StoreView::new(store, start);
@@ -276,8 +278,8 @@ pub fn move_task(alloc: Global, book: &mut Book, store: &Store, call: u32) -> Re
     ensures made { OnOk result (Made (M call) book.old book.new) }
     ensures settled { OnOk result (IsSettled book.new call) }
     ensures runs { IfOk result (λ task. RunsOn book.old.script call (last_tables book.old) task) }
-    ensures records { IfOk result (λ task. task.records ≡ records_at (work_in book.old) book.old.course.order (length book.old.course.order) call) }
-    ensures executed { IfOk result (λ task. task.executed ≡ length task.records) }
+    ensures records { IfOk result (λ task. task.log.records ≡ records_at (work_in book.old) book.old.course.order (length book.old.course.order) call) }
+    ensures executed { IfOk result (λ task. task.executed ≡ length task.log.records) }
     ensures same { OnErr result (IsSame book.old book.new) }
 {
     let task = whole_task(alloc, book, store, call, book.commits())?;
@@ -293,7 +295,7 @@ fn changes_made(
     book: &Book,
     store: &Store,
     call: u32,
-    records: &[Record],
+    records: &Records<'_>,
 ) -> Result<Option<Changes>, NoMemory>
     requires { IsStoreOf book.now store.now }
     ensures changes { IfOk result (λ changes. IfSome changes (λ told. told ≡ changes_between (last_tables book.now) (applied (writes_told records.now) (last_tables book.now)))) }
@@ -323,7 +325,7 @@ fn prepare(
     book: &Book,
     store: &mut Store,
     call: u32,
-    records: &[Record],
+    records: &Records<'_>,
 ) -> Result<Prepared, NoMemory>
     requires stored { IsStoreOf book.now store.old }
     requires number { call < length book.now.script.calls }
@@ -355,14 +357,14 @@ pub fn commit_task(
     requires live { IsLiveCall book.old.course call }
     requires number { call < length book.old.script.calls }
     requires allowed { refusal (work_in book.old) book.old.course (commit_event (own_number (option_copied exclusive)) call) ≡ None }
-    requires whole { task.now.records ≡ records_at (work_in book.old) book.old.course.order (length book.old.course.order) call }
+    requires whole { task.now.log.records ≡ records_at (work_in book.old) book.old.course.order (length book.old.course.order) call }
     requires settled { IsSettled book.old call }
     requires own { IsOwnNumber (own_number (option_copied exclusive)) book.old call }
     ensures made { HasCommitted (commit_event (own_number (option_copied exclusive.entry)) call) result book.old book.new }
     ensures stored { IsStoreOf book.new store.new }
 {
     book.reserve(call)?;
-    let prepared = prepare(alloc, book, store, call, task.records())?;
+    let prepared = prepare(alloc, book, store, call, &task.records())?;
     let commit = book.commit(call, prepared.reply, prepared.changes, exclusive);
     store.stamp(call, commit);
     Ok(commit)
@@ -381,7 +383,7 @@ pub fn settle_and_commit(
     requires live { IsLiveCall book.old.course call }
     requires number { call < length book.old.script.calls }
     requires missing { IsMissing task.now.executed book.old call }
-    requires whole { AreRecordsOf book.old call task.now.records }
+    requires whole { AreRecordsOf book.old call task.now.log.records }
     requires allowed { refusal (work_in book.old) book.old.course (C call) ≡ None }
     ensures made { HasCommitted (C call) result book.old book.new }
     ensures stored { IsStoreOf book.new store.new }
@@ -406,7 +408,7 @@ pub fn move_and_commit(
 {
     let task = whole_task(alloc, book, store, call, book.commits())?;
     book.reserve(call)?;
-    let prepared = prepare(alloc, book, store, call, task.records())?;
+    let prepared = prepare(alloc, book, store, call, &task.records())?;
     book.restart(call, Mark::Moved);
     book.settle(call, &task);
     let commit = book.commit(call, prepared.reply, prepared.changes, None);
@@ -426,7 +428,7 @@ pub fn decide_task(
     requires call { IsRunningIn book.old store.old call running.old }
     requires missing { IsMissing running.old.task.executed book.old call }
     requires fresh { IsNotStale book.old call }
-    requires whole { AreRecordsOf book.old call running.old.task.records }
+    requires whole { AreRecordsOf book.old call running.old.task.log.records }
     requires ended { running.old.task.ended ≡ true }
     requires allowed { refusal (work_in book.old) book.old.course (X call) ≡ None }
     ensures made { HasCommitted (X call) result book.old book.new }
@@ -439,7 +441,7 @@ pub fn decide_task(
     let task = &running.task;
     let committed = commit_task(alloc, book, store, call, task, Some(task));
     if committed.is_err() {
-        running.spend(alloc, number);
+        running.spend(number);
     }
     committed
 }

@@ -12,7 +12,7 @@ ghost use Rattle.mv_core.specs.Told.{reply_told, writes_told};
 
 use mv_changes::changes::Changes;
 use mv_changes::commit::changes_of_commit;
-use mv_record::record::Record;
+use mv_log::records::Records;
 use mv_store::store::Store;
 use mv_values::calls::{End, Reply};
 use mv_values::copied::Copied;
@@ -23,38 +23,37 @@ use mv_view::view::{Refused, View};
 use std::alloc::Global;
 
 /// Returns the first end that a record has.
-fn end_of(records: &[Record]) -> Option<&End>
+fn end_of<'a>(records: &Records<'a>) -> Option<&'a End>
     ensures { option_copied result ≡ end_in records.now }
 {
-    for record in records {
-        if let Some(end) = &record.end {
+    for number in 0..records.len() {
+        if let Some(end) = records.get(number).end() {
             return Some(end);
         }
     }
     None
 }
 
-/// Checks whether a record has a line.
-fn has_line(made: &Record) -> bool
-    ensures { result ≡ is_some made.now.line }
-{
-    made.line.is_some()
-}
-
 /// Returns the number of records that have a line.
-fn line_count(records: &[Record]) -> usize
+fn line_count(records: &Records<'_>) -> usize
     ensures { result ≡ count_by (λ r. is_some r.line) records.now }
 {
-    records.iter().filter(|made| has_line(made)).count()
+    let mut count = 0;
+    for number in 0..records.len() {
+        if records.get(number).line().is_some() {
+            count += 1;
+        }
+    }
+    count
 }
 
 /// Copies the lines of records.
-fn lines_of(alloc: Global, records: &[Record]) -> Result<List<Txt>, NoMemory>
+fn lines_of(alloc: Global, records: &Records<'_>) -> Result<List<Txt>, NoMemory>
     ensures { IfOk result (λ lines. lines ≡ lines_in records.now) }
 {
     let mut lines = List::with_room(alloc, line_count(records))?;
-    for record in records {
-        if let Some(line) = &record.line {
+    for number in 0..records.len() {
+        if let Some(line) = records.get(number).line() {
             lines.push(line.copy(alloc)?)?;
         }
     }
@@ -62,7 +61,7 @@ fn lines_of(alloc: Global, records: &[Record]) -> Result<List<Txt>, NoMemory>
 }
 
 /// Returns the reply of a call with these records: their lines, or the first end alone.
-pub fn reply_of(alloc: Global, records: &[Record]) -> Result<Reply, NoMemory>
+pub fn reply_of(alloc: Global, records: &Records<'_>) -> Result<Reply, NoMemory>
     ensures { IfOk result (λ reply. reply ≡ reply_told records.now) }
 {
     match end_of(records) {
@@ -78,23 +77,29 @@ pub fn reply_of(alloc: Global, records: &[Record]) -> Result<Reply, NoMemory>
 }
 
 /// Puts the writes of records for a call, one record after another. If memory runs out, the call has no writes.
-fn put_all(alloc: Global, store: &mut Store, call: u32, records: &[Record]) -> Result<(), NoMemory>
+fn put_all(
+    alloc: Global,
+    store: &mut Store,
+    call: u32,
+    records: &Records<'_>,
+) -> Result<(), NoMemory>
     ensures ok { OnOk result (HasPut call (writes_in records.now) store.old store.new) }
     ensures err { OnErr result (HasDropped call store.old store.new) }
 {
-    for record in records {
-        store.put_all(alloc, call, record.writes.as_slice())?;
+    for number in 0..records.len() {
+        store.put_all(alloc, call, records.get(number).writes())?;
     }
     Ok(())
 }
 
 /// Returns the records whose writes count: all, or none if one of them ends the call.
-fn counted(records: &[Record]) -> &[Record]
-    ensures { writes_in result.now ≡ writes_told records.now }
+#[tactic(auto, using(std::proofs::lemmas::List::take_all))]
+fn counted<'a>(records: &Records<'a>) -> Records<'a>
+    ensures { writes_in result ≡ writes_told records.now }
 {
     match end_of(records) {
-        Some(_) => &[],
-        None => records,
+        Some(_) => records.first(0),
+        None => records.first(records.len()),
     }
 }
 
@@ -103,12 +108,12 @@ pub(crate) fn put_told(
     alloc: Global,
     store: &mut Store,
     call: u32,
-    records: &[Record],
+    records: &Records<'_>,
 ) -> Result<(), NoMemory>
     ensures ok { OnOk result (HasPut call (writes_told records.now) store.old store.new) }
     ensures err { OnErr result (HasDropped call store.old store.new) }
 {
-    put_all(alloc, store, call, counted(records))
+    put_all(alloc, store, call, &counted(records))
 }
 
 /// Returns the changes that a call with these records makes to a view's database, which has this many tables. Fails with
@@ -116,7 +121,7 @@ pub(crate) fn put_told(
 pub fn changes_told<V: View>(
     alloc: Global,
     tables: usize,
-    records: &[Record],
+    records: &Records<'_>,
     view: &mut V,
 ) -> Result<Changes, Refused>
     requires tables { tables ≡ length (V.sight view.old).database }
@@ -124,5 +129,5 @@ pub fn changes_told<V: View>(
     ensures changes { IfOk result (λ changes. changes ≡ changes_between (V.sight view.old).database (applied (writes_told records.now) (V.sight view.old).database)) }
     ensures stale { MayAnswer (V.sight view.old) (V.sight view.new) result }
 {
-    changes_of_commit(alloc, tables, counted(records), view)
+    changes_of_commit(alloc, tables, &counted(records), view)
 }

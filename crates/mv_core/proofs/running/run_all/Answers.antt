@@ -29,6 +29,6 @@ returns-clause-records g c = on_ok_weaker c.finish.result (λ are.
 pub returns-clause-counts : goal.returns-clause-counts
 returns-clause-counts g c =
     let h = c.finish.ensures.ran in
-    let all = ap (λ (rs : List Record). length rs) h.records ∙ length-append c.args.task.now.records h.more in
+    let all = ap (λ (rs : List Record). length rs) h.records ∙ length-append c.args.task.now.log.records h.more in
     let many = h.executed in
     record { executed = omega (arith, all, many); more = omega (arith, all) }

@@ -21,4 +21,4 @@ returns-clause-runs g c =
 pub returns-clause-ran : goal.returns-clause-ran
 returns-clause-ran g c = on_ok_weaker c.next.result (λ ran live.
     let h = ran live in
-    record { records = ap (λ (rs : List Record). length rs) h.records ∙ length-append c.args.task.now.records (h.next ∷ []); executed = h.executed }) c.next.ensures.ran
+    record { records = ap (λ (rs : List Record). length rs) h.records ∙ length-append c.args.task.now.log.records (h.next ∷ []); executed = h.executed }) c.next.ensures.ran

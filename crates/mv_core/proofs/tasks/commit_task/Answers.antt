@@ -8,7 +8,7 @@ use Rattle.mv_core.proofs.tasks.commit_task.Goals as goal
 
 pub prepare-requires-clause-whole : goal.prepare-requires-clause-whole
 prepare-requires-clause-whole c =
-    last_records_on c.args.book.now c.reserve.new.self c.args.call c.records.result.now c.reserve.ensures.same.script (ap (λ (s : Course). s.order) c.reserve.ensures.same.course) (c.records.ensures ∙ c.requires.whole)
+    last_records_on c.args.book.now c.reserve.new.self c.args.call c.records.result c.reserve.ensures.same.script (ap (λ (s : Course). s.order) c.reserve.ensures.same.course) (c.records.ensures ∙ c.requires.whole)
 
 pub commit-commit-requires-clause-settled : goal.commit-commit-requires-clause-settled
 commit-commit-requires-clause-settled c = c.reserve.ensures.same.settled c.args.call c.requires.settled

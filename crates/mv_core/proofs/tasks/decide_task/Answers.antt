@@ -22,7 +22,7 @@ repair_task-requires-clause-fresh c = on_new (λ s x. (l : Live) → IsLive x c.
 
 pub repair_task-requires-clause-whole : goal.repair_task-requires-clause-whole
 repair_task-requires-clause-whole c =
-    on_new (λ s x. (l : Live) → IsLive x c.args.call l → c.args.running.now.task.records ≡ records_at (work_of s) x.order l.start c.args.call) c.args.book.now c.settle.new.self c.settle.ensures.same c.requires.whole
+    on_new (λ s x. (l : Live) → IsLive x c.args.call l → c.args.running.now.task.log.records ≡ records_at (work_of s) x.order l.start c.args.call) c.args.book.now c.settle.new.self c.settle.ensures.same c.requires.whole
 
 pub returns-in_err-repair_task-clause-stored : goal.returns-in_err-repair_task-clause-stored
 returns-in_err-repair_task-clause-stored c = stored_same c.args.book.now c.settle.new.self c.args.store.now c.requires.call.stored c.settle.ensures.same

@@ -25,7 +25,7 @@ pub settle-requires-clause-number : goal.settle-requires-clause-number
 settle-requires-clause-number c none =
     let live = live_now c.args.book.now c.args.book.now c.reserve.new.self c.args.call refl c.requires.live c.reserve.ensures.same in
     let same =
-    last_records_on c.args.book.now c.reserve.new.self c.args.call c.in_ok-task.task.records c.reserve.ensures.same.script (ap (λ (s : Course). s.order) c.reserve.ensures.same.course)
+    last_records_on c.args.book.now c.reserve.new.self c.args.call c.in_ok-task.task.log.records c.reserve.ensures.same.script (ap (λ (s : Course). s.order) c.reserve.ensures.same.course)
     (c.in_ok-task.ensures.records ∙ ap (λ n. records_at (work_in c.args.book.now) c.args.book.now.course.order n c.args.call) c.commits.ensures) in
     due_made Moved c.reserve.new.self c.restart.new.self c.args.call c.in_ok-task.task.executed c.restart.ensures.made
     (due_moved c.reserve.new.self c.args.call live.0 live.1 ∙ ap Some (sym (ap length same) ∙ sym c.in_ok-task.ensures.executed))

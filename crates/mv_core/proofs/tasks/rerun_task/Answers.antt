@@ -33,7 +33,7 @@ repair_task-requires-clause-fresh c = on_new (λ s x. (l : Live) → IsLive x c.
 
 pub repair_task-requires-clause-whole : goal.repair_task-requires-clause-whole
 repair_task-requires-clause-whole c =
-    on_new (λ s x. (l : Live) → IsLive x c.args.call l → c.args.running.now.task.records ≡ records_at (work_of s) x.order l.start c.args.call) c.args.book.now c.reserve.new.self (same_both c.args.book.now c.settle.new.self c.reserve.new.self c.settle.ensures.same c.reserve.ensures.same) c.requires.whole
+    on_new (λ s x. (l : Live) → IsLive x c.args.call l → c.args.running.now.task.log.records ≡ records_at (work_of s) x.order l.start c.args.call) c.args.book.now c.reserve.new.self (same_both c.args.book.now c.settle.new.self c.reserve.new.self c.settle.ensures.same c.reserve.ensures.same) c.requires.whole
 
 pub returns-in_err-repair_task-clause-same : goal.returns-in_err-repair_task-clause-same
 returns-in_err-repair_task-clause-same c = always_err _ _ (same_both c.args.book.now c.settle.new.self c.reserve.new.self c.settle.ensures.same c.reserve.ensures.same)

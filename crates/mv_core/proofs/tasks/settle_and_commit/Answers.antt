@@ -20,8 +20,8 @@ commit_task-requires-clause-allowed c = allowed_same (C c.args.call) c.args.book
 
 pub commit_task-requires-clause-whole : goal.commit_task-requires-clause-whole
 commit_task-requires-clause-whole c =
-    last_records_on c.args.book.now c.settle.new.self c.args.call c.args.task.now.records c.settle.ensures.same.script (ap (λ (s : Course). s.order) c.settle.ensures.same.course)
-    (last_records c.args.book.now c.args.store.now c.args.call c.args.task.now.records c.requires.stored c.requires.number c.requires.live c.requires.whole c.requires.allowed)
+    last_records_on c.args.book.now c.settle.new.self c.args.call c.args.task.now.log.records c.settle.ensures.same.script (ap (λ (s : Course). s.order) c.settle.ensures.same.course)
+    (last_records c.args.book.now c.args.store.now c.args.call c.args.task.now.log.records c.requires.stored c.requires.number c.requires.live c.requires.whole c.requires.allowed)
 
 pub returns-clause-made : goal.returns-clause-made
 returns-clause-made c = committed_after (C c.args.call) c.commit_task.result c.args.book.now c.settle.new.self c.commit_task.new.book c.settle.ensures.same c.commit_task.ensures.made

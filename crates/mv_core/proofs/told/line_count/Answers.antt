@@ -1,12 +1,27 @@
-use Rattle.std.proofs.Common.{◌∙◌, is_some, rules, tests}
-use Rattle.std.proofs.lemmas.Iterator.{YieldsList-from_slice}
-use Rattle.std.proofs.lemmas.Iterator.Consumers.{YieldsList-from_filter, count_from_yields_List}
-use Rattle.std.proofs.lemmas.List.Sums.{length-filter}
-use Rattle.mv_record.specs.declared.record.Record.{Record}
+use Rattle.std.proofs.Common.{◌<◌, subst, sym, ◌∙◌, arith}
+use Rattle.mv_core.proofs.Lent.{count_here, count_later}
 use Rattle.mv_core.proofs.told.line_count.Goals as goal
+use Rattle.mv_core.proofs.told.line_count.Goals.{then-is_some, else-is_some}
 
-pub returns : goal.returns
-returns c =
-    count_from_yields_List c.filter.result c.count.result c.count.ensures.ran
-    (YieldsList-from_filter _ (λ (r : Record). is_some r.line) (YieldsList-from_slice c.args.records.now cc) c.filter.ensures.closure (λ x b q called. search (rules, tests)))
-    ∙ length-filter (λ (r : Record). is_some r.line) c.args.records.now
+pub loop-number-preserved : goal.loop-number-preserved
+loop-number-preserved c =
+    let rs = c.args.records.now in
+    let i = c.loop-number.number in
+    let k = c.loop-number.count in
+    let n = c.if-is_some.count in
+    let lt = subst (λ n. i < n) c.len-number-end.ensures c.loop-number-test.true in
+    let few = c.loop-number.invariant.few in
+    elim c.if-is_some.branch [
+      | then-is_some w ↦
+          let more = w.count-is in
+          record {
+            counts = count_here rs i k n c.get.result c.line.result lt c.get.ensures c.line.ensures (sym c.is_some.ensures ∙ w.if-is_some.true) c.loop-number.invariant.counts more;
+            few = omega (arith, more, few);
+          }
+      | else-is_some w ↦
+          let same = w.count-is in
+          record {
+            counts = count_later rs i k n c.get.result c.line.result lt c.get.ensures c.line.ensures (sym c.is_some.ensures ∙ w.if-is_some.false) c.loop-number.invariant.counts same;
+            few = omega (arith, same, few);
+          }
+    ]

@@ -90,4 +90,4 @@ pub returns-clause-whole : goal.returns-clause-whole
 returns-clause-whole c =
     let live = live_in c.self.inside.book c.args.self.now.book c.args.call (ap book_in c.self.view_is) c.requires.live in
     whole_set c.self.inside.book.script c.self.inside.book.course c.rerun_task.new.book c.self.inside.tasks.items c.args.call c.rerun_task.new.running c.self.invariant.tasks live
-    (whole_again Plain c.self.inside.book c.rerun_task.new.book c.args.call live.0 c.rerun_task.new.running.task.records apart live.1 c.in_ok-executed.ensures.made.0 (c.in_ok-executed.ensures.repaired live.0 live.1).records)
+    (whole_again Plain c.self.inside.book c.rerun_task.new.book c.args.call live.0 c.rerun_task.new.running.task.log.records apart live.1 c.in_ok-executed.ensures.made.0 (c.in_ok-executed.ensures.repaired live.0 live.1).records)

@@ -22,7 +22,7 @@ number-requires-clause-number c none =
     let t = task_read b.script b.course c.self.inside.tasks.items c.args.call c.index.result.now c.in-Some.running c.self.invariant.tasks c.index.ensures c.in-Some.is l live in
     let ended : HasEnded b c.args.call = subst (λ (x : Booked). HasEnded x c.args.call) (sym (ap book_in c.self.view_is)) c.requires.ended in
     number_ran b.script b.course c.args.call l c.in-Some.running c.self.invariant.stored.script (call_within b.script b.course c.self.inside.tasks.items c.args.call c.self.invariant.tasks (l, live)) live t first (ended l live)
-    ∙ ap Some (ap (λ o. count_or o (length c.in-Some.running.task.records)) c.in-None.is ∙ sym (t.executed first))
+    ∙ ap Some (ap (λ o. count_or o (length c.in-Some.running.task.log.records)) c.in-None.is ∙ sym (t.executed first))
 
 pub returns-in-None : goal.returns-in-None
 returns-in-None c = subst (λ (b : Booked). due_number (work_in b) b.course c.args.call ≡ Some c.number.result) (ap book_in c.self.view_is) c.number.ensures

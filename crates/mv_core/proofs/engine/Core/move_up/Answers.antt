@@ -59,4 +59,4 @@ returns-clause-whole c =
     let b : Booked = c.self.inside.book in
     let live = live_in b c.args.self.now.book c.args.call (ap book_in c.self.view_is) c.requires in
     whole_set b.script b.course c.move_task.new.book c.self.inside.tasks.items c.args.call (record { task = c.in_ok-task.task; count = None }) c.self.invariant.tasks live
-    (whole_again Moved b c.move_task.new.book c.args.call live.0 c.in_ok-task.task.records apart live.1 c.in_ok-task.ensures.made c.in_ok-task.ensures.records)
+    (whole_again Moved b c.move_task.new.book c.args.call live.0 c.in_ok-task.task.log.records apart live.1 c.in_ok-task.ensures.made c.in_ok-task.ensures.records)

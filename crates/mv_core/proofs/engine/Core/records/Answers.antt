@@ -25,5 +25,5 @@ returns-clause-first c =
     let live = live_in b c.args.self.now.book c.args.call (ap book_in c.self.view_is) c.requires in
     let task = task_read b.script b.course c.self.inside.tasks.items c.args.call c.index.result.now c.in-Some.running c.self.invariant.tasks c.index.ensures c.in-Some.is in
     subst (λ (rs : List Record). AreFirstOf c.args.self.now.book c.args.call rs) (sym c.records.ensures)
-    (subst (λ (x : Booked). AreFirstOf x c.args.call c.in-Some.running.task.records) (ap book_in c.self.view_is)
+    (subst (λ (x : Booked). AreFirstOf x c.args.call c.in-Some.running.task.log.records) (ap book_in c.self.view_is)
     (first_told b c.args.call c.in-Some.running c.self.invariant.stored.script (call_within b.script b.course c.self.inside.tasks.items c.args.call c.self.invariant.tasks live) task))
