@@ -1,4 +1,5 @@
 //! The script of a run, and how its calls run by the graphs of their procedures.
 #![tactic(auto)]
 
+pub mod laws;
 pub mod script;

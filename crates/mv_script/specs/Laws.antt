@@ -1,0 +1,16 @@
+-- The law of scripts of one piece. This project's own.
+use Rattle.std.specs.Prelude.{ℕ, List}
+use Rattle.mv_values.specs.declared.schema.TableInfo.{TableInfo}
+use Rattle.mv_values.specs.Tables.{Tables}
+use Rattle.mv_record.specs.Databases.{IsDatabaseOf}
+use Rattle.mv_lawful.specs.Work.{table_at}
+use Rattle.mv_script.specs.declared.script.Script.{Script}
+use Rattle.mv_script.specs.Scripts.{IsScriptOf, work_of}
+
+-- each call leads from a database of the script's tables to one of these tables
+abbrev pub CallsKeepDatabases : Type 0
+CallsKeepDatabases = (tables : List TableInfo) (s : Script) (c : ℕ) (db : Tables) → IsScriptOf tables s → IsDatabaseOf tables db → IsDatabaseOf tables ((work_of s).run c db).tables
+
+-- after any calls there is a database of the script's tables
+abbrev pub TablesAreDatabases : Type 0
+TablesAreDatabases = (tables : List TableInfo) (s : Script) (order : List ℕ) (n : ℕ) → IsScriptOf tables s → IsDatabaseOf tables (table_at (work_of s) order n)

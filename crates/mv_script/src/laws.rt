@@ -1,0 +1,10 @@
+//! The law of scripts of one piece.
+
+ghost use Rattle.mv_script.specs.Laws.{CallsKeepDatabases, TablesAreDatabases};
+
+/// Each call of a script of one piece leads from a database of the script's tables to one of these tables. So after any
+/// calls there is such a database: it has as many tables as the first one, and the keys of each rise.
+pub fn databases_are_kept()
+    ensures calls { CallsKeepDatabases }
+    ensures tables { TablesAreDatabases }
+{}
