@@ -17,7 +17,10 @@ use Rattle.mv_history.specs.Changes.{changes_between}
 use Rattle.mv_seats.specs.Scripts.{Script}
 use Rattle.mv_seats.specs.Knowing.{Knows, Gate, plain}
 use Rattle.mv_shards.specs.Parts.{shard_of, is_in, writes_to, eight}
-use Rattle.mv_shards.specs.Histories.{IsSteady, tables_at, last_touch, changes_in}
+use Rattle.mv_script.specs.Scripts.{IsScript}
+use Rattle.mv_script.proofs.Databases.{tables_rise}
+use Rattle.mv_shards.specs.Scripts.{script_in}
+use Rattle.mv_shards.specs.Histories.{tables_at, last_touch, changes_in}
 use Rattle.mv_shards.specs.Kept.{HasGrown}
 use Rattle.mv_shards.specs.Installing.{MayInstall, HasInstalled, Leads}
 use Rattle.mv_shards.specs.Reads.{IsStart}
@@ -32,10 +35,10 @@ zeros_at (suc n) zero = refl
 zeros_at (suc n) (suc k) = zeros_at n k
 
 -- before any commit
-pub ledger_opens : (s : Script) (k : Knows) (touched : List ℕ) → k.role ≡ Gate → k.seen ≡ [] → IsSteady s → touched ≡ replicate 8 0 → IsLedger s k 0 touched
-ledger_opens s k touched role seen steady e = record {
+pub ledger_opens : (s : Script) (k : Knows) (touched : List ℕ) → k.role ≡ Gate → k.seen ≡ [] → IsScript (script_in s) → touched ≡ replicate 8 0 → IsLedger s k 0 touched
+ledger_opens s k touched role seen script e = record {
   role = role;
-  steady = steady;
+  script = script;
   seen = sym (ap length seen);
   size = ap length e;
   touches = λ q lt. ap (λ l. slice_index l q) e ∙ zeros_at 8 q;
@@ -46,7 +49,7 @@ ledger_opens s k touched role seen steady e = record {
 pub ledger_learns : (s : Script) (n : ℕ) (old new : Knows) (touched : List ℕ) → IsLedger s old n touched → HasGrown old new → new.seen ≡ old.seen → IsLedger s new n touched
 ledger_learns s n old new touched l g e = record {
   role = g.role ∙ l.role;
-  steady = l.steady;
+  script = l.script;
   seen = l.seen ∙ ap length (sym e);
   size = l.size;
   touches = λ q lt. l.touches q lt ∙ ap (λ xs. last_touch s q xs n) (sym e);
@@ -56,7 +59,7 @@ ledger_learns s n old new touched l g e = record {
 pub ledger_start : (s : Script) (n : ℕ) (k : Knows) (touched : List ℕ) → IsLedger s k n touched → IsStart s n (plain k) touched
 ledger_start s n k touched l = record {
   role = refl;
-  steady = l.steady;
+  script = l.script;
   past = let seen = l.seen in omega (arith, seen);
   touches = l.touches;
   marks = l.marks;
@@ -76,7 +79,7 @@ pub ledger_commits : (s : Script) (n m call : ℕ) (ws : List Write) (changes : 
     → changes ≡ changes_between (tables_at s old.seen n) (tables_at s (old.seen ++ call ∷ []) (n + 1)) → Leads s old call ws → IsLedger s new m now
 ledger_commits s n m call ws changes old new touched now l h t size are leads = record {
   role = h.grown.role ∙ l.role;
-  steady = l.steady;
+  script = l.script;
   seen = h.number;
   size = size;
   touches = λ q lt. t q lt ∙ (ap (cond (changes_in q changes) m) (l.touches q lt ∙ touch_front s q old.seen new.seen n h.grown.seen (omega (arith, l.seen))) ∙ (after q ∙ ap (λ j. last_touch s q new.seen j) (sym next)));
@@ -101,7 +104,7 @@ ledger_commits s n m call ws changes old new touched now l h t size are leads = 
     wrote : (q : ℕ) → changes_in q changes ≡ true → (b : Bool) → writes_to q ws ≡ b → writes_to q ws ≡ true
     wrote q c true e = e
     wrote q c false e =
-        absurd (both_ways (changes_in q changes) (ap (changes_in q) (are ∙ ap (changes_between (tables_at s old.seen n)) (sym leads_at)) ∙ unwritten q ws (tables_at s old.seen n) (l.steady.rising old.seen n) e) c)
+        absurd (both_ways (changes_in q changes) (ap (changes_in q) (are ∙ ap (changes_between (tables_at s old.seen n)) (sym leads_at)) ∙ unwritten q ws (tables_at s old.seen n) (tables_rise (script_in s) old.seen n l.script) e) c)
 
     by : (q : ℕ) → q < 8 → (b : Bool) → changes_in q changes ≡ b → slice_index now q ≡ cond (changes_in q changes) m (slice_index touched q) → slice_index now q ≤ slice_index new.marks q
     by q lt true e is =

@@ -172,13 +172,13 @@ pub reads_still : (s : Script) (qs : List ℕ) (n : ℕ) (old new : Knows) → M
 reads_still s qs n old new h g =
     let longer = prefix_length old.seen new.seen g.seen in record {
       role = g.role ∙ h.role;
-      steady = h.steady;
+      script = h.script;
       past = let past = h.past in omega (arith, past, longer);
       marks = λ q own. let m = h.marks q own in let u = g.marks q in let same = touch_front s q old.seen new.seen n g.seen h.past in omega (arith, m, u, same);
     }
 
 pub reads_rest : (s : Script) (q : ℕ) (qs : List ℕ) (n : ℕ) (k : Knows) → MayRead s (q ∷ qs) n k → MayRead s qs n k
-reads_rest s q qs n k h = record { role = h.role; steady = h.steady; past = h.past; marks = λ p own. h.marks p (in_rest p q qs own) }
+reads_rest s q qs n k h = record { role = h.role; script = h.script; past = h.past; marks = λ p own. h.marks p (in_rest p q qs own) }
 
 -- the history that it has seen begins as before
 pub sees_still : (s : Script) (n : ℕ) (old new : Knows) → n ≤ length old.seen → HasGrown old new → tables_at s old.seen n ≡ tables_at s new.seen n

@@ -19,13 +19,16 @@ use Rattle.mv_store.specs.Stored.{Versioned, database_at, newest, own_writes, Is
 use Rattle.mv_store.specs.Changes.{HasPut, HasDropped, HasStamped, HasRaised}
 use Rattle.mv_lawful.specs.Work.{tables_after}
 use Rattle.mv_seats.specs.Scripts.{Script}
-use Rattle.mv_seats.specs.Knowing.{Knows, Shard, Gate, met, plain, appended, shard_pass, handing, IsMark, Begins}
+use Rattle.mv_seats.specs.Knowing.{Knows, Shard, Gate, gate_pass, met, plain, appended, shard_pass, handing, IsMark, Begins}
 use Rattle.mv_store.proofs.Laws.{put_more}
 use Rattle.mv_seats.proofs.Prefixes.{prefix_self, prefix_length}
 use Rattle.mv_seats.proofs.Meeting.{at_greater}
 use Rattle.mv_seats.proofs.Roles.{own_kept}
+use Rattle.mv_script.specs.Scripts.{IsScript}
+use Rattle.mv_script.proofs.Databases.{tables_rise}
+use Rattle.mv_shards.specs.Scripts.{script_in, work}
 use Rattle.mv_shards.specs.Parts.{is_in, part, writes_in, writes_to, eight}
-use Rattle.mv_shards.specs.Histories.{work, tables_at, last_touch}
+use Rattle.mv_shards.specs.Histories.{tables_at, last_touch}
 use Rattle.mv_shards.specs.Kept.{MayMake, IsLow, IsShardStore, HasGrown}
 use Rattle.mv_shards.specs.Installing.{Leads, MayInstall, HasInstalled, HasNotInstalled}
 use Rattle.mv_shards.specs.Reads.{IsStart, MayRead, IsRefusal}
@@ -70,7 +73,7 @@ store_learns s q store old new h role p mark =
     let longer = prefix_length old.seen new.seen p in record {
       role = role ∙ h.role;
       there = h.there;
-      steady = h.steady;
+      script = h.script;
       seen = omega (arith, h.seen, longer);
       mark = mark ∙ h.mark;
       own = h.own;
@@ -84,7 +87,7 @@ pub store_rows : (s : Script) (q n : ℕ) (store : Versioned) (k : Knows) (seen 
 store_rows s q n store k seen h p le touched low =
     let same : last_touch s q seen n ≡ last_touch s q k.seen n = touch_front s q seen k.seen n p le in
     let most = touch_most s q k.seen n in
-    h.rows n low ∙ (stays s q k.seen (min n store.last) n h.steady (omega (arith, same, touched, most)) (omega arith) ∙ ap (part q) (sym (tables_front s seen k.seen n p le)))
+    h.rows n low ∙ (stays s q k.seen (min n store.last) n h.script (omega (arith, same, touched, most)) (omega arith) ∙ ap (part q) (sym (tables_front s seen k.seen n p le)))
 
 pub admitted_part : (q : ℕ) (pred : Pred) (db : Tables) → Admitted pred (rows_at db pred.table) → Admitted pred (rows_at (part q db) pred.table)
 admitted_part q pred db h = subst (Admitted pred) (sym (at_part q pred.table db)) (All-filter (λ item. is_in q pred.table item.key) (λ item. matches pred item.row ≡ true → admits pred item.key ≡ true) (rows_at db pred.table) h)
@@ -105,7 +108,7 @@ pub store_drops : (s : Script) (q call : ℕ) (old new : Versioned) (k : Knows) 
 store_drops s q call old new k h d = record {
   role = h.role;
   there = h.there;
-  steady = h.steady;
+  script = h.script;
   seen = subst (λ n. n ≤ length k.seen) (sym d.reads.last) h.seen;
   mark = h.mark ∙ sym d.reads.last;
   own = λ other. by other (ℕ_discrete call other);
@@ -142,7 +145,7 @@ store_commits s q call n ws old mid new k after h like put stamp number touched 
     let low : new.low ≡ old.low = stamp.low ∙ put.reads.low in record {
       role = role;
       there = h.there;
-      steady = h.steady;
+      script = h.script;
       seen = omega (arith, stamp.last, number, long);
       mark = mark ∙ sym stamp.last;
       own = λ other. own_at other (ℕ_discrete call other);
@@ -159,7 +162,7 @@ store_commits s q call n ws old mid new k after h like put stamp number touched 
     before m le most =
         let climbs = touch_climbs s q k.seen m (length k.seen) most in
         let upper = touch_most s q k.seen m in
-        h.rows m le ∙ stays s q k.seen (min m old.last) m h.steady (omega (arith, climbs, touched, upper)) (omega arith)
+        h.rows m le ∙ stays s q k.seen (min m old.last) m h.script (omega (arith, climbs, touched, upper)) (omega arith)
 
     rows_at_m : (m : ℕ) → old.low ≤ m → IsPrefix k.seen after.seen → length after.seen ≡ length k.seen + 1 → database_at new m ≡ part q (tables_at s after.seen (min m new.last))
     rows_at_m m le front long = by (ℕ_discrete (min m n) n)
@@ -176,14 +179,14 @@ store_commits s q call n ws old mid new k after h like put stamp number touched 
             let top : Tables = tables_at s k.seen (length k.seen) in
             let here : min old.last old.last ≡ old.last = omega arith in
             let last_top : database_at old old.last ≡ part q top =
-            h.rows old.last h.kept ∙ (ap (λ j. part q (tables_at s k.seen j)) here ∙ stays s q k.seen old.last (length k.seen) h.steady touched h.seen) in
+            h.rows old.last h.kept ∙ (ap (λ j. part q (tables_at s k.seen j)) here ∙ stays s q k.seen old.last (length k.seen) h.script touched h.seen) in
             let now : newest mid ≡ part q top = ap (database_at mid) put.reads.last ∙ (put.reads.database old.last ∙ last_top) in
             let like_top : IsLike old (part q top) = subst (IsLike old) last_top (like old.last) in
             stamp.after m past
             ∙ (ap (applied (own_writes mid call)) now
             ∙ (put.own (part q top) like_top
             ∙ (ap (λ vs. applied (writes_in q ws) (applied vs (part q top))) (h.own call)
-            ∙ (applied_part q ws top (h.steady.rising k.seen (length k.seen))
+            ∙ (applied_part q ws top (tables_rise (script_in s) k.seen (length k.seen) h.script)
             ∙ (ap (part q) leads
             ∙ (ap (λ xs. part q (tables_at s xs (length k.seen + 1))) (sym seen)
             ∙ ap (λ j. part q (tables_at s after.seen j)) (sym same)))))))
@@ -193,7 +196,7 @@ pub store_raises : (s : Script) (q to h : ℕ) (old new : Versioned) (k : Knows)
 store_raises s q to hor old new k h given up most r = record {
   role = h.role;
   there = h.there;
-  steady = h.steady;
+  script = h.script;
   seen = omega (arith, h.seen, r.last);
   mark = h.mark ∙ sym r.last;
   own = λ call. r.own call ∙ h.own call;
@@ -301,6 +304,18 @@ appended_last call ws s n old mid new gate e f b =
 
 -- Making
 
+-- shards can be made with the gate's first pass
+pub may_make : (s : Script) (opening : Tables) (horizon : Option ℕ) (k : Knows) → IsScript (script_in s) → s.shards ≡ 8 → opening ≡ s.opening → horizon ≡ s.options.horizon → k ≡ gate_pass → MayMake s opening horizon k
+may_make s opening horizon k script shards opens waits e = record {
+  role = ap (λ (z : Knows). z.role) e;
+  seen = ap (λ (z : Knows). z.seen) e;
+  marks = ap (λ (z : Knows). z.marks) e;
+  script = script;
+  shards = shards;
+  opens = opens;
+  waits = waits;
+}
+
 take_none : (j : ℕ) → ◌≡◌ {A = List ℕ} (take j []) []
 take_none zero = refl
 take_none (suc j) = refl
@@ -316,7 +331,7 @@ store_opens s q opening horizon old k store may there e db own last low =
     let marks : k.marks ≡ [] = ap (λ (z : Knows). z.marks) e ∙ may.marks in record {
       role = ap (λ (z : Knows). z.role) e;
       there = omega (arith, there, may.shards);
-      steady = may.steady;
+      script = may.script;
       seen = omega (arith, last);
       mark = ap (λ l. slice_index l q) marks ∙ sym last;
       own = own;
@@ -334,10 +349,9 @@ may_next s opening horizon q old new may e = record {
   role = ap (λ (z : Knows). z.role) e ∙ may.role;
   seen = ap (λ (z : Knows). z.seen) e ∙ may.seen;
   marks = ap (λ (z : Knows). z.marks) e ∙ may.marks;
-  steady = may.steady;
+  script = may.script;
   shards = may.shards;
   opens = may.opens;
-  few = may.few;
   waits = may.waits;
 }
 
@@ -380,7 +394,7 @@ in_eight (suc (suc (suc (suc (suc (suc (suc (suc q)))))))) h = absurd (omega (ar
 pub start_reads : (s : Script) (n : ℕ) (k : Knows) (touched : List ℕ) → IsStart s n k touched → MayRead s eight n k
 start_reads s n k touched st = record {
   role = st.role;
-  steady = st.steady;
+  script = st.script;
   past = st.past;
   marks = λ q own. let lt = below_eight q own in let t = st.touches q lt in let m = st.marks q lt in omega (arith, t, m);
 }
@@ -389,7 +403,7 @@ pub start_grown : (s : Script) (n : ℕ) (old new : Knows) (touched : List ℕ) 
 start_grown s n old new touched st g =
     let longer = prefix_length old.seen new.seen g.seen in record {
       role = g.role ∙ st.role;
-      steady = st.steady;
+      script = st.script;
       past = let past = st.past in omega (arith, past, longer);
       touches = λ q lt. st.touches q lt ∙ touch_front s q old.seen new.seen n g.seen st.past;
       marks = λ q lt. let m = st.marks q lt in let u = g.marks q in omega (arith, m, u);

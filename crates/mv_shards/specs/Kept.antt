@@ -5,8 +5,10 @@ use Rattle.mv_values.specs.Tables.{Tables}
 use Rattle.mv_store.specs.Stored.{Versioned, database_at, own_writes}
 use Rattle.mv_seats.specs.Scripts.{Script}
 use Rattle.mv_seats.specs.Knowing.{Knows, Shard, Gate}
+use Rattle.mv_script.specs.Scripts.{IsScript}
+use Rattle.mv_shards.specs.Scripts.{script_in}
 use Rattle.mv_shards.specs.Parts.{part}
-use Rattle.mv_shards.specs.Histories.{IsSteady, tables_at}
+use Rattle.mv_shards.specs.Histories.{tables_at}
 
 -- what contracts see of a shard: its rows in versions, and what its pass knows
 pub record StoredShard : Type 0 where
@@ -23,7 +25,7 @@ IsLow (Some h) low n = (low ≡ 0) ⊎ (low + h ≤ n)
 pub record IsShardStore (s : Script) (q : ℕ) (store : Versioned) (k : Knows) : Type 0 where
   pub role : k.role ≡ Shard q
   pub there : q < s.shards
-  pub steady : IsSteady s
+  pub script : IsScript (script_in s)
   -- the last commit is one that the pass has seen, and the pass knows the mark
   pub seen : store.last ≤ length k.seen
   pub mark : slice_index k.marks q ≡ store.last
@@ -40,13 +42,13 @@ pub record HasGrown (old new : Knows) : Type 0 where
   pub seen : IsPrefix old.seen new.seen
   pub marks : (q : ℕ) → slice_index old.marks q ≤ slice_index new.marks q
 
--- shards can be made: the pass is the gate's and has seen no commit, and the script has this opening database and horizon
+-- shards can be made: the pass is the gate's and has seen no commit, and the script is of one piece and has this opening
+-- database and horizon
 pub record MayMake (s : Script) (opening : Tables) (horizon : Option ℕ) (k : Knows) : Type 0 where
   pub role : k.role ≡ Gate
   pub seen : k.seen ≡ []
   pub marks : k.marks ≡ []
-  pub steady : IsSteady s
+  pub script : IsScript (script_in s)
   pub shards : s.shards ≡ 8
   pub opens : opening ≡ s.opening
-  pub few : length opening ≤ 256
   pub waits : horizon ≡ s.options.horizon

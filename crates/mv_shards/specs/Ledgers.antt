@@ -2,7 +2,9 @@
 use Rattle.std.specs.Prelude.{◌≡◌, ◌<◌, ◌≤◌, ℕ, List, length, slice_index, if◌then◌else◌}
 use Rattle.mv_seats.specs.Scripts.{Script}
 use Rattle.mv_seats.specs.Knowing.{Knows, Gate}
-use Rattle.mv_shards.specs.Histories.{IsSteady, last_touch, changes_in}
+use Rattle.mv_script.specs.Scripts.{IsScript}
+use Rattle.mv_shards.specs.Scripts.{script_in}
+use Rattle.mv_shards.specs.Histories.{last_touch, changes_in}
 use Rattle.mv_history.specs.declared.change.Change.{Change}
 
 -- what the gate's pass knows, the number of commits, and for each shard the last commit that changes a row of it, or 0
@@ -14,7 +16,7 @@ pub record Entered : Type 0 where
 -- the gate's pass has seen all commits, and knows that each shard has its last change
 pub record IsLedger (s : Script) (k : Knows) (n : ℕ) (touched : List ℕ) : Type 0 where
   pub role : k.role ≡ Gate
-  pub steady : IsSteady s
+  pub script : IsScript (script_in s)
   pub seen : n ≡ length k.seen
   pub size : length touched ≡ 8
   pub touches : (q : ℕ) → q < 8 → slice_index touched q ≡ last_touch s q k.seen n

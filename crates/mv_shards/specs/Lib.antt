@@ -1,4 +1,5 @@
 pub mod Parts
+pub mod Scripts
 pub mod Histories
 pub mod Kept
 pub mod Installing

@@ -14,8 +14,10 @@ use Rattle.mv_view.specs.declared.view.Refused.TheVariants.{NoMemory, Stale}
 use Rattle.mv_view.specs.Viewing.{Sight}
 use Rattle.mv_seats.specs.Scripts.{Script}
 use Rattle.mv_seats.specs.Knowing.{Knows, Plain}
+use Rattle.mv_script.specs.Scripts.{IsScript}
+use Rattle.mv_shards.specs.Scripts.{script_in}
 use Rattle.mv_shards.specs.Parts.{part, shard_of}
-use Rattle.mv_shards.specs.Histories.{IsSteady, last_touch}
+use Rattle.mv_shards.specs.Histories.{last_touch}
 
 -- Starts
 
@@ -29,7 +31,7 @@ pub record Started : Type 0 where
 -- its pass has seen as many commits, and knows that each shard has its last change up to the start
 pub record IsStart (s : Script) (n : ℕ) (k : Knows) (touched : List ℕ) : Type 0 where
   pub role : k.role ≡ Plain
-  pub steady : IsSteady s
+  pub script : IsScript (script_in s)
   pub past : n ≤ length k.seen
   pub touches : (q : ℕ) → q < 8 → slice_index touched q ≡ last_touch s q k.seen n
   pub marks : (q : ℕ) → q < 8 → slice_index touched q ≤ slice_index k.marks q
@@ -40,7 +42,7 @@ pub record IsStart (s : Script) (n : ℕ) (k : Knows) (touched : List ℕ) : Typ
 -- there
 pub record MayRead (s : Script) (qs : List ℕ) (n : ℕ) (k : Knows) : Type 0 where
   pub role : k.role ≡ Plain
-  pub steady : IsSteady s
+  pub script : IsScript (script_in s)
   pub past : n ≤ length k.seen
   pub marks : (q : ℕ) → list_any (eqb q) qs ≡ true → last_touch s q k.seen n ≤ slice_index k.marks q
 

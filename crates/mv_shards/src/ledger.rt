@@ -6,7 +6,9 @@ ghost use lib.Dec.{eqb};
 ghost use mathlib.Core.List.{IsPrefix};
 ghost use Rattle.mv_history.specs.Changes.{changes_between};
 ghost use Rattle.mv_seats.specs.Knowing.{Plain, Gate};
-ghost use Rattle.mv_shards.specs.Histories.{IsSteady, tables_at};
+ghost use Rattle.mv_script.specs.Scripts.{IsScript};
+ghost use Rattle.mv_shards.specs.Scripts.{script_in};
+ghost use Rattle.mv_shards.specs.Histories.{tables_at};
 ghost use Rattle.mv_shards.specs.Installing.{Leads};
 ghost use Rattle.mv_shards.specs.Ledgers.{IsLedger, AreTouched};
 
@@ -48,7 +50,7 @@ impl<N: Making> Ledger<N> {
     pub fn new(alloc: Global, pass: Pass<N>) -> Result<Ledger<N>, NoMemory>
         requires role { pass.role ≡ Gate }
         requires seen { pass.seen ≡ [] }
-        requires steady { IsSteady N.script }
+        requires script { IsScript (script_in N.script) }
         ensures commits { IfOk result (λ ledger. ledger.commits ≡ 0) }
         ensures knows { IfOk result (λ ledger. ledger.knows ≡ pass) }
     {

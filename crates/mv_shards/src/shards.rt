@@ -9,9 +9,11 @@ ghost use Rattle.mv_record.specs.Admitting.{Admitted};
 ghost use Rattle.mv_seats.specs.Knowing.{gate_pass, Gate};
 ghost use Rattle.mv_table.specs.Scans.{foremost};
 ghost use Rattle.mv_view.specs.Narrowing.{outside};
+ghost use Rattle.mv_script.specs.Scripts.{IsScript};
+ghost use Rattle.mv_shards.specs.Scripts.{script_in};
 ghost use Rattle.mv_shards.specs.Parts.{eight};
 ghost use Rattle.mv_shards.specs.Histories.{tables_at};
-ghost use Rattle.mv_shards.specs.Kept.{MayMake, HasGrown};
+ghost use Rattle.mv_shards.specs.Kept.{HasGrown};
 ghost use Rattle.mv_shards.specs.Installing.{MayInstall, HasInstalled, HasNotInstalled};
 ghost use Rattle.mv_shards.specs.Reads.{IsRefusal, MayRead};
 
@@ -40,8 +42,9 @@ pub struct Shards<N: Making> {
 }
 
 impl<N: Making> Shards<N> {
-    /// Returns the shards of a database, before any commit. The pass must be the gate's as `Blank::open` gives it, and
-    /// then has no shard's role. If memory runs out, it may have fewer roles. It copies the database twice.
+    /// Returns the shards of the script's database, before any commit. The script must be of one piece and have eight
+    /// shards. The pass must be the gate's as `Blank::open` gives it, and then has no shard's role. If memory runs out, it
+    /// may have fewer roles. It copies the database twice.
     pub fn new(
         alloc: Global,
         opening: &Database,
@@ -49,7 +52,10 @@ impl<N: Making> Shards<N> {
         board: &Board<N>,
         pass: &mut Pass<N>,
     ) -> Result<Shards<N>, NoMemory>
-        requires may { MayMake N.script opening.now horizon pass.old }
+        requires script { IsScript (script_in N.script) }
+        requires shards { N.script.shards ≡ 8 }
+        requires opening { opening.now ≡ N.script.opening }
+        requires horizon { horizon ≡ N.script.options.horizon }
         requires pass { pass.old ≡ gate_pass }
         ensures role { OnOk result (pass.new.role ≡ Gate) }
         ensures seen { OnOk result (pass.new.seen ≡ []) }

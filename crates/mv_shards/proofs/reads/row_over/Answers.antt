@@ -5,6 +5,8 @@ use lib.Dec.{eqb}
 use Rattle.mv_values.specs.declared.value.Value.{Value}
 use Rattle.mv_values.specs.Patching.{row_of}
 use Rattle.mv_values.specs.Tables.{rows_at}
+use Rattle.mv_script.proofs.Databases.{tables_rise}
+use Rattle.mv_shards.specs.Scripts.{script_in}
 use Rattle.mv_shards.specs.Parts.{part, shard_of}
 use Rattle.mv_shards.specs.Histories.{tables_at}
 use Rattle.mv_shards.proofs.Stored.{in_eight}
@@ -19,6 +21,6 @@ returns-clause-found g c =
     let q = c.shard_of-shard.result in
     let is : q ≡ shard_of t key = c.shard_of-shard.ensures in
     let less : q < 8 = subst (λ z. z < 8) (sym is) (below_8 t key) in
-    let same : row_of (rows_at (part q db) t) key ≡ row_of (rows_at db t) key = ap (λ z. row_of (rows_at (part z db) t) key) is ∙ row_there t key db (c.requires.may.steady.rising c.args.pass.now.seen c.args.n) in
+    let same : row_of (rows_at (part q db) t) key ≡ row_of (rows_at db t) key = ap (λ z. row_of (rows_at (part z db) t) key) is ∙ row_there t key db (tables_rise (script_in g.N.Making.script) c.args.pass.now.seen c.args.n c.requires.may.script) in
     subst (λ (o : Option (Seq Value)). IfOk c.row_of.result (λ (row : Option (Seq Value)). row ≡ o)) same
     (c.row_of.ensures.found (subst (λ (qs : List ℕ). list_any (eqb q) qs ≡ true) (sym c.requires.all) (in_eight q less)))
