@@ -23,13 +23,14 @@ use Rattle.mv_lawful.specs.Work.{Work, table_at, records_at, hit_of}
 use Rattle.mv_lawful.specs.Lawful.{Live, Course, used, has_step, has_round, is_stale, is_hit, unless, of_live, of_call, refusal, begin, first_open, open_call}
 use Rattle.mv_script.specs.declared.script.Script.{Script}
 use Rattle.mv_script.specs.Scripts.{work_of, IsScript}
+use Rattle.mv_script.proofs.Databases.{table_database}
 use Rattle.mv_core.specs.Calls.{IsLive, IsLiveCall, turn_of}
 use Rattle.mv_core.specs.declared.book.Check.TheVariants as check
 use Rattle.mv_core.specs.Books.{Booked, work_in, Made, IsSame, IsAnswer, HasRounds}
 use Rattle.mv_core.specs.Drives.{HasMade}
 use Rattle.mv_core.specs.declared.tasks.Running.{Running}
 use Rattle.mv_core.specs.Cores.{IsLiveTask, HasTurns, count_or, IsAllowedIfFresh}
-use Rattle.mv_core.proofs.Stored.{run_is, table_database}
+use Rattle.mv_core.proofs.Stored.{run_is}
 use Rattle.mv_core.proofs.Taking.{one_live, first_number}
 use Rattle.mv_core.proofs.Journals.{room_of}
 

@@ -1,6 +1,6 @@
 -- The tables of a history, and what a store keeps of them.
 use Rattle.std.proofs.Common.{◌≡◌, ◌⊎◌, inl, inr, ℕ, zero, suc, ◌+◌, ◌-◌, ◌<◌, ◌≤◌, Bool, true, false, not, List, [], ◌∷◌, ◌++◌, Option, Some, None, length, take, drop, is_some, refl, sym, ap, subst, ◌∙◌, arith, length-append, rules}
-use Rattle.std.specs.Prelude.{slice_get, nat_lt}
+use Rattle.std.specs.Prelude.{nat_lt}
 use Rattle.std.proofs.lemmas.List.{take_all, length-drop}
 use Rattle.std.proofs.lemmas.Bool.{le-ltb, ltb-false, cases_eq}
 use Rattle.mv_values.specs.declared.calls.Call.{Call}
@@ -11,7 +11,6 @@ use Rattle.mv_record.specs.declared.record.Record.{Record}
 use Rattle.mv_record.specs.Runs.{Run}
 use Rattle.mv_record.specs.Databases.{IsDatabaseOf}
 use Rattle.mv_record.specs.Writes.{AreRising}
-use Rattle.mv_recorded.proofs.Fronts.{left_is}
 use Rattle.mv_graph.specs.declared.graph.Graph.{Graph}
 use Rattle.mv_graph.specs.Nodes.{meaning_of}
 use Rattle.mv_history.specs.declared.change.Change.{Change}
@@ -35,6 +34,7 @@ use Rattle.mv_store.specs.Stored.{Versioned, database_at, newest, own_writes, Is
 use Rattle.mv_store.specs.Changes.{HasPut, HasDropped, HasStamped, HasRaised}
 use Rattle.mv_script.specs.declared.script.Script.{Script}
 use Rattle.mv_script.specs.Scripts.{work_of, run_in, run_by, IsCallOf, CanRun, IsScriptOf, IsScript}
+use Rattle.mv_script.proofs.Databases.{run_database, table_database}
 use Rattle.mv_core.specs.Told.{reply_told, writes_told}
 use Rattle.mv_core.specs.Calls.{IsLive, IsLiveCall}
 use Rattle.mv_core.specs.Books.{Booked, work_in, last_tables, last_run, last_changes, Made, IsSame, commit_event, IsNotStale, AreRecordsOf}
@@ -46,27 +46,7 @@ use Rattle.mv_core.proofs.Journals.{live_at}
 
 -- Databases
 
--- a call leaves a database of the same tables
-run_database : (tables : List TableInfo) (s : Script) (c : ℕ) (db : Tables) → IsScriptOf tables s → IsDatabaseOf tables db → IsDatabaseOf tables ((work_of s).run c db).tables
-run_database tables s c db k d = by (slice_get s.calls c) refl where
-  graph : (call : Call) (o : Option Graph) → slice_get s.calls c ≡ Some call → slice_get s.graphs call.procedure ≡ o → IsDatabaseOf tables (run_by o call db).tables
-  graph call None at there = d
-  graph call (Some g) at there =
-      let can : CanRun tables call g = k.runs c call g (record { call_is = at; graph_is = there }) in
-      subst (λ ts. IsDatabaseOf ts (meaning_of g call db).tables) can.over
-      (left_is g.tables g.procedure call db can.sound.procedure can.suits (subst (λ ts. IsDatabaseOf ts db) (sym can.over) d))
-
-  by : (o : Option Call) → slice_get s.calls c ≡ o → IsDatabaseOf tables (run_in s.graphs o db).tables
-  by None at = d
-  by (Some call) at = graph call (slice_get s.graphs call.procedure) at refl
-
-after_database : (tables : List TableInfo) (s : Script) (cs : List ℕ) (db : Tables) → IsScriptOf tables s → IsDatabaseOf tables db → IsDatabaseOf tables (tables_after (work_of s) db cs)
-after_database tables s [] db k d = d
-after_database tables s (c ∷ cs) db k d = after_database tables s cs ((work_of s).run c db).tables k (run_database tables s c db k d)
-
-pub table_database : (tables : List TableInfo) (s : Script) (order : List ℕ) (n : ℕ) → IsScriptOf tables s → IsDatabaseOf tables (table_at (work_of s) order n)
-table_database tables s order n k = after_database tables s (take n order) s.opening k k.opening
-
+-- one more call
 pub table_more : (w : Work) (order : List ℕ) (c n : ℕ) → n ≡ length order + 1 → table_at w (order ++ c ∷ []) n ≡ (w.run c (table_at w order (length order))).tables
 table_more w order c n is =
     let len = length-append order (c ∷ []) in

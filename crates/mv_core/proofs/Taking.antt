@@ -27,6 +27,7 @@ use Rattle.mv_lawful.specs.Rounds.{whole_run, later_run, round, rounds_of}
 use Rattle.mv_lawful.specs.Outcomes.{turns_of}
 use Rattle.mv_script.specs.declared.script.Script.{Script}
 use Rattle.mv_script.specs.Scripts.{work_of, IsCallOf, IsScript}
+use Rattle.mv_script.proofs.Databases.{table_database}
 use Rattle.mv_core.specs.declared.tasks.Running.{Running}
 use Rattle.mv_core.specs.Calls.{IsLive, IsLiveCall, closed, committed, last_number, due_number}
 use Rattle.mv_core.specs.Books.{Booked, work_in, Made, round_event, commit_event, IsMissing, HasNumber, AreRecordsOf}
@@ -34,7 +35,7 @@ use Rattle.mv_store.specs.Stored.{Versioned}
 use Rattle.mv_view.specs.Viewing.{Sight}
 use Rattle.mv_core.specs.Cores.{RunsOn, IsTaskFor, HasRunOne, CountsAll, HasTurns, last_start, count_or, IsLiveTask, IsTaskIn, IsRunningIn, IsRepaired, HasTasks, IsCore}
 use Rattle.mv_core.proofs.Numbers.{last_start as start_after, last_of_end, rounds_more, rounds_stay, table_stays, within_more, within_end}
-use Rattle.mv_core.proofs.Stored.{run_is, table_database, changes_to_last, Shows}
+use Rattle.mv_core.proofs.Stored.{run_is, changes_to_last, Shows}
 use Rattle.mv_core.proofs.Keeping.{commit_after, restart_after}
 use Rattle.mv_core.proofs.Journals.{changed_at, get_last, get_front, get_set, set_there, set_apart}
 
