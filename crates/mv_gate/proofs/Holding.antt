@@ -101,7 +101,7 @@ has_call s b store gate h d holds p k = record {
 
 -- its rounds, its start and its statements as the book tells them
 pub known_by : (b : Booked) (h : Holding) (rs : List Round) (start : ℕ) → HasRounds b h.call rs → ((l : Live) → IsLive b.course h.call l → start ≡ l.start) → start ≡ h.start → repaired_from (turns_in rs) ≡ h.from
-    → ((l : Live) → IsLive b.course h.call l → used l ≡ 0 → l.steps ≡ length h.running.task.records) → IsKnown b h
+    → ((l : Live) → IsLive b.course h.call l → used l ≡ 0 → l.steps ≡ length h.running.task.log.records) → IsKnown b h
 known_by b h rs start has starts same from all = record {
   live = has.live;
   is_live = has.is_live;
@@ -157,7 +157,7 @@ known_same old new h course k = record {
 
 -- what is said of a statement of the call's first round, of a task that has run all before it
 abbrev pub OneMore : Booked → Holding → Running → Type 0
-OneMore b h r = (l : Live) → IsLive b.course h.call l → length h.running.task.records ≤ l.steps → HasRunOne h.running.task r.task
+OneMore b h r = (l : Live) → IsLive b.course h.call l → length h.running.task.log.records ≤ l.steps → HasRunOne h.running.task r.task
 
 -- a call that has a statement left has run all before it, and runs one
 pub one_more : (b : Booked) (h : Holding) (r : Running) → HasStep b h.call → OneMore b h r → IsKnown b h → HasRunOne h.running.task r.task
@@ -194,7 +194,7 @@ known_seen now b held h r desk one both = subst (λ (x : Holding). IsTrue r ↔ 
 -- A call that is handed out
 
 pub held_begun : (s : BoardScript) (old new : Booked) (store : Versioned) (gate knows : Knows) (call c n : ℕ) (task : Task) (script : Script) → IsDesk s old store gate → call ≡ length old.course.calls → call < length old.script.calls → Made (B c) old new
-    → n ≡ length old.course.order → knows ≡ plain gate → script ≡ old.script → ((db : Tables) → RunsOn script call db task) → task.records ≡ [] → task.executed ≡ 0
+    → n ≡ length old.course.order → knows ≡ plain gate → script ≡ old.script → ((db : Tables) → RunsOn script call db task) → task.log.records ≡ [] → task.executed ≡ 0
     → IsHeld s (record { call = c; start = n; from = None; running = record { task = task; count = None }; knows = knows })
 held_begun s old new store gate knows call c n task script d next there made at is same runs none zero =
     let one : c ≡ call = begun_number c old new made ∙ sym next in
@@ -270,7 +270,7 @@ pub first_whole : (b : Booked) (c : ℕ) (r : Running) → HasNumber b c → IsW
 first_whole b c r number h = due_first b c r h.call.live number h.call.task h.records
 
 -- its own writes are those of its records
-pub open_writes : (b : Booked) (store : Versioned) (c : ℕ) (r : Running) → IsStoreOf b store → IsUnderWay b c r → HasWritesOf r.task.undo r.task.records
+pub open_writes : (b : Booked) (store : Versioned) (c : ℕ) (r : Running) → IsStoreOf b store → IsUnderWay b c r → HasWritesOf r.task.undo r.task.log.records
 open_writes b store c r k o = task_writes b.script b.course.order c o.live.0 r k.script o.there (o.task o.live.0 o.live.1)
 
 -- it ran on at its start
@@ -279,7 +279,7 @@ open_ran b c old new o t = record { live = o.live; there = o.there; task = t }
 
 -- A call that was run whole anew
 
-pub number_anew : (b : Booked) (c start whole : ℕ) (task : Task) → HaveTurns b.course → IsLiveCall b.course c → HasNumber b c → ((l : Live) → IsLive b.course c l → start ≡ l.start) → task.records ≡ records_at (work_in b) b.course.order start c → whole ≡ length task.records
+pub number_anew : (b : Booked) (c start whole : ℕ) (task : Task) → HaveTurns b.course → IsLiveCall b.course c → HasNumber b c → ((l : Live) → IsLive b.course c l → start ≡ l.start) → task.log.records ≡ records_at (work_in b) b.course.order start c → whole ≡ length task.log.records
     → IsMissing whole b c
 number_anew b c start whole task turns here number starts are long none =
     let l : Live = here.0 in
@@ -290,7 +290,7 @@ number_anew b c start whole task turns here number starts are long none =
     ∙ ap Some (ap (λ n. length (records_at (work_in b) b.course.order n c)) (sym (starts l live)) ∙ (sym (ap length are) ∙ sym long)))
 
 pub renewed : (b : Booked) (c start k : ℕ) (task : Task) → HaveTurns b.course → IsLiveCall b.course c → c < length b.script.calls → ((l : Live) → IsLive b.course c l → start ≡ l.start)
-    → RunsOn b.script c (table_at (work_in b) b.course.order start) task → task.executed ≡ length task.records → due_number (work_in b) b.course c ≡ Some k → IsUnderWay b c (record { task = task; count = Some k })
+    → RunsOn b.script c (table_at (work_in b) b.course.order start) task → task.executed ≡ length task.log.records → due_number (work_in b) b.course c ≡ Some k → IsUnderWay b c (record { task = task; count = Some k })
 renewed b c start k task turns live there starts runs all due = record {
   live = live;
   there = there;

@@ -95,7 +95,7 @@ restarted b new store c l r k there live turns made repaired = record {
 -- A call that moved
 
 pub moved_latest : (old new : Booked) (c start : ℕ) (task : Task) → c < length old.script.calls → new.script ≡ old.script → new.course.order ≡ old.course.order → start ≡ length old.course.order
-    → RunsOn old.script c (table_at (work_in old) old.course.order start) task → task.records ≡ records_at (work_in old) old.course.order start c → task.executed ≡ length task.records → IsLatest new c None (record { task = task; count = None })
+    → RunsOn old.script c (table_at (work_in old) old.course.order start) task → task.log.records ≡ records_at (work_in old) old.course.order start c → task.executed ≡ length task.log.records → IsLatest new c None (record { task = task; count = None })
 moved_latest old new c start task there script order last runs are executed = record {
   there = subst (λ (s : Script). c < length s.calls) (sym script) there;
   runs =

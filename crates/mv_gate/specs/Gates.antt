@@ -68,7 +68,7 @@ pub record Holding : Type 0 where
 
 -- what the task executed: all its records in a whole run, those that aren't kept in a repair from a start
 abbrev pub IsExecuted : Work → List ℕ → ℕ → Option ℕ → ℕ → Running → Type 0
-IsExecuted w seen c None start r = (r.count ≡ None) × (r.task.executed ≡ length r.task.records)
+IsExecuted w seen c None start r = (r.count ≡ None) × (r.task.executed ≡ length r.task.log.records)
 IsExecuted w seen c (Some from) start r = (from ≤ start) × (r.count ≡ Some r.task.executed) × (r.task.executed ≡ repair_run w seen c from start)
 
 -- a call of the board's script, as far as it has run at its start in a history that the pass has seen
@@ -91,11 +91,11 @@ pub record IsUnderWay (b : Booked) (c : ℕ) (r : Running) : Type 0 where
 pub record IsWhole (b : Booked) (c : ℕ) (r : Running) : Type 0 where
   pub call : IsUnderWay b c r
   pub fresh : IsNotStale b c
-  pub records : AreRecordsOf b c r.task.records
+  pub records : AreRecordsOf b c r.task.log.records
 
 -- its records are those of a full run on the tables after all commits
 abbrev pub IsLastRun : Booked → ℕ → Running → Type 0
-IsLastRun b c r = r.task.records ≡ records_at (work_in b) b.course.order (length b.course.order) c
+IsLastRun b c r = r.task.log.records ≡ records_at (work_in b) b.course.order (length b.course.order) c
 
 -- a call of the script has run whole after all commits, by a repair from a start, or without one
 pub record IsLatest (b : Booked) (c : ℕ) (from : Option ℕ) (r : Running) : Type 0 where
@@ -144,7 +144,7 @@ pub record IsKnown (b : Booked) (h : Holding) : Type 0 where
   pub is_live : IsLive b.course h.call live
   pub start : live.start ≡ h.start
   pub from : repaired_from live.turns ≡ h.from
-  pub steps : used live ≡ 0 → live.steps ≡ length h.running.task.records
+  pub steps : used live ≡ 0 → live.steps ≡ length h.running.task.log.records
 
 -- the holder's call is under way, with its start. While it has a statement left, its holder may have any task that the
 -- holder's one runs on to
@@ -157,7 +157,7 @@ pub record HasCall (s : BoardScript) (b : Booked) (h : Holding) : Type 0 where
 
 -- the next call began, after all commits, and has executed nothing; or every call has begun
 abbrev pub HandsOut : Result (Option Holding) NoMemory → Booked → Booked → Type 0
-HandsOut (Ok (Some h)) old new = Made (B h.call) old new × (h.start ≡ length old.course.order) × (h.from ≡ None) × (h.running.task.records ≡ [])
+HandsOut (Ok (Some h)) old new = Made (B h.call) old new × (h.start ≡ length old.course.order) × (h.from ≡ None) × (h.running.task.log.records ≡ [])
 HandsOut (Ok None) old new = (length old.course.calls ≡ length old.script.calls) × IsSame old new
 HandsOut (Err e) old new = IsSame old new
 

@@ -22,7 +22,7 @@ returns-then-rounds-gt1-clause-known g c =
     known_seen c.args.self.now b c.args.held.now h _ c.self.view_is c.held.view_is (
       λ t. known_by b h c.in-Some.rounds.now c.start-start.result c.in-Some.ensures.live c.start-start.ensures.value c.if-start-held.false
           (sym c.repaired_from.ensures ∙ same_starts c.repaired_from.result h.from (sym c.ne.ensures ∙ c.if-ne.false))
-          (later_round b h.call c.in-Some.rounds.now (length h.running.task.records) c.self.invariant.turns c.in-Some.ensures.live (omega (arith, many))),
+          (later_round b h.call c.in-Some.rounds.now (length h.running.task.log.records) c.self.invariant.turns c.in-Some.ensures.live (omega (arith, many))),
       λ k. search rules,
     )
 
@@ -38,7 +38,7 @@ returns-then-rounds-gt1-clause-call g c t =
     (has_call g.N.Making.script b c.self.inside.store c.self.inside.pass h c.self.invariant c.held.invariant seen
     (known_by b h c.in-Some.rounds.now c.start-start.result c.in-Some.ensures.live c.start-start.ensures.value c.if-start-held.false
     (sym c.repaired_from.ensures ∙ same_starts c.repaired_from.result h.from (sym c.ne.ensures ∙ c.if-ne.false))
-    (later_round b h.call c.in-Some.rounds.now (length h.running.task.records) c.self.invariant.turns c.in-Some.ensures.live (omega (arith, many))))))
+    (later_round b h.call c.in-Some.rounds.now (length h.running.task.log.records) c.self.invariant.turns c.in-Some.ensures.live (omega (arith, many))))))
 
 pub returns-else-rounds-gt1-clause-known : goal.returns-else-rounds-gt1-clause-known
 returns-else-rounds-gt1-clause-known g c =
