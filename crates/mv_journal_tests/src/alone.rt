@@ -11,7 +11,7 @@ use mv_exec::running::finish;
 use mv_exec::task::Task;
 use mv_graph::graph::Graph;
 use mv_journal::event::Event;
-use mv_record::record::Record;
+use mv_log::log::Log;
 use mv_recorded::laws::databases_are_kept;
 use mv_serial::calls::{Serial, run_alone};
 use mv_values::calls::{Call, Reply};
@@ -23,13 +23,8 @@ use std::alloc::Global;
 use std::mem;
 use std::test::Fail;
 
-/// Returns the records of a call that runs alone on a database.
-fn full_run(
-    alloc: Global,
-    graphs: &[Graph],
-    call: &Call,
-    tables: &Database,
-) -> Result<List<Record>, Fail>
+/// Returns a call that has run alone on a database.
+fn full_run(alloc: Global, graphs: &[Graph], call: &Call, tables: &Database) -> Result<Task, Fail>
     requires sound { All IsSound graphs.now }
     requires databases { All (λ graph. IsDatabaseOf graph.tables tables.now) graphs.now }
 {
@@ -39,18 +34,18 @@ fn full_run(
     if call.arguments.len() != graph.procedure.params.len() {
         return Err("another number of arguments".into());
     }
-    let mut task = Task::new(alloc, graph, call)?;
+    let mut task = Task::new(alloc, graph, call, Log::new(alloc))?;
     finish(alloc, graph, &mut task, &mut Plain::new(tables)).or(Err("no end"))?;
-    Ok(task.restart(alloc))
+    Ok(task)
 }
 
-/// Returns the records of each of these calls, if it runs alone on a database.
+/// Returns each of these calls after it has run alone on a database.
 fn full_runs(
     alloc: Global,
     graphs: &[Graph],
     calls: &[Call],
     tables: &Database,
-) -> Result<List<List<Record>>, Fail>
+) -> Result<List<Task>, Fail>
     requires sound { All IsSound graphs.now }
     requires databases { All (λ graph. IsDatabaseOf graph.tables tables.now) graphs.now }
 {

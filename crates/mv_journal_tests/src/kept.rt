@@ -1,31 +1,30 @@
 //! How many records a repair executes, found from two full runs: each record is compared with all others, and the tables
 //! row by row.
 
-use mv_record::record::{Read, Record, Spot};
+use mv_exec::task::Task;
+use mv_log::pred_ref::PredRef;
+use mv_log::record_ref::RecordRef;
+use mv_log::records::Records;
+use mv_log::var_read::VarRead;
 use mv_values::list::List;
 use mv_values::memory::NoMemory;
 use mv_values::patch::{Patch, Write};
-use mv_values::pred::Pred;
 use mv_values::rows::{Database, Keyed};
 use mv_values::value::{Key, Row, Value, are_same};
 use std::alloc::Global;
 
-/// The tables after some commits, and the records of each call that runs alone on them.
+/// The tables after some commits, and each call after it has run alone on them.
 #[derive(Drop)]
 pub(crate) struct Point {
     pub(crate) tables: Database,
-    pub(crate) runs: List<List<Record>>,
+    pub(crate) runs: List<Task>,
 }
 
 /// Returns the records of a call after so many commits.
-pub(crate) fn records_at(points: &[Point], commits: u32, call: u32) -> &[Record] {
-    let Some(point) = points.get(commits as usize) else {
-        return &[];
-    };
-    match point.runs.as_slice().get(call as usize) {
-        Some(records) => records.as_slice(),
-        None => &[],
-    }
+pub(crate) fn records_at(points: &[Point], commits: u32, call: u32) -> Option<Records<'_>> {
+    let point = points.get(commits as usize)?;
+    let task = point.runs.as_slice().get(call as usize)?;
+    Some(task.records())
 }
 
 // Changes of rows
@@ -41,7 +40,7 @@ fn row_under<'r>(rows: &'r [Keyed], key: &Key) -> Option<&'r Row> {
 }
 
 /// Whether a column that the predicate selects or tests differs.
-fn differ(pred: &Pred, before: &[Value], after: &[Value]) -> bool {
+fn differ(pred: &PredRef<'_>, before: &[Value], after: &[Value]) -> bool {
     for column in 0..16u8 {
         if let (Some(a), Some(b)) = (before.get(column as usize), after.get(column as usize))
             && pred.names(column)
@@ -54,7 +53,7 @@ fn differ(pred: &Pred, before: &[Value], after: &[Value]) -> bool {
 }
 
 /// Whether there is one row and not the other, or a column that the predicate selects or tests differs.
-fn are_changed(pred: &Pred, before: Option<&Row>, after: Option<&Row>) -> bool {
+fn are_changed(pred: &PredRef<'_>, before: Option<&Row>, after: Option<&Row>) -> bool {
     match (before, after) {
         (Some(before), Some(after)) => differ(pred, before.as_slice(), after.as_slice()),
         _ => before.is_some() || after.is_some(),
@@ -72,9 +71,9 @@ fn has_written(writes: &[Write], table: u8, key: &Key) -> bool {
 }
 
 /// Whether one of these records wrote the key.
-fn have_written(records: &[Record], table: u8, key: &Key) -> bool {
-    for record in records {
-        if has_written(record.writes.as_slice(), table, key) {
+fn have_written(records: &Records<'_>, table: u8, key: &Key) -> bool {
+    for number in 0..records.len() {
+        if has_written(records.get(number).writes(), table, key) {
             return true;
         }
     }
@@ -82,9 +81,15 @@ fn have_written(records: &[Record], table: u8, key: &Key) -> bool {
 }
 
 /// Whether the change of a row hits the predicate of a record behind these.
-fn is_hit_at(own: &[Record], pred: &Pred, key: &Key, before: &[Keyed], after: &[Keyed]) -> bool {
+fn is_hit_at(
+    own: &Records<'_>,
+    pred: &PredRef<'_>,
+    key: &Key,
+    before: &[Keyed],
+    after: &[Keyed],
+) -> bool {
     let (before, after) = (row_under(before, key), row_under(after, key));
-    if have_written(own, pred.table, key) {
+    if have_written(own, pred.table(), key) {
         pred.admits(key) && are_changed(pred, before, after)
     } else {
         !pred.same(before, after)
@@ -93,8 +98,8 @@ fn is_hit_at(own: &[Record], pred: &Pred, key: &Key, before: &[Keyed], after: &[
 
 /// Whether the change of the row under one of these keys does.
 fn is_hit_under(
-    own: &[Record],
-    pred: &Pred,
+    own: &Records<'_>,
+    pred: &PredRef<'_>,
     items: &[Keyed],
     before: &[Keyed],
     after: &[Keyed],
@@ -116,15 +121,16 @@ fn rows_of(point: &Point, table: u8) -> &[Keyed] {
 }
 
 /// Whether a commit hits the predicate of a record behind these.
-fn is_hit_by(own: &[Record], pred: &Pred, before: &Point, after: &Point) -> bool {
-    let (before, after) = (rows_of(before, pred.table), rows_of(after, pred.table));
+fn is_hit_by(own: &Records<'_>, pred: &PredRef<'_>, before: &Point, after: &Point) -> bool {
+    let (before, after) = (rows_of(before, pred.table()), rows_of(after, pred.table()));
     is_hit_under(own, pred, before, before, after) || is_hit_under(own, pred, after, before, after)
 }
 
 /// Whether a commit hits a record behind these.
-fn is_hit(own: &[Record], record: &Record, before: &Point, after: &Point) -> bool {
-    for pred in record.preds.as_slice() {
-        if is_hit_by(own, pred, before, after) {
+fn is_hit(own: &Records<'_>, record: &RecordRef<'_>, before: &Point, after: &Point) -> bool {
+    let preds = record.preds();
+    for at in 0..preds.len() {
+        if is_hit_by(own, &preds.get(at), before, after) {
             return true;
         }
     }
@@ -134,8 +140,8 @@ fn is_hit(own: &[Record], record: &Record, before: &Point, after: &Point) -> boo
 // Records
 
 /// Whether a write may change what the predicate finds.
-fn may_change(write: &Write, pred: &Pred) -> bool {
-    if pred.table != write.table || !pred.admits(&write.key) {
+fn may_change(write: &Write, pred: &PredRef<'_>) -> bool {
+    if pred.table() != write.table || !pred.admits(&write.key) {
         return false;
     }
     let Patch::Set(items) = &write.patch else {
@@ -150,9 +156,10 @@ fn may_change(write: &Write, pred: &Pred) -> bool {
 }
 
 /// Whether a write may change what a record finds.
-fn touches(write: &Write, record: &Record) -> bool {
-    for pred in record.preds.as_slice() {
-        if may_change(write, pred) {
+fn touches(write: &Write, record: &RecordRef<'_>) -> bool {
+    let preds = record.preds();
+    for at in 0..preds.len() {
+        if may_change(write, &preds.get(at)) {
             return true;
         }
     }
@@ -160,8 +167,8 @@ fn touches(write: &Write, record: &Record) -> bool {
 }
 
 /// Whether a record wrote what another one asks for.
-fn is_touched(record: &Record, writer: &Record) -> bool {
-    for write in writer.writes.as_slice() {
+fn is_touched(record: &RecordRef<'_>, writer: &RecordRef<'_>) -> bool {
+    for write in writer.writes() {
         if touches(write, record) {
             return true;
         }
@@ -169,30 +176,29 @@ fn is_touched(record: &Record, writer: &Record) -> bool {
     false
 }
 
-/// Returns the number of the record at a spot.
-fn number_at(records: &[Record], spot: &Spot) -> Option<usize> {
-    for (number, record) in records.iter().enumerate() {
-        if record.spot.statement == spot.statement
-            && record.spot.turns.as_slice() == spot.turns.as_slice()
-        {
+/// Returns the number of the record at the place of this one.
+fn number_at(records: &Records<'_>, place: &RecordRef<'_>) -> Option<usize> {
+    for number in 0..records.len() {
+        let record = records.get(number);
+        if record.statement() == place.statement() && record.turns() == place.turns() {
             return Some(number);
         }
     }
     None
 }
 
-/// Two full runs of a call, and the tables from those of the first to those of the second.
+/// Two full runs of a call, and the tables from those of the first to those of the second. There may be no first run.
 #[derive(Drop)]
 pub(crate) struct TwoRuns<'r> {
-    pub(crate) old: &'r [Record],
-    pub(crate) new: &'r [Record],
+    pub(crate) old: Option<Records<'r>>,
+    pub(crate) new: Records<'r>,
     pub(crate) points: &'r [Point],
     pub(crate) from: u32,
     pub(crate) to: u32,
 }
 
 /// Whether a commit between the two runs hits a record of the first behind these.
-fn is_hit_between(runs: &TwoRuns<'_>, own: &[Record], record: &Record) -> bool {
+fn is_hit_between(runs: &TwoRuns<'_>, own: &Records<'_>, record: &RecordRef<'_>) -> bool {
     for commit in runs.from..runs.to {
         if let Some([before, after, ..]) = runs.points.get(commit as usize..)
             && is_hit(own, record, before, after)
@@ -205,20 +211,20 @@ fn is_hit_between(runs: &TwoRuns<'_>, own: &[Record], record: &Record) -> bool {
 
 /// Whether two definers are one kept record, or none. A kept record of the second run has the number of its twin in the
 /// first.
-fn is_same_definer(kept: &[Option<usize>], old: Option<usize>, new: Option<usize>) -> bool {
+fn is_same_definer(kept: &[Option<usize>], old: Option<u32>, new: Option<u32>) -> bool {
     let Some(number) = new else {
         return old.is_none();
     };
-    match kept.get(number) {
-        Some(Some(twin)) => old == Some(*twin),
+    match (kept.get(number as usize), old) {
+        (Some(Some(twin)), Some(old)) => old as usize == *twin,
         _ => false,
     }
 }
 
 /// Whether the reads of two records have the same definers, which are kept.
-fn are_reads_kept(kept: &[Option<usize>], old: &[Read], new: &[Read]) -> bool {
+fn are_reads_kept(kept: &[Option<usize>], old: &[VarRead], new: &[VarRead]) -> bool {
     for (old, new) in old.iter().zip(new) {
-        if !is_same_definer(kept, old.definer, new.definer) {
+        if !is_same_definer(kept, old.definer(), new.definer()) {
             return false;
         }
     }
@@ -226,9 +232,9 @@ fn are_reads_kept(kept: &[Option<usize>], old: &[Read], new: &[Read]) -> bool {
 }
 
 /// Whether an earlier record of the second run that isn't kept wrote what this one asks for.
-fn is_touched_anew(runs: &TwoRuns<'_>, kept: &[Option<usize>], record: &Record) -> bool {
-    for (twin, writer) in kept.iter().zip(runs.new) {
-        if twin.is_none() && is_touched(record, writer) {
+fn is_touched_anew(runs: &TwoRuns<'_>, kept: &[Option<usize>], record: &RecordRef<'_>) -> bool {
+    for (number, twin) in kept.iter().enumerate() {
+        if twin.is_none() && number < runs.new.len() && is_touched(record, &runs.new.get(number)) {
             return true;
         }
     }
@@ -236,9 +242,9 @@ fn is_touched_anew(runs: &TwoRuns<'_>, kept: &[Option<usize>], record: &Record) 
 }
 
 /// Whether one of these records of the first run that isn't kept did.
-fn was_touched(own: &[Record], kept: &[Option<usize>], record: &Record) -> bool {
-    for (number, writer) in own.iter().enumerate() {
-        if !kept.contains(&Some(number)) && is_touched(record, writer) {
+fn was_touched(own: &Records<'_>, kept: &[Option<usize>], record: &RecordRef<'_>) -> bool {
+    for number in 0..own.len() {
+        if !kept.contains(&Some(number)) && is_touched(record, &own.get(number)) {
             return true;
         }
     }
@@ -246,23 +252,27 @@ fn was_touched(own: &[Record], kept: &[Option<usize>], record: &Record) -> bool 
 }
 
 /// Whether the parent is kept, if there is one.
-fn is_held(kept: &[Option<usize>], record: &Record) -> bool {
-    match record.parent {
+fn is_held(kept: &[Option<usize>], record: &RecordRef<'_>) -> bool {
+    match record.parent() {
         None => true,
-        Some(parent) => matches!(kept.get(parent), Some(Some(_))),
+        Some(parent) => matches!(kept.get(parent as usize), Some(Some(_))),
     }
 }
 
 /// Returns the number of the next record's twin, if the record is kept. These are the twins of the records before it.
-fn twin_of(runs: &TwoRuns<'_>, kept: &[Option<usize>], record: &Record) -> Option<usize> {
-    let number = number_at(runs.old, &record.spot)?;
-    let own = runs.old.get(..number)?;
-    let old = runs.old.get(number)?;
+fn twin_of(runs: &TwoRuns<'_>, kept: &[Option<usize>], record: &RecordRef<'_>) -> Option<usize> {
+    let records = runs.old.as_ref()?;
+    let number = number_at(records, record)?;
+    if number >= records.len() {
+        return None;
+    }
+    let own = records.first(number);
+    let old = records.get(number);
     let is_kept = is_held(kept, record)
-        && are_reads_kept(kept, old.reads.as_slice(), record.reads.as_slice())
-        && !is_hit_between(runs, own, old)
+        && are_reads_kept(kept, old.reads(), record.reads())
+        && !is_hit_between(runs, &own, &old)
         && !is_touched_anew(runs, kept, record)
-        && !was_touched(own, kept, record);
+        && !was_touched(&own, kept, record);
     if is_kept { Some(number) } else { None }
 }
 
@@ -270,8 +280,8 @@ fn twin_of(runs: &TwoRuns<'_>, kept: &[Option<usize>], record: &Record) -> Optio
 pub(crate) fn executed(alloc: Global, runs: &TwoRuns<'_>) -> Result<usize, NoMemory> {
     let mut kept = Vec::new(alloc);
     let mut executed: usize = 0;
-    for record in runs.new {
-        let twin = twin_of(runs, kept.as_slice(), record);
+    for number in 0..runs.new.len() {
+        let twin = twin_of(runs, kept.as_slice(), &runs.new.get(number));
         if twin.is_none() {
             executed = executed.saturating_add(1);
         }

@@ -24,13 +24,16 @@ fn add_round(
     mark: Mark,
 ) -> Result<(), NoMemory> {
     let (points, call, start) = (story.points, story.call, story.commits);
+    let Some(new) = records_at(points, start, call) else {
+        return Ok(());
+    };
     let old = match from {
         Some(from) => records_at(points, from, call),
-        None => &[],
+        None => None,
     };
     let runs = TwoRuns {
         old,
-        new: records_at(points, start, call),
+        new,
         points,
         from: from.unwrap_or(start),
         to: start,

@@ -1,22 +1,26 @@
 //! The records of calls that are executed, adopted, or both in turn, worked out by hand from the rules of the language.
 
-ghost use Rattle.std.specs.Prelude.{◌≡◌, IfOk, All, length};
+ghost use Rattle.std.specs.Prelude.{◌≡◌, ◌≤◌, IfOk, OnOk, All, length};
 ghost use Rattle.mv_graph.specs.Nodes.{IsSound};
 ghost use Rattle.mv_record.specs.Databases.{IsDatabaseOf, IsProgram};
-ghost use Rattle.mv_exec.specs.Running.{IsRunning};
+ghost use Rattle.mv_exec.specs.Running.{IsRunning, IsTaskOf};
 
-use crate::walks::{is_adopted, placeless, run, run_and_walk};
+use crate::walks::{is_adopted, next_number, run, run_and_walk};
 use crate::whole::joined;
 use mv_accept::accept::accept;
 use mv_alone::line::line_from;
 use mv_cases::ensure::ensure;
 use mv_catalog::resolved::Program;
 use mv_compile::compile::compile;
+use mv_exec::ahead::Ahead;
 use mv_exec::running::{adopt, peek};
 use mv_exec::step::Stepped;
-use mv_exec::task::{Ahead, Task};
+use mv_exec::task::Task;
 use mv_graph::graph::Graph;
-use mv_record::record::{Read, Record, Slot, Spot};
+use mv_log::record_ref::RecordRef;
+use mv_log::records::Records;
+use mv_log::var_read::VarRead;
+use mv_record::record::Slot;
 use mv_values::calls::{Call, End};
 use mv_values::list::List;
 use mv_values::patch::{Assign, Patch, Write};
@@ -142,7 +146,7 @@ fn tell_value(alloc: Global, out: &mut String, front: &str, value: &Value) -> Re
     tell_values(alloc, out, slice::from_ref(value))
 }
 
-fn tell_turns(out: &mut String, turns: &[usize]) -> Result<(), Fail> {
+fn tell_turns(out: &mut String, turns: &[u32]) -> Result<(), Fail> {
     let mut front = "@";
     for turn in turns {
         write!(out, "{front}{turn}")?;
@@ -151,22 +155,22 @@ fn tell_turns(out: &mut String, turns: &[usize]) -> Result<(), Fail> {
     Ok(())
 }
 
-fn tell_parent(out: &mut String, parent: Option<usize>) -> Result<(), Fail> {
+fn tell_parent(out: &mut String, parent: Option<u32>) -> Result<(), Fail> {
     match parent {
         Some(parent) => Ok(write!(out, " in {parent}")?),
         None => Ok(()),
     }
 }
 
-fn tell_read(out: &mut String, front: &str, read: &Read) -> Result<(), Fail> {
-    write!(out, "{front} {}<", read.slot)?;
-    match read.definer {
+fn tell_read(out: &mut String, front: &str, read: &VarRead) -> Result<(), Fail> {
+    write!(out, "{front} {}<", read.slot())?;
+    match read.definer() {
         Some(definer) => Ok(write!(out, "{definer}")?),
         None => Ok(()),
     }
 }
 
-fn tell_reads(out: &mut String, reads: &[Read]) -> Result<(), Fail> {
+fn tell_reads(out: &mut String, reads: &[VarRead]) -> Result<(), Fail> {
     let mut front = " reads";
     for read in reads {
         tell_read(out, front, read)?;
@@ -175,15 +179,16 @@ fn tell_reads(out: &mut String, reads: &[Read]) -> Result<(), Fail> {
     Ok(())
 }
 
-/// Adds the place, controller and definers of a record.
+/// Adds a place, a controller and definers.
 fn tell_place(
     out: &mut String,
-    spot: &Spot,
-    parent: Option<usize>,
-    reads: &[Read],
+    statement: u16,
+    turns: &[u32],
+    parent: Option<u32>,
+    reads: &[VarRead],
 ) -> Result<(), Fail> {
-    write!(out, "{}", spot.statement)?;
-    tell_turns(out, spot.turns.as_slice())?;
+    write!(out, "{statement}")?;
+    tell_turns(out, turns)?;
     tell_parent(out, parent)?;
     tell_reads(out, reads)
 }
@@ -274,48 +279,55 @@ fn tell_end(out: &mut String, end: &End) -> Result<(), Fail> {
     Ok(out.push_str(word)?)
 }
 
-fn tell_record(alloc: Global, out: &mut String, record: &Record) -> Result<(), Fail> {
-    tell_place(out, &record.spot, record.parent, record.reads.as_slice())?;
-    tell_asks(out, record.preds.len())?;
-    tell_sets(alloc, out, record.sets.as_slice())?;
-    tell_rows(alloc, out, record.rows.as_slice())?;
-    tell_writes(alloc, out, record.writes.as_slice())?;
-    tell_line(out, record.line.as_ref())?;
-    if let Some(end) = &record.end {
+/// Adds the place, controller and definers of a record.
+fn tell_place_of(out: &mut String, record: &RecordRef<'_>) -> Result<(), Fail> {
+    tell_place(
+        out,
+        record.statement(),
+        record.turns(),
+        record.parent(),
+        record.reads(),
+    )
+}
+
+fn tell_record(alloc: Global, out: &mut String, record: &RecordRef<'_>) -> Result<(), Fail> {
+    tell_place_of(out, record)?;
+    tell_asks(out, record.preds().len())?;
+    tell_sets(alloc, out, record.sets())?;
+    tell_rows(alloc, out, record.rows())?;
+    tell_writes(alloc, out, record.writes())?;
+    tell_line(out, record.line())?;
+    if let Some(end) = record.end() {
         tell_end(out, end)?;
     }
     Ok(out.push_str("; ")?)
 }
 
-fn tell_records(alloc: Global, out: &mut String, records: &[Record]) -> Result<(), Fail> {
-    for record in records {
-        tell_record(alloc, out, record)?;
+fn tell_records(alloc: Global, out: &mut String, records: &Records<'_>) -> Result<(), Fail> {
+    for number in 0..records.len() {
+        tell_record(alloc, out, &records.get(number))?;
     }
     Ok(())
 }
 
 /// Checks that records have this text.
-fn are_told(alloc: Global, records: &[Record], want: &str) -> Result<(), Fail> {
+fn are_told(alloc: Global, records: &Records<'_>, want: &str) -> Result<(), Fail> {
     let mut out = String::new(alloc);
     tell_records(alloc, &mut out, records)?;
     ensure(alloc, out.as_str() == want, out.as_str())
 }
 
 /// Checks that a record is where it was foreseen.
-fn is_foreseen(alloc: Global, record: &Record, ahead: &Ahead) -> Result<(), Fail> {
+fn is_foreseen(alloc: Global, record: &RecordRef<'_>, ahead: &Ahead) -> Result<(), Fail> {
     let mut stands = String::new(alloc);
-    tell_place(
-        &mut stands,
-        &record.spot,
-        record.parent,
-        record.reads.as_slice(),
-    )?;
+    tell_place_of(&mut stands, record)?;
     let mut foreseen = String::new(alloc);
     tell_place(
         &mut foreseen,
-        &ahead.spot,
-        ahead.parent,
-        ahead.reads.as_slice(),
+        ahead.statement(),
+        ahead.turns(),
+        ahead.parent(),
+        ahead.reads(),
     )?;
     ensure(
         alloc,
@@ -326,44 +338,36 @@ fn is_foreseen(alloc: Global, record: &Record, ahead: &Ahead) -> Result<(), Fail
 
 // Running calls
 
-/// Checks that `peek` foresees the place, controller and reads of this record.
-fn foresees(alloc: Global, graph: &Graph, task: &Task, record: &Record) -> Result<(), Fail>
-    requires sound { IsSound graph.now }
-    requires running { IsRunning graph.now task.now }
-{
-    match peek(alloc, graph, task)? {
-        Some(ahead) => is_foreseen(alloc, record, &ahead),
-        None => Err("nothing is ahead".into()),
-    }
-}
-
-/// Adopts a copy of a record that `peek` foresees.
-fn adopt_copy(alloc: Global, graph: &Graph, task: &mut Task, record: &Record) -> Result<(), Fail>
+/// Adopts the record of the run before the repair that has the next number. `peek` must foresee its place.
+fn adopt_next(alloc: Global, graph: &Graph, task: &mut Task) -> Result<(), Fail>
     requires sound { IsSound graph.now }
     requires running { IsRunning graph.now task.old }
+    requires rises { task.old.log.kept ≤ length task.old.log.records }
     ensures running { IsRunning graph.now task.new }
+    ensures rises { OnOk result (task.new.log.kept ≤ length task.new.log.records) }
 {
-    foresees(alloc, graph, task, record)?;
-    if task.ended() {
-        return Err("it has ended".into());
+    let Some(ahead) = peek(alloc, graph, task)? else {
+        return Err("nothing is ahead".into());
+    };
+    let number = next_number(task)?;
+    if number as usize >= task.past().len() {
+        return Err("no record is left".into());
     }
-    let given = placeless(alloc, record)?;
-    let stepped = adopt(alloc, graph, task, given)?;
-    ensure(
-        alloc,
-        (stepped == Stepped::Ended) == task.ended(),
-        "a step that tells no end",
-    )
+    is_foreseen(alloc, &task.past().get(number as usize), &ahead)?;
+    let stepped = adopt(alloc, graph, task, number)?;
+    let ended = stepped == Stepped::Ended;
+    ensure(alloc, ended == task.ended(), "a step that tells no end")?;
+    Ok(())
 }
 
-/// Adopts copies of these records.
-fn adopt_all(alloc: Global, graph: &Graph, task: &mut Task, given: &[Record]) -> Result<(), Fail>
+/// Adopts all records of the run before the repair.
+fn adopt_all(alloc: Global, graph: &Graph, task: &mut Task) -> Result<(), Fail>
     requires sound { IsSound graph.now }
     requires running { IsRunning graph.now task.old }
-    ensures running { IsRunning graph.now task.new }
+    requires rises { task.old.log.kept ≤ length task.old.log.records }
 {
-    for record in given {
-        adopt_copy(alloc, graph, task, record)?;
+    for _ in 0..task.past().len() {
+        adopt_next(alloc, graph, task)?;
     }
     Ok(())
 }
@@ -386,7 +390,7 @@ fn has_left(alloc: Global, task: &Task, executed: usize, want: &str) -> Result<(
         task.executed() == executed,
         "another number of executed records",
     )?;
-    are_told(alloc, task.records(), want)
+    are_told(alloc, &task.records(), want)
 }
 
 /// Checks that a call leaves these records if it runs, begins anew, and adopts its first ones and every other one
@@ -408,35 +412,14 @@ fn walks(
     has_left(alloc, &task, executed_by_walk(len, first), want)
 }
 
-/// Checks that a call that adopts all these records leaves them, each where it was foreseen.
-fn adopts(
-    alloc: Global,
-    graph: &Graph,
-    call: &Call,
-    records: &[Record],
-    want: &str,
-) -> Result<(), Fail>
+/// Checks that a call that has run to its end leaves these records if it adopts them all, each where it was foreseen.
+fn adopts(alloc: Global, graph: &Graph, call: &Call, mut task: Task, want: &str) -> Result<(), Fail>
     requires sound { IsSound graph.now }
-    requires arguments { length call.now.arguments ≡ length graph.now.procedure.params }
+    requires call { IsTaskOf graph.now call.now task }
 {
-    let mut task = Task::new(alloc, graph, call)?;
-    adopt_all(alloc, graph, &mut task, records)?;
+    task.begin_repair();
+    adopt_all(alloc, graph, &mut task)?;
     has_left(alloc, &task, 0, want)
-}
-
-/// Returns the records of a call that executes them all.
-fn records_of(
-    alloc: Global,
-    graph: &Graph,
-    call: &Call,
-    database: &Database,
-) -> Result<List<Record>, Fail>
-    requires sound { IsSound graph.now }
-    requires arguments { length call.now.arguments ≡ length graph.now.procedure.params }
-    requires database { IsDatabaseOf graph.now.tables database.now }
-{
-    let mut task = run(alloc, graph, call, database).or(Err("no end"))?;
-    Ok(task.restart(alloc))
 }
 
 /// Checks that a call leaves these records, whether all are executed, all are adopted, or the first ones are adopted
@@ -452,11 +435,14 @@ fn check(
     requires arguments { length call.now.arguments ≡ length graph.now.procedure.params }
     requires database { IsDatabaseOf graph.now.tables database.now }
 {
-    let records = records_of(alloc, graph, call, database)?;
-    are_told(alloc, records.as_slice(), want)?;
-    adopts(alloc, graph, call, records.as_slice(), want)?;
-    for first in 0..=records.len() {
-        walks(alloc, graph, call, database, records.len(), first, want)?;
+    let Ok(task) = run(alloc, graph, call, database) else {
+        return Err("no end".into());
+    };
+    let len = task.records().len();
+    has_left(alloc, &task, len, want)?;
+    adopts(alloc, graph, call, task, want)?;
+    for first in 0..=len {
+        walks(alloc, graph, call, database, len, first, want)?;
     }
     Ok(())
 }

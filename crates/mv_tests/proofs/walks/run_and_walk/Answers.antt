@@ -3,12 +3,11 @@ use Rattle.mv_view.specs.Viewing.{Sight}
 use Rattle.mv_graph.specs.Nodes.{meaning_of}
 use Rattle.mv_tests.proofs.walks.run_and_walk.Goals as goal
 
-pub walk-requires-clause-given : goal.walk-requires-clause-given
-walk-requires-clause-given c =
-    c.as_slice.ensures
-    ∙ (c.restart-records.ensures.back
+pub walk-requires-clause-past : goal.walk-requires-clause-past
+walk-requires-clause-past c =
+    c.begin_repair.ensures.past
     ∙ (c.in_ok-task.ensures.records
-    ∙ ap (λ (sight : Sight). (meaning_of c.args.graph.now c.args.call.now sight.database).records) (sym c.new-view.ensures)))
+    ∙ ap (λ (sight : Sight). (meaning_of c.args.graph.now c.args.call.now sight.database).records) (sym c.new-view.ensures))
 
 pub walk-requires-clause-on : goal.walk-requires-clause-on
-walk-requires-clause-on c = c.restart-records.ensures.begins c.args.graph.now c.args.call.now c.new-view.result.database c.in_ok-task.ensures.call
+walk-requires-clause-on c = c.begin_repair.ensures.begins c.args.graph.now c.args.call.now c.new-view.result.database c.in_ok-task.ensures.call
