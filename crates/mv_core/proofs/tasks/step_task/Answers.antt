@@ -1,4 +1,4 @@
-use Rattle.std.proofs.Common.{arith, ◌+◌, length, refl, ap, subst}
+use Rattle.std.proofs.Common.{arith, ◌+◌, length, refl, ap, subst, ◌∙◌}
 use Rattle.mv_values.proofs.Deciding.{always_err}
 use Rattle.mv_lawful.specs.Lawful.{Live}
 use Rattle.mv_core.specs.Cores.{HasRunOne, IsLiveTask}
@@ -37,8 +37,8 @@ task_on c = c.requires.call.task c.requires.call.live.0 c.requires.call.live.1
 
 one_more : (c : goal.In_ok-next_fresh) → HasRunOne c.args.running.now.task c.next_fresh.new.task
 one_more c =
-    let few = c.if-records-steps.true in
-    let many = ap length c.records.ensures in
+    let few = c.if-len-steps.true in
+    let many = c.len.ensures ∙ ap length c.records.ensures in
     let steps = c.steps.ensures c.requires.call.live.0 c.requires.call.live.1 in
     c.in_ok-next_fresh.ensures.ran (goes_on c.args.book.now.script c.args.book.now.course c.args.call c.requires.call.live.0 c.args.running.now.task c.requires.call.stored.script c.requires.call.number (task_on c).runs
     (omega (arith, few, many, steps)) (c.requires.left c.requires.call.live.0 c.requires.call.live.1))
@@ -57,10 +57,10 @@ returns-in_ok-next_fresh-clause-task c l live =
     (runs_back c.args.book.now c.args.call c.requires.call.live.0.start c.script.result.now c.new-view.result c.next_fresh.new.task c.script.ensures (ran c) c.in_ok-next_fresh.ensures.runs)
     (counts_one c.args.running.now.task c.next_fresh.new.task (one_more c)))
 
-pub returns-else-records-steps-clause-ok : goal.returns-else-records-steps-clause-ok
-returns-else-records-steps-clause-ok c l live =
-    let few = c.if-records-steps.false in
-    let many = ap length c.records.ensures in
+pub returns-else-len-steps-clause-ok : goal.returns-else-len-steps-clause-ok
+returns-else-len-steps-clause-ok c l live =
+    let few = c.if-len-steps.false in
+    let many = c.len.ensures ∙ ap length c.records.ensures in
     let steps = c.steps.ensures l live in
     task_named c.args.book.now.script c.args.book.now.course.order c.args.call l c.args.running.now (c.requires.call.task l live) (λ le. omega (arith, few, le, many, steps))
 
@@ -70,16 +70,16 @@ returns-in_err-next_fresh-clause-ran c = record { count = refl; task = counts_sa
 pub returns-in_ok-next_fresh-clause-ran : goal.returns-in_ok-next_fresh-clause-ran
 returns-in_ok-next_fresh-clause-ran c = record { count = refl; task = counts_one c.args.running.now.task c.next_fresh.new.task (one_more c) }
 
-pub returns-else-records-steps-clause-ran : goal.returns-else-records-steps-clause-ran
-returns-else-records-steps-clause-ran c = record { count = refl; task = record { executed = refl; more = omega arith } }
+pub returns-else-len-steps-clause-ran : goal.returns-else-len-steps-clause-ran
+returns-else-len-steps-clause-ran c = record { count = refl; task = record { executed = refl; more = omega arith } }
 
 pub returns-in_ok-next_fresh-clause-one : goal.returns-in_ok-next_fresh-clause-one
 returns-in_ok-next_fresh-clause-one c l live all = one_more c
 
-pub returns-else-records-steps-clause-one : goal.returns-else-records-steps-clause-one
-returns-else-records-steps-clause-one c l live all =
-    let few = c.if-records-steps.false in
-    let many = ap length c.records.ensures in
+pub returns-else-len-steps-clause-one : goal.returns-else-len-steps-clause-one
+returns-else-len-steps-clause-one c l live all =
+    let few = c.if-len-steps.false in
+    let many = c.len.ensures ∙ ap length c.records.ensures in
     let steps = c.steps.ensures l live in
     absurd (omega (arith, few, many, steps, all))
 
@@ -88,10 +88,10 @@ returns-in_err-next_fresh-clause-err c = always_err c.from_residual.result _ c.i
 
 pub returns-in_ok-next_fresh-clause-named : goal.returns-in_ok-next_fresh-clause-named
 returns-in_ok-next_fresh-clause-named c l live more =
-    let few = c.if-records-steps.true in
-    let many = ap length c.records.ensures in
+    let few = c.if-len-steps.true in
+    let many = c.len.ensures ∙ ap length c.records.ensures in
     let steps = c.steps.ensures l live in
     absurd (omega (arith, few, many, steps, more))
 
-pub returns-else-records-steps-clause-named : goal.returns-else-records-steps-clause-named
-returns-else-records-steps-clause-named c l live more = refl
+pub returns-else-len-steps-clause-named : goal.returns-else-len-steps-clause-named
+returns-else-len-steps-clause-named c l live more = refl
