@@ -28,7 +28,6 @@ use mv_values::memory::NoMemory;
 use std::alloc::Global;
 
 /// A running call: the log of its records so far, its own writes, and its position.
-#[derive(Drop)]
 pub struct Task {
     /// The number of variables that are parameters.
     pub(crate) parameters: usize,
@@ -46,6 +45,23 @@ pub struct Task {
     pub(crate) ended: bool,
     /// Whether the procedure has no statements.
     pub(crate) empty: bool,
+}
+
+impl Drop for Task {
+    /// Drops what the call has. A drop of its own is one step for who drops a call; a derived one is a step for each part.
+    fn drop(self) {
+        let Task {
+            parameters: _,
+            variables: _,
+            log: _,
+            executed: _,
+            undo: _,
+            definers: _,
+            places: _,
+            ended: _,
+            empty: _,
+        } = self;
+    }
 }
 
 /// Returns the place before the first statement of a procedure.
@@ -174,7 +190,17 @@ impl Task {
     pub fn into_log(self) -> Log
         ensures { result ≡ no_records }
     {
-        let mut log = self.log;
+        let Task {
+            parameters: _,
+            variables: _,
+            mut log,
+            executed: _,
+            undo: _,
+            definers: _,
+            places: _,
+            ended: _,
+            empty: _,
+        } = self;
         log.clear();
         log
     }

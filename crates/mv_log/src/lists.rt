@@ -18,7 +18,6 @@ use mv_values::value::Row;
 use std::alloc::Global;
 
 /// The items of all records, kind by kind.
-#[derive(Drop)]
 pub(crate) struct Lists {
     pub(crate) turns: Flat<u32>,
     pub(crate) reads: Flat<VarRead>,
@@ -31,6 +30,25 @@ pub(crate) struct Lists {
     pub(crate) writes: Flat<Write>,
     pub(crate) lines: Flat<Txt>,
     pub(crate) ends: Flat<End>,
+}
+
+impl Drop for Lists {
+    /// Drops each list.
+    fn drop(self) {
+        let Lists {
+            turns: _,
+            reads: _,
+            sets: _,
+            sides: _,
+            preds: _,
+            tests: _,
+            columns: _,
+            rows: _,
+            writes: _,
+            lines: _,
+            ends: _,
+        } = self;
+    }
 }
 
 /// Returns the marks before all items.

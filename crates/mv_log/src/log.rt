@@ -28,7 +28,6 @@ use std::mem;
 /// The records of a running call, those of its run before a repair, and the effect of the statement that it executes.
 /// A record is a small head, which names its parts of lists that all records share. So a repair keeps a record without
 /// moving any of its items, and the next call uses the room again.
-#[derive(Drop)]
 pub struct Log {
     heads: Flat<Head>,
     past: Flat<Head>,
@@ -37,6 +36,19 @@ pub struct Log {
     lists: Lists,
     /// Where the items of the open statement begin.
     from: Marks,
+}
+
+impl Drop for Log {
+    /// Drops the lists. A drop of its own is one step for who drops a log; a derived one is a step for each list.
+    fn drop(self) {
+        let Log {
+            heads: _,
+            past: _,
+            kept: _,
+            lists: _,
+            from: _,
+        } = self;
+    }
 }
 
 impl Model for Log {

@@ -28,13 +28,25 @@ use std::marker::Model;
 /// has the place of the last write to each key, by table and key. `links` has for each write where the earlier writes
 /// to its key are. `composed` has for each write the patch that does what the writes to its key do up
 /// to it, or `None` where its own patch does.
-#[derive(Drop)]
 pub struct Undo {
     alloc: Global,
     items: Vec<Owned>,
     composed: Vec<Option<Patch>>,
     links: Vec<Link>,
     order: Vec<usize>,
+}
+
+impl Drop for Undo {
+    /// Drops the lists. A drop of its own is one step for who drops own writes; a derived one is a step for each list.
+    fn drop(self) {
+        let Undo {
+            alloc: _,
+            items: _,
+            composed: _,
+            links: _,
+            order: _,
+        } = self;
+    }
 }
 
 impl Model for Undo {
