@@ -87,9 +87,6 @@ behind_rest o cs ks h = each_map (λ k. Each (λ (a : Placed). IsEarlierPath k a
 pub behind_first : (o : Placed) (cs : List Placed) (ks : List Path) → Each (λ k. Each (λ (a : Placed). IsEarlierPath k a.path) (o ∷ cs)) ks → Each (λ k. IsEarlierPath k o.path) ks
 behind_first o cs ks h = each_map (λ k. Each (λ (a : Placed). IsEarlierPath k a.path) (o ∷ cs)) (λ k. IsEarlierPath k o.path) ks (λ k l. l.0) h
 
-more_below : (at : ℕ) (ns : List ℕ) → Each (λ n. n < at) ns → Each (λ n. n < at + 1) ns
-more_below at ns h = each_map (λ n. n < at) (λ n. n < at + 1) ns (λ n lt. omega (arith, lt)) h
-
 -- The next record of the old run
 
 pub next_is : (changes : List Change) (os : List Record) (kept : List Path) (rest : List Placed) (old : OldRun) (o : Placed) (cs : List Placed) → (h : IsOld changes os kept rest old) → h.coming ≡ o ∷ cs → slice_get os old.at ≡ Some o.it
@@ -126,15 +123,11 @@ passed_next os old p yes' changes kept b more is later h = by h.coming refl
               (noted_writes os old.at old.others o.it.writes written
               ∙ (ap (λ ws. ws ++ o.it.writes) h.others
               ∙ (ap (λ ws. other_writes kept h.passed ++ ws) (sym (one_other kept o (not_among kept o.path (behind_first o cs kept behind)))) ∙ sym (others_both kept h.passed (o ∷ [])))));
-          numbers = subst (λ w. Each (λ n. n < old.at + 1) (noted (any_write w) old.at old.others)) (sym written) (noted_below old.at (old.at + 1) old.others (any_write o.it.writes) (omega arith) (more_below old.at old.others h.numbers));
           within = noted_longer old.known old.at old.others (any_write (next_writes os old)) h.within;
           known = subst (λ l. AreKnown old.keys (writes_at os l)) (sym (noted_take old.known old.at old.others (any_write (next_writes os old)) h.within)) h.known;
           below = each_join (λ (a : Placed). Each (λ (c : Placed). IsEarlierPath a.path c.path) (b ∷ more)) h.passed (o ∷ []) h.below ((less, after_all o.path b.path more less later), tt);
           behind = behind_rest o cs kept behind;
         }
-
-pub passed_none : (os : List Record) (old : OldRun) (p : Path) → HasPassed os old p old
-passed_none os old p changes kept b more is later h = h
 
 pub passed_then : (os : List Record) (old mid new : OldRun) (p : Path) → HasPassed os old p mid → HasPassed os mid p new → HasPassed os old p new
 passed_then os old mid new p f g changes kept b more is later h = g changes kept b more is later (f changes kept b more is later h)
@@ -150,7 +143,6 @@ learnt_old changes os kept rest old keys known learnt h = record {
   paths = h.paths;
   hits = h.hits;
   others = h.others;
-  numbers = h.numbers;
   within = learnt.within;
   known = learnt.still h.known;
   below = h.below;
@@ -181,7 +173,6 @@ old_kept changes os kept b more old o cs climbs h e same later =
           ∙ (sym (append-nil (other_writes (kept ++ b.path ∷ []) h.passed))
           ∙ (ap (λ ws. other_writes (kept ++ b.path ∷ []) h.passed ++ ws) (sym (no_other (kept ++ b.path ∷ []) o (ap (among (kept ++ b.path ∷ [])) same ∙ among_new kept b.path)))
           ∙ sym (others_both (kept ++ b.path ∷ []) h.passed (o ∷ [])))));
-      numbers = more_below old.at old.others h.numbers;
       within = h.within;
       known = h.known;
       below = each_join (λ (a : Placed). Each (λ (c : Placed). IsEarlierPath a.path c.path) more) h.passed (o ∷ []) (lower_rest b more h.passed h.below) (same_before o.path b.path more same later, tt);
@@ -197,7 +188,6 @@ old_left changes os kept b more old h = record {
   paths = h.paths;
   hits = h.hits;
   others = h.others;
-  numbers = h.numbers;
   within = h.within;
   known = h.known;
   below = lower_rest b more h.passed h.below;

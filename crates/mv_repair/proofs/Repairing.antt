@@ -58,7 +58,6 @@ begins g changes db was task old new r same none zero past kept old_is new_is = 
         paths = sym (placed_paths was.log.records);
         hits = ap (hits_in changes []) (sym (its_all was.log.records));
         others = refl;
-        numbers = tt;
         within = omega arith;
         known = tt;
         below = tt;

@@ -185,7 +185,6 @@ pub record IsOld (changes : List Change) (os : List Record) (kept : List Path) (
   pub paths : drop old.at old.paths ≡ map (λ (p : Placed). p.path) coming
   pub hits : drop old.at old.hits ≡ hits_in changes (map (λ (p : Placed). p.it) passed) (map (λ (p : Placed). p.it) coming)
   pub others : writes_at os old.others ≡ other_writes kept passed
-  pub numbers : Each (λ n. n < old.at) old.others
   pub within : old.known ≤ length old.others
   pub known : AreKnown old.keys (writes_at os (take old.known old.others))
   pub below : Each (λ (a : Placed). Each (λ (b : Placed). IsEarlierPath a.path b.path) rest) passed
