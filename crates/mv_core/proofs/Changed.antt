@@ -30,6 +30,7 @@ use Rattle.mv_core.specs.Calls.{IsLive, IsLiveCall, last_number, due_number}
 use Rattle.mv_core.specs.Books.{Booked, work_in, Made, IsSame, IsSettled, HasRounds, round_event, IsOwnBy, IsOwnNumber, IsAnswer, HasRoom, IsNotStale}
 use Rattle.mv_core.specs.declared.book.Check.{Check}
 use Rattle.mv_core.specs.declared.engine.Attempt.{Attempt}
+use Rattle.mv_view.specs.Viewing.{Sight, MayAnswer}
 use Rattle.mv_view.specs.declared.view.Refused.{Refused}
 use Rattle.mv_view.specs.declared.view.Refused.TheVariants as refused
 use Rattle.mv_core.specs.declared.book.Check.TheVariants as check
@@ -93,9 +94,9 @@ on_new P old new same p = subst (λ s. P s new.course) (sym same.script) (subst 
 pub on_old : (P : Script → Course → Type 0) (old new : Booked) → IsSame old new → P new.script new.course → P old.script old.course
 on_old P old new same p = subst (λ s. P s old.course) same.script (subst (P new.script) same.course p)
 
-pub running_same : (old new : Booked) (store : Versioned) (c : ℕ) (t : Running) → IsSame old new → IsRunningIn old store c t → IsRunningIn new store c t
-running_same old new store c t same r = record {
-  stored = stored_same old new store r.stored same;
+pub running_same : (old new : Booked) (c : ℕ) (t : Running) → IsSame old new → IsRunningIn old c t → IsRunningIn new c t
+running_same old new c t same r = record {
+  script = on_new (λ s x. IsScript s) old new same r.script;
   live = on_new (λ s x. IsLiveCall x c) old new same r.live;
   number = on_new (λ s x. c < length s.calls) old new same r.number;
   task = on_new (λ s x. (l : Live) → IsLive x c l → IsLiveTask s x.order c l t) old new same r.task;
@@ -204,8 +205,16 @@ pub made_now : (e : Event) (b now mid new : Booked) → b ≡ now → IsSame b m
 made_now e b now mid new is same m = subst (λ (x : Booked). Made e x new) is (made_after e b mid new same m)
 
 -- a start that isn't below low
-pub fresh_now : (b : Booked) (store : Versioned) (c start low : ℕ) → IsStoreOf b store → ((l : Live) → IsLive b.course c l → start ≡ l.start) → low ≡ store.low → (start < low → ⊥) → IsNotStale b c
-fresh_now b store c start low k at low_at fresh l live = le-ltb l.start b.course.low (let a = at l live in let d = k.low_is in omega (arith, a, d, low_at, fresh))
+pub fresh_now : (b : Booked) (c start low : ℕ) → ((l : Live) → IsLive b.course c l → start ≡ l.start) → low ≡ b.course.low → (start < low → ⊥) → IsNotStale b c
+fresh_now b c start low at low_at fresh l live = le-ltb l.start b.course.low (let a = at l live in omega (arith, a, low_at, fresh))
+
+pub fresh_with : (b now new : Booked) (c : ℕ) → b ≡ now → IsSame b new → IsNotStale now c → IsNotStale new c
+fresh_with b now new c is same fresh = subst (λ (s : Course). (l : Live) → IsLive s c l → is_stale s l ≡ false) (sym (same.course ∙ ap (λ (x : Booked). x.course) is)) fresh
+
+-- what is refused where the view isn't stale
+pub refused_same : (c : ℕ) (v w : Sight) (why : Refused) (old new : Booked) → v.may_be_stale ≡ false → MayAnswer {A = ℕ} v w (Err why) → IsSame old new → HasRefused c why old new
+refused_same c v w refused.NoMemory old new fresh may same = same
+refused_same c v w (refused.Stale start low) old new fresh may same = let both : false ≡ true = sym fresh ∙ may.may_be in absurd (search (rules, both))
 
 -- what is told after a statement
 pub step_told : (b new : Booked) (store : Versioned) (c : ℕ) (l : Live) (t : Running) (steps : ℕ) (more : Bool) → IsStoreOf b store → c < length b.script.calls → IsLive b.course c l → Made (S c) b new

@@ -1,6 +1,6 @@
 -- The tables of a history, and what a store keeps of them.
 use Rattle.std.proofs.Common.{◌≡◌, ◌⊎◌, inl, inr, ℕ, zero, suc, ◌+◌, ◌-◌, ◌<◌, ◌≤◌, Bool, true, false, not, List, [], ◌∷◌, ◌++◌, Option, Some, None, length, take, drop, is_some, refl, sym, ap, subst, ◌∙◌, arith, length-append, rules}
-use Rattle.std.specs.Prelude.{nat_lt}
+use Rattle.std.specs.Prelude.{nat_lt, Err}
 use Rattle.std.proofs.lemmas.List.{take_all, length-drop}
 use Rattle.std.proofs.lemmas.Bool.{le-ltb, ltb-false, cases_eq}
 use Rattle.mv_values.specs.declared.calls.Call.{Call}
@@ -29,7 +29,9 @@ use Rattle.mv_lawful.specs.Lawful.{Live, Course, unless, refusal, after, next_lo
 use Rattle.mv_lawful.proofs.Turns.{tables_more, length_changes}
 use Rattle.mv_journal.specs.declared.event.Event.{Event}
 use Rattle.mv_journal.specs.declared.event.Event.TheVariants.{C, G}
-use Rattle.mv_view.specs.Viewing.{Sight}
+use Rattle.mv_view.specs.Viewing.{Sight, MayAnswer}
+use Rattle.mv_view.specs.declared.view.Refused.{Refused}
+use Rattle.mv_view.specs.declared.view.Refused.TheVariants as refused
 use Rattle.mv_store.specs.Stored.{Versioned, database_at, newest, own_writes, IsLike}
 use Rattle.mv_store.specs.Changes.{HasPut, HasDropped, HasStamped, HasRaised}
 use Rattle.mv_script.specs.declared.script.Script.{Script}
@@ -38,7 +40,7 @@ use Rattle.mv_script.proofs.Databases.{run_database, table_database}
 use Rattle.mv_core.specs.Told.{reply_told, writes_told}
 use Rattle.mv_core.specs.Calls.{IsLive, IsLiveCall}
 use Rattle.mv_core.specs.Books.{Booked, work_in, last_tables, last_run, last_changes, Made, IsSame, commit_event, IsNotStale, AreRecordsOf}
-use Rattle.mv_core.specs.Cores.{RunsOn, CanRepair, IsDatabaseIn, IsStored, IsStoreOf}
+use Rattle.mv_core.specs.Cores.{RunsOn, CanRepair, IsDatabaseIn, IsStored, IsStoreOf, Shows, ShowsStart, ShowsLast}
 use Rattle.mv_core.proofs.Telling.{told_reply, told_tables}
 use Rattle.mv_core.proofs.Lows.{low_within}
 use Rattle.mv_core.proofs.Numbers.{table_stays}
@@ -288,52 +290,66 @@ stored_raised old new store raised low k made is raise =
 abbrev pub sight_of : Versioned → ℕ → Sight
 sight_of store n = record { database = database_at store n; start = n; may_be_stale = nat_lt n store.low; stale_answers = 0; last_low = 0; rows_calls = 0; row_calls = 0 }
 
--- the view shows the tables after n commits, and isn't stale
-pub record Shows (s : Script) (order : List ℕ) (n : ℕ) (v : Sight) : Type 0 where
-  pub database : v.database ≡ table_at (work_of s) order n
-  pub fresh : v.may_be_stale ≡ false
+-- it shows the tables of a history, from low on
+shows : (b : Booked) (store : Versioned) (n : ℕ) (v : Sight) → IsStoreOf b store → b.course.low ≤ n → n ≤ length b.course.order → v ≡ sight_of store n → Shows b n v
+shows b store n v k from past is = ap (λ (w : Sight). w.database) is ∙ k.reads n from past
 
-pub shows : (b : Booked) (store : Versioned) (n : ℕ) (v : Sight) → IsStoreOf b store → b.course.low ≤ n → n ≤ length b.course.order → v ≡ sight_of store n → Shows b.script b.course.order n v
-shows b store n v k from past is = record {
-  database = ap (λ (w : Sight). w.database) is ∙ k.reads n from past;
-  fresh = ap (λ (w : Sight). w.may_be_stale) is ∙ (ap (nat_lt n) k.low_is ∙ le-ltb n b.course.low from);
-}
+-- and there it isn't stale
+is_fresh : (b : Booked) (store : Versioned) (n : ℕ) (v : Sight) → IsStoreOf b store → b.course.low ≤ n → v ≡ sight_of store n → v.may_be_stale ≡ false
+is_fresh b store n v k from is = ap (λ (w : Sight). w.may_be_stale) is ∙ (ap (nat_lt n) k.low_is ∙ le-ltb n b.course.low from)
+
+from_low : (b : Booked) (c : ℕ) (l : Live) → IsNotStale b c → IsLive b.course c l → b.course.low ≤ l.start
+from_low b c l fresh live = ltb-false l.start b.course.low (fresh l live)
 
 -- a view at the start of a live call that isn't stale
-pub shows_start : (b : Booked) (store : Versioned) (c start : ℕ) (l : Live) (v : Sight) → IsStoreOf b store → IsNotStale b c → IsLive b.course c l → start ≡ l.start → start ≤ length b.course.order → v ≡ sight_of store start
-    → Shows b.script b.course.order l.start v
-shows_start b store c start l v k fresh live at past is =
-    let from : b.course.low ≤ l.start = ltb-false l.start b.course.low (fresh l live) in
-    shows b store l.start v k from (omega (arith, at, past)) (is ∙ ap (sight_of store) at)
+pub shows_start : (b : Booked) (store : Versioned) (c start : ℕ) (v : Sight) → IsStoreOf b store → IsNotStale b c → ((l : Live) → IsLive b.course c l → start ≡ l.start) → start ≤ length b.course.order → v ≡ sight_of store start
+    → ShowsStart b c v
+shows_start b store c start v k fresh at past is l live =
+    let same = at l live in
+    shows b store l.start v k (from_low b c l fresh live) (omega (arith, same, past)) (is ∙ ap (sight_of store) same)
+
+pub fresh_start : (b : Booked) (store : Versioned) (c start : ℕ) (v : Sight) → IsStoreOf b store → IsNotStale b c → IsLiveCall b.course c → ((l : Live) → IsLive b.course c l → start ≡ l.start) → v ≡ sight_of store start
+    → v.may_be_stale ≡ false
+fresh_start b store c start v k fresh live at is = is_fresh b store live.0.start v k (from_low b c live.0 fresh live.1) (is ∙ ap (sight_of store) (at live.0 live.1))
 
 -- a view of the last tables
-pub shows_last : (b : Booked) (store : Versioned) (n : ℕ) (v : Sight) → IsStoreOf b store → n ≡ length b.course.order → v ≡ sight_of store n → Shows b.script b.course.order (length b.course.order) v
+pub shows_last : (b : Booked) (store : Versioned) (n : ℕ) (v : Sight) → IsStoreOf b store → n ≡ length b.course.order → v ≡ sight_of store n → ShowsLast b v
 shows_last b store n v k at is = shows b store (length b.course.order) v k k.below (omega arith) (is ∙ ap (sight_of store) at)
 
-pub database_shown : (b : Booked) (c n : ℕ) (s : Script) (v : Sight) → IsScript b.script → s ≡ b.script → Shows b.script b.course.order n v → IsDatabaseIn s c v.database
-database_shown b c n s v k is shows = subst (λ (x : Script). IsDatabaseIn x c v.database) (sym is) (database_in b.script b.course.order c n v.database k shows.database)
+pub fresh_last : (b : Booked) (store : Versioned) (n : ℕ) (v : Sight) → IsStoreOf b store → n ≡ length b.course.order → v ≡ sight_of store n → v.may_be_stale ≡ false
+fresh_last b store n v k at is = is_fresh b store (length b.course.order) v k k.below (is ∙ ap (sight_of store) at)
 
-pub rising_shown : (b : Booked) (n : ℕ) (v : Sight) → IsScript b.script → Shows b.script b.course.order n v → AreRising v.database
-rising_shown b n v k shows = subst AreRising (sym shows.database) (table_database k.0 b.script b.course.order n k.1).rising
+-- the error of a view that isn't stale is want of memory; what an answer would be doesn't matter
+pub only_memory : (v w : Sight) (why : Refused) → v.may_be_stale ≡ false → MayAnswer {A = ℕ} v w (Err why) → why ≡ refused.NoMemory
+only_memory v w refused.NoMemory fresh may = refl
+only_memory v w (refused.Stale start low) fresh may = let both : false ≡ true = sym fresh ∙ may.may_be in absurd (search (rules, both))
 
-pub size_shown : (b : Booked) (n : ℕ) (s : Script) (v : Sight) → IsScript b.script → s ≡ b.script → Shows b.script b.course.order n v → length s.opening ≡ length v.database
+-- What a view shows
+
+pub database_shown : (b : Booked) (c n : ℕ) (s : Script) (v : Sight) → IsScript b.script → s ≡ b.script → Shows b n v → IsDatabaseIn s c v.database
+database_shown b c n s v k is shows = subst (λ (x : Script). IsDatabaseIn x c v.database) (sym is) (database_in b.script b.course.order c n v.database k shows)
+
+pub rising_shown : (b : Booked) (n : ℕ) (v : Sight) → IsScript b.script → Shows b n v → AreRising v.database
+rising_shown b n v k shows = subst AreRising (sym shows) (table_database k.0 b.script b.course.order n k.1).rising
+
+pub size_shown : (b : Booked) (n : ℕ) (s : Script) (v : Sight) → IsScript b.script → s ≡ b.script → Shows b n v → length s.opening ≡ length v.database
 size_shown b n s v k is shows =
-    ap (λ (x : Script). length x.opening) is ∙ (k.1.opening.size ∙ (sym (table_database k.0 b.script b.course.order n k.1).size ∙ sym (ap length shows.database)))
+    ap (λ (x : Script). length x.opening) is ∙ (k.1.opening.size ∙ (sym (table_database k.0 b.script b.course.order n k.1).size ∙ sym (ap length shows)))
 
 -- A commit
 
 -- the records of a call that may commit, run at its start, are those of its full run after all commits
-pub last_records : (b : Booked) (store : Versioned) (c : ℕ) (rs : List Record) → IsStoreOf b store → c < length b.script.calls → IsLiveCall b.course c → AreRecordsOf b c rs → refusal (work_in b) b.course (C c) ≡ None
+pub last_records : (b : Booked) (c : ℕ) (rs : List Record) → IsScript b.script → c < length b.script.calls → IsLiveCall b.course c → AreRecordsOf b c rs → refusal (work_in b) b.course (C c) ≡ None
     → rs ≡ records_at (work_in b) b.course.order (length b.course.order) c
-last_records b store c rs k lt live are free =
-    are live.0 live.1 ∙ sym (unhit_records b.script b.course.order c live.0.start k.script lt (commit_free (work_in b) b.course c live.0 live.1 free).1)
+last_records b c rs k lt live are free =
+    are live.0 live.1 ∙ sym (unhit_records b.script b.course.order c live.0.start k lt (commit_free (work_in b) b.course c live.0 live.1 free).1)
 
-pub last_reply : (b : Booked) (store : Versioned) (c : ℕ) (rs : List Record) → IsStoreOf b store → c < length b.script.calls → rs ≡ records_at (work_in b) b.course.order (length b.course.order) c → reply_told rs ≡ (last_run b c).reply
-last_reply b store c rs k lt are = (told_run b.script b.course.order c (length b.course.order) rs k.script lt are).0
+pub last_reply : (b : Booked) (c : ℕ) (rs : List Record) → IsScript b.script → c < length b.script.calls → rs ≡ records_at (work_in b) b.course.order (length b.course.order) c → reply_told rs ≡ (last_run b c).reply
+last_reply b c rs k lt are = (told_run b.script b.course.order c (length b.course.order) rs k lt are).0
 
-pub last_made : (b : Booked) (store : Versioned) (c : ℕ) (rs : List Record) (changes : List Change) → IsStoreOf b store → c < length b.script.calls → rs ≡ records_at (work_in b) b.course.order (length b.course.order) c
+pub last_made : (b : Booked) (c : ℕ) (rs : List Record) (changes : List Change) → IsScript b.script → c < length b.script.calls → rs ≡ records_at (work_in b) b.course.order (length b.course.order) c
     → changes ≡ changes_between (last_tables b) (applied (writes_told rs) (last_tables b)) → changes ≡ last_changes b c
-last_made b store c rs changes k lt are is = is ∙ ap (changes_between (last_tables b)) (told_run b.script b.course.order c (length b.course.order) rs k.script lt are).1
+last_made b c rs changes k lt are is = is ∙ ap (changes_between (last_tables b)) (told_run b.script b.course.order c (length b.course.order) rs k lt are).1
 
 -- the same after an event that is no commit
 pub last_run_on : (old new : Booked) (c : ℕ) → new.script ≡ old.script → new.course.order ≡ old.course.order → last_run new c ≡ last_run old c

@@ -33,9 +33,9 @@ use Rattle.mv_core.specs.Calls.{IsLive, IsLiveCall, closed, committed, last_numb
 use Rattle.mv_core.specs.Books.{Booked, work_in, Made, round_event, commit_event, IsMissing, HasNumber, AreRecordsOf}
 use Rattle.mv_store.specs.Stored.{Versioned}
 use Rattle.mv_view.specs.Viewing.{Sight}
-use Rattle.mv_core.specs.Cores.{RunsOn, IsTaskFor, HasRunOne, CountsAll, HasTurns, last_start, count_or, IsLiveTask, IsTaskIn, IsRunningIn, IsRepaired, HasTasks, IsCore}
+use Rattle.mv_core.specs.Cores.{RunsOn, IsTaskFor, HasRunOne, CountsAll, HasTurns, last_start, count_or, IsLiveTask, IsTaskIn, IsRunningIn, IsRepaired, HasTasks, HasStep, IsCore, Shows, ShowsLast}
 use Rattle.mv_core.proofs.Numbers.{last_start as start_after, last_of_end, rounds_more, rounds_stay, table_stays, within_more, within_end}
-use Rattle.mv_core.proofs.Stored.{run_is, changes_to_last, Shows}
+use Rattle.mv_core.proofs.Stored.{run_is, changes_to_last}
 use Rattle.mv_core.proofs.Keeping.{commit_after, restart_after}
 use Rattle.mv_core.proofs.Journals.{changed_at, get_last, get_front, get_set, set_there, set_apart}
 
@@ -423,9 +423,9 @@ call_within s course ts c k live =
     omega (arith, a, b)
 
 -- a live call of a core, and its task
-pub running_in : (b : Booked) (store : Versioned) (ts : List (Option Running)) (c : ℕ) (o : Option Running) (t : Running) → IsCore b store ts → IsLiveCall b.course c → o ≡ get_or ts c o → o ≡ Some t → IsRunningIn b store c t
+pub running_in : (b : Booked) (store : Versioned) (ts : List (Option Running)) (c : ℕ) (o : Option Running) (t : Running) → IsCore b store ts → IsLiveCall b.course c → o ≡ get_or ts c o → o ≡ Some t → IsRunningIn b c t
 running_in b store ts c o t k live read some = record {
-  stored = k.stored;
+  script = k.stored.script;
   live = live;
   number = call_within b.script b.course ts c k.tasks live;
   task = task_read b.script b.course ts c o t k.tasks read some;
@@ -444,11 +444,14 @@ one_live s c l m a b = let both : Some l ≡ Some m = sym a.at ∙ b.at in searc
 
 -- Views
 
-pub runs_shown : (b : Booked) (c n : ℕ) (s : Script) (v : Sight) (task : Task) → s ≡ b.script → Shows b.script b.course.order n v → RunsOn b.script c (table_at (work_in b) b.course.order n) task → RunsOn s c v.database task
-runs_shown b c n s v task is shows runs = subst (λ (x : Script). RunsOn x c v.database task) (sym is) (subst (λ db. RunsOn b.script c db task) (sym shows.database) runs)
+pub runs_shown : (b : Booked) (c n : ℕ) (s : Script) (v : Sight) (task : Task) → s ≡ b.script → Shows b n v → RunsOn b.script c (table_at (work_in b) b.course.order n) task → RunsOn s c v.database task
+runs_shown b c n s v task is shows runs = subst (λ (x : Script). RunsOn x c v.database task) (sym is) (subst (λ db. RunsOn b.script c db task) (sym shows) runs)
 
-pub runs_back : (b : Booked) (c n : ℕ) (s : Script) (v : Sight) (task : Task) → s ≡ b.script → Shows b.script b.course.order n v → RunsOn s c v.database task → RunsOn b.script c (table_at (work_in b) b.course.order n) task
-runs_back b c n s v task is shows runs = subst (λ db. RunsOn b.script c db task) shows.database (subst (λ (x : Script). RunsOn x c v.database task) is runs)
+pub runs_back : (b : Booked) (c n : ℕ) (s : Script) (v : Sight) (task : Task) → s ≡ b.script → Shows b n v → RunsOn s c v.database task → RunsOn b.script c (table_at (work_in b) b.course.order n) task
+runs_back b c n s v task is shows runs = subst (λ db. RunsOn b.script c db task) shows (subst (λ (x : Script). RunsOn x c v.database task) is runs)
+
+pub records_back : (b : Booked) (c n : ℕ) (s : Script) (v : Sight) (rs : List Record) → s ≡ b.script → Shows b n v → rs ≡ ((work_of s).run c v.database).records → rs ≡ records_at (work_in b) b.course.order n c
+records_back b c n s v rs is shows are = are ∙ (ap (λ (x : Script). ((work_of x).run c v.database).records) is ∙ ap (λ db. ((work_in b).run c db).records) shows)
 
 -- a call that has a step, and no record that the journal doesn't name, hasn't ended
 pub goes_on : (s : Script) (course : Course) (c : ℕ) (l : Live) (t : Task) → IsScript s → c < length s.calls → RunsOn s c (table_at (work_of s) course.order l.start) t → length t.log.records ≤ l.steps → has_step (work_of s) course c l ≡ true → t.ended ≡ false
@@ -477,6 +480,11 @@ goes_on s course c l t k lt runs here has = by t.ended refl where
       let none : way.rest ≡ [] = (ends_exactly call.1 call.0 db t way.rest way.is (table_database k.0 s course.order l.start k.1).rising way.leaves).0 e in
       let many : length (records_at (work_of s) course.order l.start c) ≡ length t.log.records = ap length (all ∙ (ap (λ rs. t.log.records ++ rs) none ∙ append-nil t.log.records)) in
       absurd (past l.steps (length t.log.records) here (subst (λ n. nat_lt l.steps n ≡ true) many less))
+
+-- so it runs one more
+pub ran_one : (b : Booked) (c : ℕ) (l : Live) (running : Running) (new : Task) → IsRunningIn b c running → HasStep b c → IsLive b.course c l → length running.task.log.records ≤ l.steps → (running.task.ended ≡ false → HasRunOne running.task new)
+    → HasRunOne running.task new
+ran_one b c l running new k left live few ran = ran (goes_on b.script b.course c l running.task k.script k.number (k.task l live).runs few (left l live))
 
 -- the number of a call that is in its first round and has no step: it has all its records, or their number is known
 pub number_ran : (s : Script) (course : Course) (c : ℕ) (l : Live) (t : Running) → IsScript s → c < length s.calls → IsLive course c l → IsLiveTask s course.order c l t → used l ≡ 0 → has_step (work_of s) course c l ≡ false
@@ -530,7 +538,7 @@ left_told g call db t rest steps is rise leaves here = by t.ended refl where
       ap not e ∙ sym (lt-ltb steps (length (meaning_of g call db).records) (omega (arith, many, some, here)))
 
 -- a repair has run on the last tables, and executed as many records as Runs says
-pub task_repaired : (b : Booked) (c n : ℕ) (s : Script) (v : Sight) (l : Live) (old new : Task) (commits : List (List Change)) → s ≡ b.script → Shows b.script b.course.order (length b.course.order) v
+pub task_repaired : (b : Booked) (c n : ℕ) (s : Script) (v : Sight) (l : Live) (old new : Task) (commits : List (List Change)) → s ≡ b.script → ShowsLast b v
     → commits ≡ since (work_in b) b.course.order l.start → old.log.records ≡ records_at (work_in b) b.course.order l.start c → RunsOn s c v.database new → new.log.records ≡ ((work_of s).run c v.database).records
     → new.executed ≡ executions old.log.records new.log.records (flat_map (λ changes. changes) commits) → n ≡ new.executed → IsRepaired b.script b.course.order c l (record { task = new; count = Some n })
 task_repaired b c n s v l old new commits is shows all was runs records executed number = record {
@@ -545,4 +553,4 @@ task_repaired b c n s v l old new commits is shows all was runs records executed
   count = ap Some number;
 } where
   now : new.log.records ≡ records_at (work_in b) b.course.order (length b.course.order) c
-  now = records ∙ (ap (λ (x : Script). ((work_of x).run c v.database).records) is ∙ ap (λ db. ((work_in b).run c db).records) shows.database)
+  now = records_back b c (length b.course.order) s v new.log.records is shows records

@@ -194,6 +194,10 @@ IsNotStale b c = (l : Live) → IsLive b.course c l → is_stale b.course l ≡ 
 abbrev pub AreRecordsOf : Booked → ℕ → List Record → Type 0
 AreRecordsOf b c rs = (l : Live) → IsLive b.course c l → rs ≡ records_at (work_in b) b.course.order l.start c
 
+-- the records are those of a full run of a call on the tables after all commits
+abbrev pub AreLastOf : Booked → ℕ → List Record → Type 0
+AreLastOf b c rs = rs ≡ records_at (work_in b) b.course.order (length b.course.order) c
+
 -- the law of journals allows the commit of a live call, or refuses it for this reason
 abbrev pub IsAnswer : Check → Work → Course → ℕ → Live → Type 0
 IsAnswer Free w s c l = refusal w s (C c) ≡ None

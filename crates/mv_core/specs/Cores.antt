@@ -10,6 +10,7 @@ use Rattle.mv_journal.specs.declared.event.Event.{Event}
 use Rattle.mv_journal.specs.declared.event.Event.TheVariants.{B, S, A, M, C, X, G}
 use Rattle.mv_view.specs.declared.view.Refused.{Refused}
 use Rattle.mv_view.specs.declared.view.Refused.TheVariants as refused
+use Rattle.mv_view.specs.Viewing.{Sight}
 use Rattle.mv_graph.specs.declared.graph.Graph.{Graph}
 use Rattle.mv_exec.specs.declared.step.Stepped.{Stepped}
 use Rattle.mv_exec.specs.declared.task.Task.{Task}
@@ -51,6 +52,20 @@ IsStoreOf b store = IsStored b.script b.course.order b.course.low store
 pub record IsPrepared (b : Booked) (c : ℕ) (store : Versioned) : Type 0 where
   pub last : store.last ≡ length b.course.order
   pub stamped : (n : ℕ) (new : Versioned) → n ≡ length b.course.order + 1 → HasStamped c n store new → IsStored b.script (b.course.order ++ c ∷ []) b.course.low new
+
+-- Views
+
+-- the view shows the tables of a history after n commits
+abbrev pub Shows : Booked → ℕ → Sight → Type 0
+Shows b n sight = sight.database ≡ table_at (work_in b) b.course.order n
+
+-- it shows the tables at the start of a live call
+abbrev pub ShowsStart : Booked → ℕ → Sight → Type 0
+ShowsStart b c sight = (l : Live) → IsLive b.course c l → Shows b l.start sight
+
+-- it shows the tables after all commits
+abbrev pub ShowsLast : Booked → Sight → Type 0
+ShowsLast b sight = Shows b (length b.course.order) sight
 
 -- Running calls
 
@@ -122,9 +137,9 @@ pub record HasRunOn (old new : Running) : Type 0 where
   pub count : new.count ≡ old.count
   pub task : CountsAll old.task new.task
 
--- a live call and its task, over a store with the tables of the history
-pub record IsRunningIn (b : Booked) (store : Versioned) (c : ℕ) (running : Running) : Type 0 where
-  pub stored : IsStoreOf b store
+-- a live call of a script, and its task
+pub record IsRunningIn (b : Booked) (c : ℕ) (running : Running) : Type 0 where
+  pub script : IsScript b.script
   pub live : IsLiveCall b.course c
   pub number : c < length b.script.calls
   pub task : IsTaskIn b c running

@@ -352,6 +352,13 @@ impl Book {
         self.calls[call as usize].start
     }
 
+    /// Returns low. A live call whose start is below it is stale.
+    pub fn low(&self) -> u32
+        ensures { result ≡ self.now.course.low }
+    {
+        self.low
+    }
+
     /// Whether the start of a live call is below low.
     pub fn is_stale(&self, call: u32) -> bool
         requires { IsLiveCall self.now.course call }

@@ -11,16 +11,17 @@ ghost use Rattle.mv_core.specs.Books.{work_in, HasRounds, IsSame, IsNotStale, Is
 ghost use Rattle.mv_core.specs.Cores.{HasStep, HasEnded, MayStep, IsAllowedIfFresh, HasRefused, HasBegunCall, HasStepped, HasTried, HasRepaired, HasDecided, HasMovedUp, HasCollected, AreFirstOf, HasAllRecords, KeepsOtherTasks, BeginsTask, RunsOne, RunsWhole, records_in};
 
 use crate::book::{Book, Check};
-use crate::tasks::{
-    Running, collect_versions, decide_task, finish_task, has_step, move_task, new_task, outcome_of,
-    rerun_task, settle_and_commit, step_task, validate_task,
+use crate::commits::{
+    check_task, collect_versions, decide_task, move_last, outcome_of, settle_and_commit,
 };
+use crate::tasks::{Running, finish_task, has_step, new_task, rerun_task, step_task};
 use mv_exec::step::Stepped;
 use mv_journal::event::Event;
 use mv_journal::outcome::{Outcome, Round};
 use mv_log::records::Records;
 use mv_script::script::Script;
 use mv_store::store::Store;
+use mv_store::view::StoreView;
 use mv_values::memory::NoMemory;
 use mv_view::view::Refused;
 use std::alloc::Global;
@@ -106,7 +107,7 @@ impl Core {
         ensures refused { IfErr result (λ why. HasRefused call why self.now.book self.now.book) }
     {
         let start = self.book.start(call);
-        let low = self.store.low();
+        let low = self.book.low();
         if start < low {
             return Err(Refused::Stale { start, low });
         }
@@ -129,7 +130,8 @@ impl Core {
         let Some(running) = &mut self.tasks[call as usize] else {
             unreachable!();
         };
-        step_task(alloc, &self.book, &self.store, call, running)?;
+        let mut view = StoreView::new(&self.store, self.book.start(call));
+        step_task(alloc, &self.book, &mut view, call, running)?;
         self.book.ran(call);
         Ok(stepped_of(running.has_more(self.book.steps(call))))
     }
@@ -146,7 +148,7 @@ impl Core {
         let Some(running) = &mut self.tasks[call as usize] else {
             unreachable!();
         };
-        match validate_task(alloc, &self.book, &self.store, call, running)? {
+        match check_task(alloc, &self.book, &self.store, call, running)? {
             Check::Free => {
                 let task = &running.task;
                 let commit = settle_and_commit(alloc, &mut self.book, &mut self.store, call, task)?;
@@ -167,7 +169,7 @@ impl Core {
         let Some(running) = &mut self.tasks[call as usize] else {
             unreachable!();
         };
-        validate_task(alloc, &self.book, &self.store, call, running)
+        check_task(alloc, &self.book, &self.store, call, running)
     }
 
     /// Repairs a live call that a commit after its start hits: runs it again, after all commits. First it runs the rest
@@ -185,8 +187,10 @@ impl Core {
         let Some(running) = &mut self.tasks[call as usize] else {
             unreachable!();
         };
-        finish_task(alloc, &self.book, &self.store, call, running)?;
-        let executed = rerun_task(alloc, &mut self.book, &self.store, call, running)?;
+        let mut view = StoreView::new(&self.store, self.book.start(call));
+        finish_task(alloc, &self.book, &mut view, call, running)?;
+        let mut last = StoreView::new(&self.store, self.book.commits());
+        let executed = rerun_task(alloc, &mut self.book, &mut last, call, running)?;
         Ok(executed)
     }
 
@@ -203,7 +207,8 @@ impl Core {
         let Some(running) = &mut self.tasks[call as usize] else {
             unreachable!();
         };
-        finish_task(alloc, &self.book, &self.store, call, running)?;
+        let mut view = StoreView::new(&self.store, self.book.start(call));
+        finish_task(alloc, &self.book, &mut view, call, running)?;
         let commit = decide_task(alloc, &mut self.book, &mut self.store, call, running)?;
         self.tasks[call as usize] = None;
         Ok(commit)
@@ -217,7 +222,7 @@ impl Core {
         ensures whole { OnOk result (HasAllRecords self.new call) }
         ensures others { KeepsOtherTasks call self.old self.new }
     {
-        let task = move_task(alloc, &mut self.book, &self.store, call)?;
+        let task = move_last(alloc, &mut self.book, &self.store, call)?;
         let executed = task.executed();
         self.tasks[call as usize] = Some(Running { task, count: None });
         Ok(executed)

@@ -2,10 +2,11 @@
 #![tactic(auto)]
 
 pub mod book;
+pub mod commits;
 pub mod drive;
 pub mod engine;
 mod events;
-mod fresh;
+pub mod fresh;
 mod live;
 mod progress;
 mod roomy;

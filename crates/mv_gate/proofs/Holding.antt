@@ -261,9 +261,9 @@ whole_same old new c r same h = record {
       ∙ (ap (λ (s : Course). records_at (work_in old) s.order l.start c) (sym same.course) ∙ ap (λ (s : Script). records_at (work_of s) new.course.order l.start c) (sym same.script));
 }
 
--- an open call over the store
-pub running_of : (b : Booked) (store : Versioned) (c : ℕ) (r : Running) → IsStoreOf b store → IsUnderWay b c r → IsRunningIn b store c r
-running_of b store c r k o = record { stored = k; live = o.live; number = o.there; task = o.task }
+-- an open call of the script
+pub running_of : (b : Booked) (store : Versioned) (c : ℕ) (r : Running) → IsStoreOf b store → IsUnderWay b c r → IsRunningIn b c r
+running_of b store c r k o = record { script = k.script; live = o.live; number = o.there; task = o.task }
 
 -- the number of its round, if that has none yet
 pub first_whole : (b : Booked) (c : ℕ) (r : Running) → HasNumber b c → IsWhole b c r → IsMissing r.task.executed b c

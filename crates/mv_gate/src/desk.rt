@@ -18,15 +18,17 @@ use crate::held::Held;
 use crate::notes::note;
 use crate::rounds::repaired_from;
 use mv_core::book::{Book, Check};
-use mv_core::tasks::{
-    Running, collect_versions, decide_task, finish_task, has_step, move_and_commit, move_task,
-    new_task, outcome_of, rerun_task, settle_and_commit, step_task, whole_task,
+use mv_core::commits::{
+    collect_versions, decide_task, move_and_commit, move_last, outcome_of, settle_and_commit,
 };
+use mv_core::fresh::no_memory;
+use mv_core::tasks::{Running, finish_task, has_step, new_task, rerun_task, step_task, whole_task};
 use mv_journal::outcome::Outcome;
 use mv_script::script::Script;
 use mv_seats::board::{Board, Making};
 use mv_seats::pass::Pass;
 use mv_store::store::Store;
+use mv_store::view::StoreView;
 use mv_values::memory::NoMemory;
 use std::alloc::Global;
 use std::marker::Model;
@@ -159,7 +161,10 @@ impl<N: Making> Desk<N> {
             return Ok(false);
         }
         self.book.reserve(held.call)?;
-        step_task(alloc, &self.book, &self.store, held.call, &mut held.running)?;
+        let mut view = StoreView::new(&self.store, self.book.start(held.call));
+        if let Err(why) = step_task(alloc, &self.book, &mut view, held.call, &mut held.running) {
+            return Err(no_memory(why));
+        }
         self.book.ran(held.call);
         Ok(true)
     }
@@ -193,7 +198,10 @@ impl<N: Making> Desk<N> {
         ensures err { OnErr result (IsSame self.old self.new) }
     {
         let _events = self.book.journal();
-        rerun_task(alloc, &mut self.book, &self.store, call, running)?;
+        let mut view = StoreView::new(&self.store, self.book.commits());
+        if let Err(why) = rerun_task(alloc, &mut self.book, &mut view, call, running) {
+            return Err(no_memory(why));
+        }
         Ok(())
     }
 
@@ -225,7 +233,7 @@ impl<N: Making> Desk<N> {
         ensures err { OnErr result (IsSame self.old self.new) }
     {
         let _events = self.book.journal();
-        let task = move_task(alloc, &mut self.book, &self.store, call)?;
+        let task = move_last(alloc, &mut self.book, &self.store, call)?;
         Ok(Running { task, count: None })
     }
 
@@ -298,7 +306,10 @@ impl<N: Making> Desk<N> {
         ensures met { Meets call running.new result self.old self.new }
         ensures stays { IfOk result (λ answer. answer ≢ Answer.Moved) }
     {
-        finish_task(alloc, &self.book, &self.store, call, running)?;
+        let mut view = StoreView::new(&self.store, self.book.start(call));
+        if let Err(why) = finish_task(alloc, &self.book, &mut view, call, running) {
+            return Err(no_memory(why));
+        }
         match self.book.check(call, &running.task) {
             Check::Free => {
                 let commit = self.commit(alloc, board, call, running)?;
@@ -421,12 +432,14 @@ impl<N: Making> Desk<N> {
         ensures { IfOk result (IsUnderWay self.now call) }
     {
         let start = self.book.start(call);
-        let task = whole_task(alloc, &self.book, &self.store, call, start)?;
-        let count = self.book.number(call, &task);
-        Ok(Running {
-            task,
-            count: Some(count),
-        })
+        let mut view = StoreView::new(&self.store, start);
+        match whole_task(alloc, self.book.script(), call, &mut view) {
+            Ok(task) => {
+                let count = Some(self.book.number(call, &task));
+                Ok(Running { task, count })
+            }
+            Err(why) => Err(no_memory(why)),
+        }
     }
 
     /// Commits a live call that no worker holds any more. If its start is below low, it moves first.

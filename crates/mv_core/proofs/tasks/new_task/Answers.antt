@@ -1,9 +1,6 @@
-use Rattle.std.proofs.Common.{Result, Ok, Err}
-use Rattle.std.specs.Prelude.{IfOk}
 use Rattle.std.proofs.lemmas.Slice.Zip.{AllZip-long}
 use Rattle.mv_catalog.specs.Text.{Suits}
-use Rattle.mv_values.specs.declared.memory.NoMemory.{NoMemory}
-use Rattle.mv_exec.specs.declared.task.Task.{Task}
+use Rattle.mv_core.proofs.Given.{ok_then}
 use Rattle.mv_core.proofs.Taking.{runs_on}
 use Rattle.mv_core.proofs.tasks.new_task.Goals as goal
 
@@ -15,10 +12,6 @@ new-requires-clause-arguments c =
     AllZip-long Suits c.find_call-at.result.graph.now.procedure.params c.find_call-at.result.call.now.arguments
     (c.requires.script.1.runs c.args.number c.find_call-at.result.call.now c.find_call-at.result.graph.now c.find_call-at.ensures).suits
 
-if_ok : {P Q : Task → Type 0} (r : Result Task NoMemory) → IfOk r P → ((t : Task) → P t → Q t) → IfOk r Q
-if_ok (Ok t) p f = f t p
-if_ok (Err e) p f = tt
-
 pub returns-clause-runs : goal.returns-clause-runs
 returns-clause-runs c =
-    if_ok c.new.result c.new.ensures.begins (λ task begins db. runs_on c.args.script.now c.args.number c.find_call-at.result.call.now c.find_call-at.result.graph.now db task c.find_call-at.ensures (begins db))
+    ok_then c.new.result c.new.ensures.begins (λ task begins db. runs_on c.args.script.now c.args.number c.find_call-at.result.call.now c.find_call-at.result.graph.now db task c.find_call-at.ensures (begins db))

@@ -1,15 +1,16 @@
 use Rattle.std.proofs.Common.{rules, length, refl, sym, subst, ap, Some}
 use Rattle.std.specs.Prelude.{◌≢◌}
+use Rattle.std.proofs.lemmas.Result.{err_from_is_err_and}
 use Rattle.mv_journal.specs.declared.event.Event.TheVariants.{A}
 use Rattle.mv_journal.specs.declared.outcome.Mark.TheVariants.{Plain, Exclusive}
 use Rattle.mv_lawful.specs.Lawful.{has_round}
-use Rattle.mv_core.specs.Books.{Booked, work_in, Made, IsNotStale}
+use Rattle.mv_core.specs.Books.{Booked, work_in, Made, IsSame, IsNotStale}
 use Rattle.mv_core.specs.Cores.{HasTurns}
-use Rattle.mv_core.proofs.Stored.{stored_same, stored_made}
+use Rattle.mv_core.proofs.Stored.{shows_start, fresh_start, shows_last, fresh_last, stored_same, stored_made}
 use Rattle.mv_core.proofs.Numbered.{numbers_same, numbers_again}
 use Rattle.mv_core.proofs.Taking.{task_there, task_again, tasks_set, tasks_same, restarted_on, call_within, due_first, core_set, running_in}
 use Rattle.mv_core.proofs.Refusing.{repairs_again}
-use Rattle.mv_core.proofs.Changed.{live_in, fresh_now_allowed, book_in, tasks_in}
+use Rattle.mv_core.proofs.Changed.{live_in, same_self, fresh_now_allowed, refused_same, book_in, tasks_in}
 use Rattle.mv_core.proofs.Recorded.{others_set, whole_set, whole_again}
 use Rattle.mv_core.proofs.engine.Core.again.Goals as goal
 
@@ -24,8 +25,10 @@ pub finish_task-requires-clause-call : goal.finish_task-requires-clause-call
 finish_task-requires-clause-call c =
     running_in c.self.inside.book c.self.inside.store c.self.inside.tasks.items c.args.call c.index_mut.result.now c.in-Some.running c.self.invariant (live_in c.self.inside.book c.args.self.now.book c.args.call (ap book_in c.self.view_is) c.requires.live) c.index_mut.ensures.value c.in-Some.is
 
-pub finish_task-requires-clause-fresh : goal.finish_task-requires-clause-fresh
-finish_task-requires-clause-fresh c = subst (λ (b : Booked). IsNotStale b c.args.call) (sym (ap book_in c.self.view_is)) c.in_ok-refuse_stale.ensures.fresh
+pub finish_task-requires-clause-shows : goal.finish_task-requires-clause-shows
+finish_task-requires-clause-shows c =
+    shows_start c.self.inside.book c.self.inside.store c.args.call c.start.result c.new-view.result c.self.invariant.stored (subst (λ (b : Booked). IsNotStale b c.args.call) (sym (ap book_in c.self.view_is)) c.in_ok-refuse_stale.ensures.fresh)
+    c.start.ensures.value c.start.ensures.past c.new-view.ensures
 
 pub invariant_of-self : goal.invariant_of-self
 invariant_of-self c = core_set c.self.inside.book c.self.inside.store c.self.inside.tasks.items c.args.call c.finish_task.new.running c.self.invariant (live_in c.self.inside.book c.args.self.now.book c.args.call (ap book_in c.self.view_is) c.requires.live) c.finish_task.ensures.task
@@ -35,11 +38,14 @@ returns-in_err-finish_task-clause-others c = others_set c.args.call c.self.insid
 
 pub rerun_task-requires-clause-call : goal.rerun_task-requires-clause-call
 rerun_task-requires-clause-call c = record {
-  stored = c.self.invariant.stored;
+  script = c.self.invariant.stored.script;
   live = live_in c.self.inside.book c.args.self.now.book c.args.call (ap book_in c.self.view_is) c.requires.live;
   number = call_within c.self.inside.book.script c.self.inside.book.course c.self.inside.tasks.items c.args.call c.self.invariant.tasks (live_in c.self.inside.book c.args.self.now.book c.args.call (ap book_in c.self.view_is) c.requires.live);
   task = c.finish_task.ensures.task;
 }
+
+pub rerun_task-requires-clause-shows : goal.rerun_task-requires-clause-shows
+rerun_task-requires-clause-shows c = shows_last c.self.inside.book c.self.inside.store c.commits.result c.new-last.result c.self.invariant.stored c.commits.ensures c.new-last.ensures
 
 pub rerun_task-requires-clause-missing : goal.rerun_task-requires-clause-missing
 rerun_task-requires-clause-missing c = due_first c.self.inside.book c.args.call c.finish_task.new.running (live_in c.self.inside.book c.args.self.now.book c.args.call (ap book_in c.self.view_is) c.requires.live) (c.self.invariant.numbers c.args.call) c.finish_task.ensures.task c.in_ok-finish_task.ensures.ok
@@ -76,6 +82,22 @@ invariant_of-self-2 c =
 
 pub returns-clause-made : goal.returns-clause-made
 returns-clause-made c = (subst (λ (b : Booked). Made (A c.args.call) b c.rerun_task.new.book) (ap book_in c.self.view_is) c.in_ok-executed.ensures.made.0, c.in_ok-executed.ensures.made.1)
+
+pub returns-in_err-finish_task-clause-made : goal.returns-in_err-finish_task-clause-made
+returns-in_err-finish_task-clause-made c =
+    let live = live_in c.self.inside.book c.args.self.now.book c.args.call (ap book_in c.self.view_is) c.requires.live in
+    let fresh = subst (λ (b : Booked). IsNotStale b c.args.call) (sym (ap book_in c.self.view_is)) c.in_ok-refuse_stale.ensures.fresh in
+    let p = err_from_is_err_and c.from_residual-in_err-finish_task.result c.from_residual-in_err-finish_task.ensures.1 in
+    rw (p.1, p.2) (refused_same c.args.call c.new-view.result c.finish_task.new.view _ c.args.self.now.book c.self.inside.book
+    (fresh_start c.self.inside.book c.self.inside.store c.args.call c.start.result c.new-view.result c.self.invariant.stored fresh live c.start.ensures.value c.new-view.ensures) c.in_err-finish_task.ensures.view.may_refuse
+    (subst (λ (b : Booked). IsSame b c.self.inside.book) (ap book_in c.self.view_is) (same_self c.self.inside.book)))
+
+pub returns-in_err-executed-clause-made : goal.returns-in_err-executed-clause-made
+returns-in_err-executed-clause-made c =
+    let p = err_from_is_err_and c.from_residual-in_err-executed.result c.from_residual-in_err-executed.ensures.1 in
+    rw (p.1, p.2) (refused_same c.args.call c.new-last.result c.rerun_task.new.view _ c.args.self.now.book c.rerun_task.new.book
+    (fresh_last c.self.inside.book c.self.inside.store c.commits.result c.new-last.result c.self.invariant.stored c.commits.ensures c.new-last.ensures) c.in_err-executed.ensures.view.may_refuse
+    (subst (λ (b : Booked). IsSame b c.rerun_task.new.book) (ap book_in c.self.view_is) c.in_err-executed.ensures.same))
 
 pub returns-in_err-refuse_stale-clause-others : goal.returns-in_err-refuse_stale-clause-others
 returns-in_err-refuse_stale-clause-others c d ne = refl

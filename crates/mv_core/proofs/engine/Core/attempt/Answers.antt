@@ -13,15 +13,15 @@ pub unreachable-requires : goal.unreachable-requires
 unreachable-requires c =
     task_there c.self.inside.book.script c.self.inside.book.course c.self.inside.tasks.items c.args.call c.index_mut.result.now c.self.invariant.tasks (live_in c.self.inside.book c.args.self.now.book c.args.call (ap book_in c.self.view_is) c.requires) c.index_mut.ensures.value c.in_default.is
 
-pub validate_task-requires : goal.validate_task-requires
-validate_task-requires c =
-    record { call = running_in c.self.inside.book c.self.inside.store c.self.inside.tasks.items c.args.call c.index_mut.result.now c.in-Some.running c.self.invariant (live_in c.self.inside.book c.args.self.now.book c.args.call (ap book_in c.self.view_is) c.requires) c.index_mut.ensures.value c.in-Some.is }
+pub check_task-requires-clause-call : goal.check_task-requires-clause-call
+check_task-requires-clause-call c =
+    running_in c.self.inside.book c.self.inside.store c.self.inside.tasks.items c.args.call c.index_mut.result.now c.in-Some.running c.self.invariant (live_in c.self.inside.book c.args.self.now.book c.args.call (ap book_in c.self.view_is) c.requires) c.index_mut.ensures.value c.in-Some.is
 
 pub invariant_of-self : goal.invariant_of-self
-invariant_of-self c = core_set c.self.inside.book c.self.inside.store c.self.inside.tasks.items c.args.call c.validate_task.new.running c.self.invariant (live_in c.self.inside.book c.args.self.now.book c.args.call (ap book_in c.self.view_is) c.requires) c.validate_task.ensures.task
+invariant_of-self c = core_set c.self.inside.book c.self.inside.store c.self.inside.tasks.items c.args.call c.check_task.new.running c.self.invariant (live_in c.self.inside.book c.args.self.now.book c.args.call (ap book_in c.self.view_is) c.requires) c.check_task.ensures.task
 
 pub settle_and_commit-requires-clause-missing : goal.settle_and_commit-requires-clause-missing
-settle_and_commit-requires-clause-missing c = due_first c.self.inside.book c.args.call c.validate_task.new.running (live_in c.self.inside.book c.args.self.now.book c.args.call (ap book_in c.self.view_is) c.requires) (c.self.invariant.numbers c.args.call) c.validate_task.ensures.task (c.in_ok-validate_task.ensures.records c.in-Free.is)
+settle_and_commit-requires-clause-missing c = due_first c.self.inside.book c.args.call c.check_task.new.running (live_in c.self.inside.book c.args.self.now.book c.args.call (ap book_in c.self.view_is) c.requires) (c.self.invariant.numbers c.args.call) c.check_task.ensures.task (c.in_ok-check_task.ensures.records c.in-Free.is)
 
 pub settle_and_commit-requires-clause-live : goal.settle_and_commit-requires-clause-live
 settle_and_commit-requires-clause-live c = live_in c.self.inside.book c.args.self.now.book c.args.call (ap book_in c.self.view_is) c.requires
@@ -33,15 +33,15 @@ settle_and_commit-requires-clause-number c =
 pub settle_and_commit-requires-clause-allowed : goal.settle_and_commit-requires-clause-allowed
 settle_and_commit-requires-clause-allowed c =
     let live = live_in c.self.inside.book c.args.self.now.book c.args.call (ap book_in c.self.view_is) c.requires in
-    free_told c.self.inside.book c.args.call c.in_ok-validate_task.field-0 live.0 c.in_ok-validate_task.ensures.answer c.in-Free.is live.1
+    free_told c.self.inside.book c.args.call c.in_ok-check_task.field-0 live.0 c.in_ok-check_task.ensures.answer c.in-Free.is live.1
 
 pub settle_and_commit-requires-clause-whole : goal.settle_and_commit-requires-clause-whole
-settle_and_commit-requires-clause-whole c = c.in_ok-validate_task.ensures.records c.in-Free.is
+settle_and_commit-requires-clause-whole c = c.in_ok-check_task.ensures.records c.in-Free.is
 
 pub invariant_of-self-in_err-commit-in-Free : goal.invariant_of-self-in_err-commit-in-Free
 invariant_of-self-in_err-commit-in-Free c =
     let live = live_in c.self.inside.book c.args.self.now.book c.args.call (ap book_in c.self.view_is) c.requires in
-    let k = core_set c.self.inside.book c.self.inside.store c.self.inside.tasks.items c.args.call c.validate_task.new.running c.self.invariant live c.validate_task.ensures.task in
+    let k = core_set c.self.inside.book c.self.inside.store c.self.inside.tasks.items c.args.call c.check_task.new.running c.self.invariant live c.check_task.ensures.task in
     let same = c.in_err-commit-in-Free.ensures.made in
     record { stored = c.settle_and_commit.ensures.stored; numbers = numbers_same c.self.inside.book c.settle_and_commit.new.book same c.self.invariant.numbers; tasks = (core_same c.self.inside.book c.settle_and_commit.new.book c.self.inside.store _ k same).tasks }
 
@@ -53,7 +53,7 @@ index_mut-requires-in-Free c =
 pub invariant_of-self-in-Free : goal.invariant_of-self-in-Free
 invariant_of-self-in-Free c =
     let live = live_in c.self.inside.book c.args.self.now.book c.args.call (ap book_in c.self.view_is) c.requires in
-    let k = core_set c.self.inside.book c.self.inside.store c.self.inside.tasks.items c.args.call c.validate_task.new.running c.self.invariant live c.validate_task.ensures.task in
+    let k = core_set c.self.inside.book c.self.inside.store c.self.inside.tasks.items c.args.call c.check_task.new.running c.self.invariant live c.check_task.ensures.task in
     let made = c.in_ok-commit-in-Free.ensures.made.0 in
     record {
       stored = c.settle_and_commit.ensures.stored;
@@ -62,10 +62,10 @@ invariant_of-self-in-Free c =
     }
 
 pub invariant_of-self-in-Hit : goal.invariant_of-self-in-Hit
-invariant_of-self-in-Hit c = core_set c.self.inside.book c.self.inside.store c.self.inside.tasks.items c.args.call c.validate_task.new.running c.self.invariant (live_in c.self.inside.book c.args.self.now.book c.args.call (ap book_in c.self.view_is) c.requires) c.validate_task.ensures.task
+invariant_of-self-in-Hit c = core_set c.self.inside.book c.self.inside.store c.self.inside.tasks.items c.args.call c.check_task.new.running c.self.invariant (live_in c.self.inside.book c.args.self.now.book c.args.call (ap book_in c.self.view_is) c.requires) c.check_task.ensures.task
 
 pub invariant_of-self-in-Stale : goal.invariant_of-self-in-Stale
-invariant_of-self-in-Stale c = core_set c.self.inside.book c.self.inside.store c.self.inside.tasks.items c.args.call c.validate_task.new.running c.self.invariant (live_in c.self.inside.book c.args.self.now.book c.args.call (ap book_in c.self.view_is) c.requires) c.validate_task.ensures.task
+invariant_of-self-in-Stale c = core_set c.self.inside.book c.self.inside.store c.self.inside.tasks.items c.args.call c.check_task.new.running c.self.invariant (live_in c.self.inside.book c.args.self.now.book c.args.call (ap book_in c.self.view_is) c.requires) c.check_task.ensures.task
 
 pub returns-in_err-commit-in-Free-clause-made : goal.returns-in_err-commit-in-Free-clause-made
 returns-in_err-commit-in-Free-clause-made c =
@@ -82,31 +82,31 @@ pub returns-in-Hit-clause-made : goal.returns-in-Hit-clause-made
 returns-in-Hit-clause-made c =
     let live = live_in c.self.inside.book c.args.self.now.book c.args.call (ap book_in c.self.view_is) c.requires in
     subst (λ (b : Booked). HasTried c.args.call (Ok (attempt.Hit c.in-Hit.number c.in-Hit.commit)) b c.self.inside.book) (ap book_in c.self.view_is)
-    (hit_told c.self.inside.book c.args.call c.in-Hit.number c.in-Hit.commit c.in_ok-validate_task.field-0 live.0 c.in_ok-validate_task.ensures.answer c.in-Hit.is live.1, same_self c.self.inside.book)
+    (hit_told c.self.inside.book c.args.call c.in-Hit.number c.in-Hit.commit c.in_ok-check_task.field-0 live.0 c.in_ok-check_task.ensures.answer c.in-Hit.is live.1, same_self c.self.inside.book)
 
 pub returns-in-Stale-clause-made : goal.returns-in-Stale-clause-made
 returns-in-Stale-clause-made c =
     let live = live_in c.self.inside.book c.args.self.now.book c.args.call (ap book_in c.self.view_is) c.requires in
     subst (λ (b : Booked). HasTried c.args.call (Ok (attempt.Stale c.in-Stale.start c.in-Stale.low)) b c.self.inside.book) (ap book_in c.self.view_is)
-    (stale_told c.self.inside.book c.args.call c.in-Stale.start c.in-Stale.low c.in_ok-validate_task.field-0 live.0 c.in_ok-validate_task.ensures.answer c.in-Stale.is live.1, same_self c.self.inside.book)
+    (stale_told c.self.inside.book c.args.call c.in-Stale.start c.in-Stale.low c.in_ok-check_task.field-0 live.0 c.in_ok-check_task.ensures.answer c.in-Stale.is live.1, same_self c.self.inside.book)
 
-pub returns-in_err-validate_task-clause-others : goal.returns-in_err-validate_task-clause-others
-returns-in_err-validate_task-clause-others c = others_set c.args.call c.self.inside.tasks.items (Some c.validate_task.new.running) c.args.self.now (ap tasks_in c.self.view_is)
+pub returns-in_err-check_task-clause-others : goal.returns-in_err-check_task-clause-others
+returns-in_err-check_task-clause-others c = others_set c.args.call c.self.inside.tasks.items (Some c.check_task.new.running) c.args.self.now (ap tasks_in c.self.view_is)
 
 pub returns-in_err-commit-in-Free-clause-others : goal.returns-in_err-commit-in-Free-clause-others
-returns-in_err-commit-in-Free-clause-others c = others_set c.args.call c.self.inside.tasks.items (Some c.validate_task.new.running) c.args.self.now (ap tasks_in c.self.view_is)
+returns-in_err-commit-in-Free-clause-others c = others_set c.args.call c.self.inside.tasks.items (Some c.check_task.new.running) c.args.self.now (ap tasks_in c.self.view_is)
 
 pub returns-in_ok-commit-in-Free-clause-others : goal.returns-in_ok-commit-in-Free-clause-others
-returns-in_ok-commit-in-Free-clause-others c = others_twice c.args.call c.self.inside.tasks.items (Some c.validate_task.new.running) None c.args.self.now (ap tasks_in c.self.view_is)
+returns-in_ok-commit-in-Free-clause-others c = others_twice c.args.call c.self.inside.tasks.items (Some c.check_task.new.running) None c.args.self.now (ap tasks_in c.self.view_is)
 
 pub returns-in-Hit-clause-others : goal.returns-in-Hit-clause-others
-returns-in-Hit-clause-others c = others_set c.args.call c.self.inside.tasks.items (Some c.validate_task.new.running) c.args.self.now (ap tasks_in c.self.view_is)
+returns-in-Hit-clause-others c = others_set c.args.call c.self.inside.tasks.items (Some c.check_task.new.running) c.args.self.now (ap tasks_in c.self.view_is)
 
 pub returns-in-Stale-clause-others : goal.returns-in-Stale-clause-others
-returns-in-Stale-clause-others c = others_set c.args.call c.self.inside.tasks.items (Some c.validate_task.new.running) c.args.self.now (ap tasks_in c.self.view_is)
+returns-in-Stale-clause-others c = others_set c.args.call c.self.inside.tasks.items (Some c.check_task.new.running) c.args.self.now (ap tasks_in c.self.view_is)
 
 pub returns-in-Hit-clause-whole : goal.returns-in-Hit-clause-whole
 returns-in-Hit-clause-whole c =
     let live = live_in c.self.inside.book c.args.self.now.book c.args.call (ap book_in c.self.view_is) c.requires in
-    whole_set c.self.inside.book.script c.self.inside.book.course c.self.inside.book c.self.inside.tasks.items c.args.call c.validate_task.new.running c.self.invariant.tasks live
-    (c.in_ok-validate_task.ensures.hit c.in-Hit.number c.in-Hit.commit c.in-Hit.is)
+    whole_set c.self.inside.book.script c.self.inside.book.course c.self.inside.book c.self.inside.tasks.items c.args.call c.check_task.new.running c.self.invariant.tasks live
+    (c.in_ok-check_task.ensures.hit c.in-Hit.number c.in-Hit.commit c.in-Hit.is)

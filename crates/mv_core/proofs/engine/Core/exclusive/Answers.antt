@@ -1,12 +1,14 @@
 use Rattle.std.proofs.Common.{rules, ◌<◌, ◌+◌, length, ap, sym, subst, ◌∙◌, Some, None, refl}
+use Rattle.std.proofs.lemmas.Result.{err_from_is_err_and}
 use Rattle.mv_journal.specs.declared.event.Event.TheVariants.{X}
 use Rattle.std.specs.Prelude.{not}
 use Rattle.mv_lawful.specs.Lawful.{has_round}
-use Rattle.mv_core.specs.Books.{Booked, work_in, Made, IsNotStale}
+use Rattle.mv_core.specs.Books.{Booked, work_in, Made, IsSame, IsNotStale}
 use Rattle.mv_core.proofs.Taking.{task_there, task_within, tasks_set, tasks_same, decided_on, call_within, due_first, core_set, running_in}
+use Rattle.mv_core.proofs.Stored.{shows_start, fresh_start}
 use Rattle.mv_core.proofs.Refusing.{repairs_last}
 use Rattle.mv_core.proofs.Numbered.{numbers_same, numbers_other}
-use Rattle.mv_core.proofs.Changed.{live_in, fresh_now_allowed, book_in, tasks_in}
+use Rattle.mv_core.proofs.Changed.{live_in, same_self, fresh_now_allowed, refused_same, book_in, tasks_in}
 use Rattle.mv_core.proofs.Recorded.{others_set, others_twice}
 use Rattle.mv_core.proofs.engine.Core.exclusive.Goals as goal
 
@@ -18,8 +20,10 @@ pub finish_task-requires-clause-call : goal.finish_task-requires-clause-call
 finish_task-requires-clause-call c =
     running_in c.self.inside.book c.self.inside.store c.self.inside.tasks.items c.args.call c.index_mut.result.now c.in-Some.running c.self.invariant (live_in c.self.inside.book c.args.self.now.book c.args.call (ap book_in c.self.view_is) c.requires.live) c.index_mut.ensures.value c.in-Some.is
 
-pub finish_task-requires-clause-fresh : goal.finish_task-requires-clause-fresh
-finish_task-requires-clause-fresh c = subst (λ (b : Booked). IsNotStale b c.args.call) (sym (ap book_in c.self.view_is)) c.in_ok-refuse_stale.ensures.fresh
+pub finish_task-requires-clause-shows : goal.finish_task-requires-clause-shows
+finish_task-requires-clause-shows c =
+    shows_start c.self.inside.book c.self.inside.store c.args.call c.start.result c.new-view.result c.self.invariant.stored (subst (λ (b : Booked). IsNotStale b c.args.call) (sym (ap book_in c.self.view_is)) c.in_ok-refuse_stale.ensures.fresh)
+    c.start.ensures.value c.start.ensures.past c.new-view.ensures
 
 pub invariant_of-self : goal.invariant_of-self
 invariant_of-self c = core_set c.self.inside.book c.self.inside.store c.self.inside.tasks.items c.args.call c.finish_task.new.running c.self.invariant (live_in c.self.inside.book c.args.self.now.book c.args.call (ap book_in c.self.view_is) c.requires.live) c.finish_task.ensures.task
@@ -29,7 +33,7 @@ returns-in_err-finish_task-clause-others c = others_set c.args.call c.self.insid
 
 pub decide_task-requires-clause-call : goal.decide_task-requires-clause-call
 decide_task-requires-clause-call c = record {
-  stored = c.self.invariant.stored;
+  script = c.self.invariant.stored.script;
   live = live_in c.self.inside.book c.args.self.now.book c.args.call (ap book_in c.self.view_is) c.requires.live;
   number = call_within c.self.inside.book.script c.self.inside.book.course c.self.inside.tasks.items c.args.call c.self.invariant.tasks (live_in c.self.inside.book c.args.self.now.book c.args.call (ap book_in c.self.view_is) c.requires.live);
   task = c.finish_task.ensures.task;
@@ -72,6 +76,15 @@ invariant_of-self-2 c =
 
 pub returns-clause-made : goal.returns-clause-made
 returns-clause-made c = (subst (λ (b : Booked). Made (X c.args.call) b c.decide_task.new.book) (ap book_in c.self.view_is) c.in_ok-commit.ensures.made.0, c.in_ok-commit.ensures.made.1 ∙ ap (λ (b : Booked). length b.course.order + 1) (ap book_in c.self.view_is))
+
+pub returns-in_err-finish_task-clause-made : goal.returns-in_err-finish_task-clause-made
+returns-in_err-finish_task-clause-made c =
+    let live = live_in c.self.inside.book c.args.self.now.book c.args.call (ap book_in c.self.view_is) c.requires.live in
+    let fresh = subst (λ (b : Booked). IsNotStale b c.args.call) (sym (ap book_in c.self.view_is)) c.in_ok-refuse_stale.ensures.fresh in
+    let p = err_from_is_err_and c.from_residual-in_err-finish_task.result c.from_residual-in_err-finish_task.ensures.1 in
+    rw (p.1, p.2) (refused_same c.args.call c.new-view.result c.finish_task.new.view _ c.args.self.now.book c.self.inside.book
+    (fresh_start c.self.inside.book c.self.inside.store c.args.call c.start.result c.new-view.result c.self.invariant.stored fresh live c.start.ensures.value c.new-view.ensures) c.in_err-finish_task.ensures.view.may_refuse
+    (subst (λ (b : Booked). IsSame b c.self.inside.book) (ap book_in c.self.view_is) (same_self c.self.inside.book)))
 
 pub returns-in_err-refuse_stale-clause-others : goal.returns-in_err-refuse_stale-clause-others
 returns-in_err-refuse_stale-clause-others c d ne = refl

@@ -12,15 +12,15 @@ use Rattle.mv_core.proofs.Moving.{apart}
 use Rattle.mv_core.proofs.Recorded.{others_kept, others_set, whole_set, whole_again}
 use Rattle.mv_core.proofs.engine.Core.move_up.Goals as goal
 
-pub move_task-requires-clause-live : goal.move_task-requires-clause-live
-move_task-requires-clause-live c = live_in c.self.inside.book c.args.self.now.book c.args.call (ap book_in c.self.view_is) c.requires
+pub move_last-requires-clause-live : goal.move_last-requires-clause-live
+move_last-requires-clause-live c = live_in c.self.inside.book c.args.self.now.book c.args.call (ap book_in c.self.view_is) c.requires
 
-pub move_task-requires-clause-number : goal.move_task-requires-clause-number
-move_task-requires-clause-number c =
+pub move_last-requires-clause-number : goal.move_last-requires-clause-number
+move_last-requires-clause-number c =
     call_within c.self.inside.book.script c.self.inside.book.course c.self.inside.tasks.items c.args.call c.self.invariant.tasks (live_in c.self.inside.book c.args.self.now.book c.args.call (ap book_in c.self.view_is) c.requires)
 
 pub invariant_of-self : goal.invariant_of-self
-invariant_of-self c = core_same c.self.inside.book c.move_task.new.book c.self.inside.store c.self.inside.tasks.items c.self.invariant c.in_err-task.ensures.same
+invariant_of-self c = core_same c.self.inside.book c.move_last.new.book c.self.inside.store c.self.inside.tasks.items c.self.invariant c.in_err-task.ensures.same
 
 pub index_mut-requires : goal.index_mut-requires
 index_mut-requires c =
@@ -32,18 +32,18 @@ pub invariant_of-self-2 : goal.invariant_of-self-2
 invariant_of-self-2 c =
     let b : Booked = c.self.inside.book in
     let live = live_in b c.args.self.now.book c.args.call (ap book_in c.self.view_is) c.requires in
-    let made : Made (M c.args.call) b c.move_task.new.book = c.in_ok-task.ensures.made in
+    let made : Made (M c.args.call) b c.move_last.new.book = c.in_ok-task.ensures.made in
     let turns : HasTurns (length b.course.order) live.0 = (c.self.invariant.tasks.running c.args.call live.0 live.1).2.turns in
     record {
-      stored = stored_made (M c.args.call) b c.move_task.new.book c.self.inside.store c.self.invariant.stored made refl refl;
-      numbers = numbers_moved c.args.call b c.move_task.new.book made c.in_ok-task.ensures.settled c.self.invariant.numbers;
-      tasks = restarted_on Moved b c.move_task.new.book c.self.inside.tasks.items c.args.call live.0 _ apart c.self.invariant.tasks live.1 made
+      stored = stored_made (M c.args.call) b c.move_last.new.book c.self.inside.store c.self.invariant.stored made refl refl;
+      numbers = numbers_moved c.args.call b c.move_last.new.book made c.in_ok-task.ensures.settled c.self.invariant.numbers;
+      tasks = restarted_on Moved b c.move_last.new.book c.self.inside.tasks.items c.args.call live.0 _ apart c.self.invariant.tasks live.1 made
           (task_moved b.script b.course.order c.args.call live.0 c.in_ok-task.task turns c.in_ok-task.ensures.runs);
     }
 
 pub returns-clause-made : goal.returns-clause-made
 returns-clause-made c = (
-  subst (λ (b : Booked). Made (M c.args.call) b c.move_task.new.book) (ap book_in c.self.view_is) c.in_ok-task.ensures.made,
+  subst (λ (b : Booked). Made (M c.args.call) b c.move_last.new.book) (ap book_in c.self.view_is) c.in_ok-task.ensures.made,
   c.executed-executed.ensures ∙ (c.in_ok-task.ensures.executed ∙ (ap length c.in_ok-task.ensures.records
       ∙ ap (λ (b : Booked). length (records_at (work_in b) b.course.order (length b.course.order) c.args.call)) (ap book_in c.self.view_is))),
 )
@@ -58,5 +58,5 @@ pub returns-clause-whole : goal.returns-clause-whole
 returns-clause-whole c =
     let b : Booked = c.self.inside.book in
     let live = live_in b c.args.self.now.book c.args.call (ap book_in c.self.view_is) c.requires in
-    whole_set b.script b.course c.move_task.new.book c.self.inside.tasks.items c.args.call (record { task = c.in_ok-task.task; count = None }) c.self.invariant.tasks live
-    (whole_again Moved b c.move_task.new.book c.args.call live.0 c.in_ok-task.task.log.records apart live.1 c.in_ok-task.ensures.made c.in_ok-task.ensures.records)
+    whole_set b.script b.course c.move_last.new.book c.self.inside.tasks.items c.args.call (record { task = c.in_ok-task.task; count = None }) c.self.invariant.tasks live
+    (whole_again Moved b c.move_last.new.book c.args.call live.0 c.in_ok-task.task.log.records apart live.1 c.in_ok-task.ensures.made c.in_ok-task.ensures.records)

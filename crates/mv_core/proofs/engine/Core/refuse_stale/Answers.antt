@@ -6,4 +6,4 @@ use Rattle.mv_core.proofs.engine.Core.refuse_stale.Goals as goal
 pub returns-clause-fresh : goal.returns-clause-fresh
 returns-clause-fresh c =
     subst (λ (b : Booked). IsNotStale b c.args.call) (ap book_in c.self.view_is)
-    (fresh_now c.self.inside.book c.self.inside.store c.args.call c.start-start.result c.low-low.result c.self.invariant.stored c.start-start.ensures.value c.low-low.ensures (λ lt. let le = c.if-start-low.false in omega (arith, lt, le)))
+    (fresh_now c.self.inside.book c.args.call c.start-start.result c.low-low.result c.start-start.ensures.value c.low-low.ensures (λ lt. let le = c.if-start-low.false in omega (arith, lt, le)))

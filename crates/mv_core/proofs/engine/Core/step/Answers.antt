@@ -1,14 +1,14 @@
-use Rattle.std.proofs.Common.{arith, rules, ◌≡◌, ◌+◌, ◌<◌, length, false, sym, ap, subst, ◌∙◌, refl, Some}
+use Rattle.std.proofs.Common.{arith, rules, ◌≡◌, ◌+◌, ◌<◌, length, sym, ap, subst, ◌∙◌, refl, Some}
 use Rattle.std.specs.Prelude.{not}
+use Rattle.std.proofs.lemmas.Result.{err_from_is_err_and}
 use Rattle.mv_journal.specs.declared.event.Event.TheVariants.{S}
-use Rattle.mv_lawful.specs.Lawful.{Live, Course, used, is_stale}
+use Rattle.mv_lawful.specs.Lawful.{used}
 use Rattle.mv_exec.specs.Running.{stepped}
-use Rattle.mv_core.specs.Calls.{IsLive}
-use Rattle.mv_core.specs.Books.{Booked, work_in}
-use Rattle.mv_core.proofs.Stored.{stored_made}
+use Rattle.mv_core.specs.Books.{Booked, IsSame, work_in}
+use Rattle.mv_core.proofs.Stored.{shows_start, fresh_start, stored_made}
 use Rattle.mv_core.proofs.Numbered.{numbers_other}
 use Rattle.mv_core.proofs.Taking.{task_there, task_within, call_within, stepped_on, running_in, core_set}
-use Rattle.mv_core.proofs.Changed.{core_same, live_now, step_now, step_used, live_stepped, step_told, made_now, book_in, tasks_in}
+use Rattle.mv_core.proofs.Changed.{core_same, live_now, step_now, step_used, live_stepped, step_told, made_now, fresh_with, refused_same, book_in, tasks_in}
 use Rattle.mv_core.proofs.Recorded.{others_kept, others_set, runs_one}
 use Rattle.mv_core.proofs.engine.Core.step.Goals as goal
 
@@ -34,9 +34,14 @@ step_task-requires-clause-call c =
     running_in c.reserve.new.self c.self.inside.store c.self.inside.tasks.items c.args.call c.index_mut.result.now c.in-Some.running k
     (live_now c.self.inside.book c.args.self.now.book c.reserve.new.self c.args.call (ap book_in c.self.view_is) c.requires.live c.reserve.ensures.same) c.index_mut.ensures.value c.in-Some.is
 
-pub step_task-requires-clause-fresh : goal.step_task-requires-clause-fresh
-step_task-requires-clause-fresh c =
-    subst (λ (s : Course). (l : Live) → IsLive s c.args.call l → is_stale s l ≡ false) (sym (c.reserve.ensures.same.course ∙ ap (λ (b : Booked). b.course) (ap book_in c.self.view_is))) c.in_ok-refuse_stale.ensures.fresh
+pub start-requires : goal.start-requires
+start-requires c = live_now c.self.inside.book c.args.self.now.book c.reserve.new.self c.args.call (ap book_in c.self.view_is) c.requires.live c.reserve.ensures.same
+
+pub step_task-requires-clause-shows : goal.step_task-requires-clause-shows
+step_task-requires-clause-shows c =
+    let k = core_same c.self.inside.book c.reserve.new.self c.self.inside.store c.self.inside.tasks.items c.self.invariant c.reserve.ensures.same in
+    shows_start c.reserve.new.self c.self.inside.store c.args.call c.start.result c.new-view.result k.stored
+    (fresh_with c.self.inside.book c.args.self.now.book c.reserve.new.self c.args.call (ap book_in c.self.view_is) c.reserve.ensures.same c.in_ok-refuse_stale.ensures.fresh) c.start.ensures.value c.start.ensures.past c.new-view.ensures
 
 pub invariant_of-self-in_err-step_task : goal.invariant_of-self-in_err-step_task
 invariant_of-self-in_err-step_task c =
@@ -76,6 +81,15 @@ returns-clause-made c =
           (step_told c.reserve.new.self c.ran.new.self c.self.inside.store c.args.call live.0 c.step_task.new.running c.steps.result c.has_more.result k.stored
           (call_within c.reserve.new.self.script c.reserve.new.self.course c.self.inside.tasks.items c.args.call k.tasks live) live.1 c.ran.ensures.made (c.in_ok-step_task.ensures.ok live.0 live.1) first c.steps.ensures c.has_more.ensures.known c.has_more.ensures.unknown m at)),
     )
+
+pub returns-in_err-step_task-clause-made : goal.returns-in_err-step_task-clause-made
+returns-in_err-step_task-clause-made c =
+    let k = core_same c.self.inside.book c.reserve.new.self c.self.inside.store c.self.inside.tasks.items c.self.invariant c.reserve.ensures.same in
+    let live = live_now c.self.inside.book c.args.self.now.book c.reserve.new.self c.args.call (ap book_in c.self.view_is) c.requires.live c.reserve.ensures.same in
+    let fresh = fresh_with c.self.inside.book c.args.self.now.book c.reserve.new.self c.args.call (ap book_in c.self.view_is) c.reserve.ensures.same c.in_ok-refuse_stale.ensures.fresh in
+    let p = err_from_is_err_and c.from_residual-in_err-step_task.result c.from_residual-in_err-step_task.ensures.1 in
+    rw (p.1, p.2) (refused_same c.args.call c.new-view.result c.step_task.new.view _ c.args.self.now.book c.reserve.new.self (fresh_start c.reserve.new.self c.self.inside.store c.args.call c.start.result c.new-view.result k.stored fresh live c.start.ensures.value c.new-view.ensures)
+    c.in_err-step_task.ensures.view.may_refuse (subst (λ (b : Booked). IsSame b c.reserve.new.self) (ap book_in c.self.view_is) c.reserve.ensures.same))
 
 pub returns-in_err-refuse_stale-clause-others : goal.returns-in_err-refuse_stale-clause-others
 returns-in_err-refuse_stale-clause-others c d ne = refl

@@ -7,9 +7,9 @@ pub unreachable-requires : goal.unreachable-requires
 unreachable-requires c =
     task_there c.self.inside.book.script c.self.inside.book.course c.self.inside.tasks.items c.args.call c.index_mut.result.now c.self.invariant.tasks (live_in c.self.inside.book c.args.self.now.book c.args.call (ap book_in c.self.view_is) c.requires) c.index_mut.ensures.value c.in_default.is
 
-pub validate_task-requires : goal.validate_task-requires
-validate_task-requires c =
-    record { call = running_in c.self.inside.book c.self.inside.store c.self.inside.tasks.items c.args.call c.index_mut.result.now c.in-Some.running c.self.invariant (live_in c.self.inside.book c.args.self.now.book c.args.call (ap book_in c.self.view_is) c.requires) c.index_mut.ensures.value c.in-Some.is }
+pub check_task-requires-clause-call : goal.check_task-requires-clause-call
+check_task-requires-clause-call c =
+    running_in c.self.inside.book c.self.inside.store c.self.inside.tasks.items c.args.call c.index_mut.result.now c.in-Some.running c.self.invariant (live_in c.self.inside.book c.args.self.now.book c.args.call (ap book_in c.self.view_is) c.requires) c.index_mut.ensures.value c.in-Some.is
 
 pub invariant_of-self : goal.invariant_of-self
-invariant_of-self c = core_set c.self.inside.book c.self.inside.store c.self.inside.tasks.items c.args.call c.validate_task.new.running c.self.invariant (live_in c.self.inside.book c.args.self.now.book c.args.call (ap book_in c.self.view_is) c.requires) c.validate_task.ensures.task
+invariant_of-self c = core_set c.self.inside.book c.self.inside.store c.self.inside.tasks.items c.args.call c.check_task.new.running c.self.invariant (live_in c.self.inside.book c.args.self.now.book c.args.call (ap book_in c.self.view_is) c.requires) c.check_task.ensures.task

@@ -10,27 +10,27 @@ use Rattle.mv_gate.proofs.Desks.{desk_left, desk_moved}
 use Rattle.mv_gate.proofs.Repaired.{moved_latest}
 use Rattle.mv_gate.proofs.desk.Desk.move_up.Goals as goal
 
-pub move_task-requires-clause-live : goal.move_task-requires-clause-live
-move_task-requires-clause-live g c = subst (λ (b : Booked). IsLiveCall b.course c.args.call) (sym c.self.view_is) c.requires.call.live
+pub move_last-requires-clause-live : goal.move_last-requires-clause-live
+move_last-requires-clause-live g c = subst (λ (b : Booked). IsLiveCall b.course c.args.call) (sym c.self.view_is) c.requires.call.live
 
-pub move_task-requires-clause-number : goal.move_task-requires-clause-number
-move_task-requires-clause-number g c = subst (λ (b : Booked). c.args.call < length b.script.calls) (sym c.self.view_is) c.requires.call.there
+pub move_last-requires-clause-number : goal.move_last-requires-clause-number
+move_last-requires-clause-number g c = subst (λ (b : Booked). c.args.call < length b.script.calls) (sym c.self.view_is) c.requires.call.there
 
 pub invariant_of-self : goal.invariant_of-self
 invariant_of-self g c =
-    desk_left g.N.Making.script c.self.inside.book c.move_task.new.book c.self.inside.store c.self.inside.store c.self.inside.pass c.self.invariant c.in_err-task.ensures.same (stored_same c.self.inside.book c.move_task.new.book c.self.inside.store c.self.invariant.stored c.in_err-task.ensures.same)
+    desk_left g.N.Making.script c.self.inside.book c.move_last.new.book c.self.inside.store c.self.inside.store c.self.inside.pass c.self.invariant c.in_err-task.ensures.same (stored_same c.self.inside.book c.move_last.new.book c.self.inside.store c.self.invariant.stored c.in_err-task.ensures.same)
 
 pub invariant_of-self-2 : goal.invariant_of-self-2
 invariant_of-self-2 g c =
-    desk_moved g.N.Making.script c.self.inside.book c.move_task.new.book c.self.inside.store c.self.inside.pass c.args.call c.self.invariant c.journal-events.ensures.allowed c.journal-events.ensures.reaches
+    desk_moved g.N.Making.script c.self.inside.book c.move_last.new.book c.self.inside.store c.self.inside.pass c.args.call c.self.invariant c.journal-events.ensures.allowed c.journal-events.ensures.reaches
     (subst (λ (x : Booked). IsLiveCall x.course c.args.call) (sym c.self.view_is) c.requires.call.live) (subst (λ (x : Booked). IsStale x c.args.call) (sym c.self.view_is) c.requires.call.stale)
     (subst (λ (x : Booked). HasRound true x c.args.call) (sym c.self.view_is) c.requires.left) c.in_ok-task.ensures.made c.in_ok-task.ensures.settled
 
 pub returns-clause-ok : goal.returns-clause-ok
-returns-clause-ok g c = subst (λ (b : Booked). Made (M c.args.call) b c.move_task.new.book) c.self.view_is c.in_ok-task.ensures.made
+returns-clause-ok g c = subst (λ (b : Booked). Made (M c.args.call) b c.move_last.new.book) c.self.view_is c.in_ok-task.ensures.made
 
 pub returns-clause-latest : goal.returns-clause-latest
 returns-clause-latest g c =
-    moved_latest c.self.inside.book c.move_task.new.book c.args.call (length c.self.inside.book.course.order) c.in_ok-task.task
+    moved_latest c.self.inside.book c.move_last.new.book c.args.call (length c.self.inside.book.course.order) c.in_ok-task.task
     (subst (λ (b : Booked). c.args.call < length b.script.calls) (sym c.self.view_is) c.requires.call.there) c.in_ok-task.ensures.made.script
     (ap (λ (s : Course). s.order) c.in_ok-task.ensures.made.course) refl c.in_ok-task.ensures.runs c.in_ok-task.ensures.records c.in_ok-task.ensures.executed

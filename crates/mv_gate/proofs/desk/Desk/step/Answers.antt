@@ -1,7 +1,7 @@
 use Rattle.std.proofs.Common.{rules, ◌<◌, length, refl, sym, subst, ◌∙◌}
 use Rattle.mv_journal.specs.declared.event.Event.TheVariants.{S}
 use Rattle.mv_core.specs.Books.{Booked, Made, IsSame}
-use Rattle.mv_core.proofs.Stored.{stored_same, stored_made}
+use Rattle.mv_core.proofs.Stored.{stored_same, stored_made, shows_start, fresh_start, only_memory}
 use Rattle.mv_core.proofs.Changed.{same_self, made_after, step_now}
 use Rattle.mv_core.specs.Calls.{IsLiveCall}
 use Rattle.mv_core.specs.Cores.{HasStep, HasRunOne, IsTaskIn}
@@ -44,24 +44,37 @@ step_task-requires-clause-call g c =
     running_of c.reserve.new.self c.self.inside.store c.held.inside.call c.held.inside.running (stored_same c.self.inside.book c.reserve.new.self c.self.inside.store c.self.invariant.stored c.reserve.ensures.same)
     (open_same c.self.inside.book c.reserve.new.self c.held.inside.call c.held.inside.running c.reserve.ensures.same (subst (λ (b : Booked). IsUnderWay b c.held.inside.call c.held.inside.running) (sym c.self.view_is) here.call))
 
-pub step_task-requires-clause-fresh : goal.step_task-requires-clause-fresh
-step_task-requires-clause-fresh g c =
-    fresh_same c.self.inside.book c.reserve.new.self c.held.inside.call c.reserve.ensures.same
-    (λ l at. sym (c.is_stale.ensures l at) ∙ c.if-is_stale.false)
+pub start-requires : goal.start-requires
+start-requires g c =
+    let here = subst (λ (h : Holding). HasCall g.N.Making.script c.see.new.self h) (sym c.held.view_is) (c.if-not-has.ensures.call (search rules)) in
+    (open_same c.self.inside.book c.reserve.new.self c.held.inside.call c.held.inside.running c.reserve.ensures.same (subst (λ (b : Booked). IsUnderWay b c.held.inside.call c.held.inside.running) (sym c.self.view_is) here.call)).live
+
+pub step_task-requires-clause-shows : goal.step_task-requires-clause-shows
+step_task-requires-clause-shows g c =
+    shows_start c.reserve.new.self c.self.inside.store c.held.inside.call c.start.result c.new-view.result (stored_same c.self.inside.book c.reserve.new.self c.self.inside.store c.self.invariant.stored c.reserve.ensures.same)
+    (fresh_same c.self.inside.book c.reserve.new.self c.held.inside.call c.reserve.ensures.same (λ l at. sym (c.is_stale.ensures l at) ∙ c.if-is_stale.false)) c.start.ensures.value c.start.ensures.past c.new-view.ensures
+
+pub no_memory-requires : goal.no_memory-requires
+no_memory-requires g c =
+    let here = subst (λ (h : Holding). HasCall g.N.Making.script c.see.new.self h) (sym c.held.view_is) (c.if-not-has.ensures.call (search rules)) in
+    only_memory c.new-view.result c.step_task.new.view c.in-Err.why
+    (fresh_start c.reserve.new.self c.self.inside.store c.held.inside.call c.start.result c.new-view.result (stored_same c.self.inside.book c.reserve.new.self c.self.inside.store c.self.invariant.stored c.reserve.ensures.same)
+    (fresh_same c.self.inside.book c.reserve.new.self c.held.inside.call c.reserve.ensures.same (λ l at. sym (c.is_stale.ensures l at) ∙ c.if-is_stale.false)) (open_same c.self.inside.book c.reserve.new.self c.held.inside.call c.held.inside.running c.reserve.ensures.same (subst (λ (b : Booked). IsUnderWay b c.held.inside.call c.held.inside.running) (sym c.self.view_is) here.call)).live c.start.ensures.value c.new-view.ensures)
+    c.in-Err.ensures.view.may_refuse
 
 pub invariant_of-held : goal.invariant_of-held
 invariant_of-held g c =
     let here = subst (λ (h : Holding). HasCall g.N.Making.script c.see.new.self h) (sym c.held.view_is) (c.if-not-has.ensures.call (search rules)) in
     here.back (subst (λ (b : Booked). HasStep b c.held.inside.call) c.self.view_is (λ l at. sym (c.has_step.ensures l at) ∙ c.if-not-has_step.false)) c.step_task.new.running
     (subst (λ (b : Booked). IsTaskIn b c.held.inside.call c.step_task.new.running) c.self.view_is
-    (task_was c.self.inside.book c.reserve.new.self c.held.inside.call c.step_task.new.running c.reserve.ensures.same c.in_err-step_task.ensures.task)) c.in_err-step_task.ensures.ran
+    (task_was c.self.inside.book c.reserve.new.self c.held.inside.call c.step_task.new.running c.reserve.ensures.same c.in-Err.ensures.task)) c.in-Err.ensures.ran
 
 pub invariant_of-self : goal.invariant_of-self
 invariant_of-self g c =
     desk_left g.N.Making.script c.self.inside.book c.reserve.new.self c.self.inside.store c.self.inside.store c.self.inside.pass c.self.invariant c.reserve.ensures.same (stored_same c.self.inside.book c.reserve.new.self c.self.inside.store c.self.invariant.stored c.reserve.ensures.same)
 
-pub invariant_of-self-in_err-step_task : goal.invariant_of-self-in_err-step_task
-invariant_of-self-in_err-step_task g c =
+pub invariant_of-self-in-Err : goal.invariant_of-self-in-Err
+invariant_of-self-in-Err g c =
     desk_left g.N.Making.script c.self.inside.book c.reserve.new.self c.self.inside.store c.self.inside.store c.self.inside.pass c.self.invariant c.reserve.ensures.same (stored_same c.self.inside.book c.reserve.new.self c.self.inside.store c.self.invariant.stored c.reserve.ensures.same)
 
 pub invariant_of-self-2 : goal.invariant_of-self-2
@@ -79,7 +92,7 @@ invariant_of-held-2 g c =
     let here = subst (λ (h : Holding). HasCall g.N.Making.script c.see.new.self h) (sym c.held.view_is) (c.if-not-has.ensures.call (search rules)) in
     here.back (subst (λ (b : Booked). HasStep b c.held.inside.call) c.self.view_is (λ l at. sym (c.has_step.ensures l at) ∙ c.if-not-has_step.false)) c.step_task.new.running
     (subst (λ (b : Booked). IsTaskIn b c.held.inside.call c.step_task.new.running) c.self.view_is
-    (task_was c.self.inside.book c.reserve.new.self c.held.inside.call c.step_task.new.running c.reserve.ensures.same c.in_ok-step_task.ensures.task)) c.in_ok-step_task.ensures.ran
+    (task_was c.self.inside.book c.reserve.new.self c.held.inside.call c.step_task.new.running c.reserve.ensures.same c.in_default.ensures.task)) c.in_default.ensures.ran
 
 pub returns-then-is_stale-clause-made : goal.returns-then-is_stale-clause-made
 returns-then-is_stale-clause-made g c = (
@@ -111,7 +124,7 @@ returns-clause-known g c known =
     let h : Holding = record { call = c.held.inside.call; start = c.held.inside.start; from = c.held.inside.from; running = c.held.inside.running; knows = c.held.inside.pass } in
     let here : IsKnown b h =
     subst (λ (x : Holding). IsKnown b x) (sym (c.held.view_is ∙ c.see.ensures.held)) (subst (λ (x : Booked). IsKnown x c.args.held.now) (sym (c.self.view_is ∙ c.see.ensures.same)) known) in
-    known_stepped mid c.ran.new.self h c.step_task.new.running (step_now b c.see.new.self mid h.call c.self.view_is (subst (λ (b : Booked). HasStep b c.held.inside.call) c.self.view_is (λ l at. sym (c.has_step.ensures l at) ∙ c.if-not-has_step.false)) c.reserve.ensures.same) c.in_ok-step_task.ensures.one c.ran.ensures.made
+    known_stepped mid c.ran.new.self h c.step_task.new.running (step_now b c.see.new.self mid h.call c.self.view_is (subst (λ (b : Booked). HasStep b c.held.inside.call) c.self.view_is (λ l at. sym (c.has_step.ensures l at) ∙ c.if-not-has_step.false)) c.reserve.ensures.same) c.in_default.ensures.one c.ran.ensures.made
     (known_same b mid h c.reserve.ensures.same.course here)
 
 pub returns-clause-one : goal.returns-clause-one
@@ -122,13 +135,13 @@ returns-clause-one g c ran =
     let there : IsKnown c.see.new.self h = subst (IsKnown c.see.new.self) (sym c.held.view_is) (c.if-not-has.ensures.known.0 (search rules)) in
     let here : IsKnown mid h = known_same b mid h c.reserve.ensures.same.course (subst (λ (x : Booked). IsKnown x h) (sym c.self.view_is) there) in
     subst (λ (x : Holding). HasRunOne x.running.task c.step_task.new.running.task) (c.held.view_is ∙ c.see.ensures.held)
-    (one_more mid h c.step_task.new.running (step_now b c.see.new.self mid h.call c.self.view_is (subst (λ (b : Booked). HasStep b c.held.inside.call) c.self.view_is (λ l at. sym (c.has_step.ensures l at) ∙ c.if-not-has_step.false)) c.reserve.ensures.same) c.in_ok-step_task.ensures.one here)
+    (one_more mid h c.step_task.new.running (step_now b c.see.new.self mid h.call c.self.view_is (subst (λ (b : Booked). HasStep b c.held.inside.call) c.self.view_is (λ l at. sym (c.has_step.ensures l at) ∙ c.if-not-has_step.false)) c.reserve.ensures.same) c.in_default.ensures.one here)
 
-pub returns-in_err-step_task-clause-known : goal.returns-in_err-step_task-clause-known
-returns-in_err-step_task-clause-known g c known =
+pub returns-in-Err-clause-known : goal.returns-in-Err-clause-known
+returns-in-Err-clause-known g c known =
     let b : Booked = c.self.inside.book in
     let mid : Booked = c.reserve.new.self in
     let h : Holding = record { call = c.held.inside.call; start = c.held.inside.start; from = c.held.inside.from; running = c.held.inside.running; knows = c.held.inside.pass } in
     let here : IsKnown b h =
     subst (λ (x : Holding). IsKnown b x) (sym (c.held.view_is ∙ c.see.ensures.held)) (subst (λ (x : Booked). IsKnown x c.args.held.now) (sym (c.self.view_is ∙ c.see.ensures.same)) known) in
-    known_kept mid h c.step_task.new.running c.in_err-step_task.ensures.err (known_same b mid h c.reserve.ensures.same.course here)
+    known_kept mid h c.step_task.new.running c.in-Err.ensures.err (known_same b mid h c.reserve.ensures.same.course here)

@@ -4,7 +4,7 @@ use Rattle.mv_lawful.specs.Lawful.{Course}
 use Rattle.mv_core.specs.Books.{own_number, commit_event}
 use Rattle.mv_core.proofs.Stored.{stored_committed, last_records_on}
 use Rattle.mv_core.proofs.Changed.{own_same, room_less, made_after}
-use Rattle.mv_core.proofs.tasks.commit_task.Goals as goal
+use Rattle.mv_core.proofs.commits.commit_task.Goals as goal
 
 pub prepare-requires-clause-whole : goal.prepare-requires-clause-whole
 prepare-requires-clause-whole c =
@@ -22,7 +22,7 @@ commit-commit-requires-clause-room c = room_less c.reserve.new.self c.args.call 
 
 pub stamp-requires : goal.stamp-requires
 stamp-requires c =
-    let last = c.in_ok-prepared.ensures.ok.last in
+    let last = c.in_ok-told.ensures.ok.last in
     let number = c.commit-commit.ensures.number in
     omega (arith, last, number)
 
@@ -35,4 +35,4 @@ returns-clause-made c = (
 pub returns-clause-stored : goal.returns-clause-stored
 returns-clause-stored c =
     let own : Option ℕ = own_number (option_copied c.args.exclusive) in
-    stored_committed own c.args.call c.reserve.new.self c.commit-commit.new.self c.stamp.new.self (c.in_ok-prepared.ensures.ok.stamped c.commit-commit.result c.stamp.new.self c.commit-commit.ensures.number c.stamp.ensures) c.commit-commit.ensures.made
+    stored_committed own c.args.call c.reserve.new.self c.commit-commit.new.self c.stamp.new.self (c.in_ok-told.ensures.ok.stamped c.commit-commit.result c.stamp.new.self c.commit-commit.ensures.number c.stamp.ensures) c.commit-commit.ensures.made

@@ -3,7 +3,7 @@ use Rattle.mv_journal.specs.declared.event.Event.TheVariants.{G}
 use Rattle.mv_store.specs.Changes.{HasRaised}
 use Rattle.mv_core.proofs.Changed.{made_after}
 use Rattle.mv_core.proofs.Stored.{stored_same, stored_raised}
-use Rattle.mv_core.proofs.tasks.collect_versions.Goals as goal
+use Rattle.mv_core.proofs.commits.collect_versions.Goals as goal
 
 pub raise-requires : goal.raise-requires
 raise-requires c =

@@ -4,7 +4,7 @@ use Rattle.mv_lawful.specs.Lawful.{Course}
 use Rattle.mv_core.specs.Calls.{IsLiveCall}
 use Rattle.mv_core.proofs.Stored.{stored_same, last_records, last_records_on}
 use Rattle.mv_core.proofs.Changed.{on_new, allowed_same, committed_after}
-use Rattle.mv_core.proofs.tasks.settle_and_commit.Goals as goal
+use Rattle.mv_core.proofs.commits.settle_and_commit.Goals as goal
 
 pub commit_task-requires-clause-stored : goal.commit_task-requires-clause-stored
 commit_task-requires-clause-stored c = stored_same c.args.book.now c.settle.new.self c.args.store.now c.requires.stored c.settle.ensures.same
@@ -21,7 +21,7 @@ commit_task-requires-clause-allowed c = allowed_same (C c.args.call) c.args.book
 pub commit_task-requires-clause-whole : goal.commit_task-requires-clause-whole
 commit_task-requires-clause-whole c =
     last_records_on c.args.book.now c.settle.new.self c.args.call c.args.task.now.log.records c.settle.ensures.same.script (ap (λ (s : Course). s.order) c.settle.ensures.same.course)
-    (last_records c.args.book.now c.args.store.now c.args.call c.args.task.now.log.records c.requires.stored c.requires.number c.requires.live c.requires.whole c.requires.allowed)
+    (last_records c.args.book.now c.args.call c.args.task.now.log.records c.requires.stored.script c.requires.number c.requires.live c.requires.whole c.requires.allowed)
 
 pub returns-clause-made : goal.returns-clause-made
 returns-clause-made c = committed_after (C c.args.call) c.commit_task.result c.args.book.now c.settle.new.self c.commit_task.new.book c.settle.ensures.same c.commit_task.ensures.made

@@ -9,15 +9,12 @@ use Rattle.mv_core.proofs.Stored.{stored_same, stored_committed, stamped_on, las
 use Rattle.mv_core.proofs.Given.{some_then, none_then}
 use Rattle.mv_core.proofs.Moving.{live_moved, due_moved, moved_free, still_alone}
 use Rattle.mv_core.proofs.Changed.{live_now, made_after, made_before, due_made, room_less}
-use Rattle.mv_core.proofs.tasks.move_and_commit.Goals as goal
-
-pub whole_task-requires-clause-fresh : goal.whole_task-requires-clause-fresh
-whole_task-requires-clause-fresh c = let n = c.commits.ensures in let below = c.requires.stored.below in omega (arith, n, below)
+use Rattle.mv_core.proofs.commits.move_and_commit.Goals as goal
 
 pub prepare-requires-clause-whole : goal.prepare-requires-clause-whole
 prepare-requires-clause-whole c =
     last_records_on c.args.book.now c.reserve.new.self c.args.call c.records.result c.reserve.ensures.same.script (ap (λ (s : Course). s.order) c.reserve.ensures.same.course)
-    (c.records.ensures ∙ (c.in_ok-task.ensures.records ∙ ap (λ n. records_at (work_in c.args.book.now) c.args.book.now.course.order n c.args.call) c.commits.ensures))
+    (c.records.ensures ∙ c.in_ok-task.ensures.records)
 
 pub restart-requires-clause-room : goal.restart-requires-clause-room
 restart-requires-clause-room c = room_less c.reserve.new.self c.args.call 2 1 (omega arith) c.in_ok-reserve.ensures.room
@@ -32,7 +29,7 @@ settle-requires-clause-number c none =
     let live = live_now c.args.book.now c.args.book.now c.reserve.new.self c.args.call refl c.requires.live c.reserve.ensures.same in
     let same : records_at (work_in c.reserve.new.self) c.reserve.new.self.course.order (length c.reserve.new.self.course.order) c.args.call ≡ c.in_ok-task.task.log.records =
     sym (last_records_on c.args.book.now c.reserve.new.self c.args.call c.in_ok-task.task.log.records c.reserve.ensures.same.script (ap (λ (s : Course). s.order) c.reserve.ensures.same.course)
-    (c.in_ok-task.ensures.records ∙ ap (λ n. records_at (work_in c.args.book.now) c.args.book.now.course.order n c.args.call) c.commits.ensures)) in
+    c.in_ok-task.ensures.records) in
     due_made Moved c.reserve.new.self c.restart.new.self c.args.call c.in_ok-task.task.executed c.restart.ensures.made
     (due_moved c.reserve.new.self c.args.call live.0 live.1 ∙ ap Some (ap length same ∙ sym c.in_ok-task.ensures.executed))
 
@@ -43,25 +40,25 @@ commit-commit-requires-clause-allowed c =
 
 pub commit-commit-requires-clause-reply : goal.commit-commit-requires-clause-reply
 commit-commit-requires-clause-reply c =
-    c.in_ok-prepared.ensures.reply
+    c.in_ok-told.ensures.reply
     ∙ sym (ap (λ (r : Run). r.reply) (last_run_on c.reserve.new.self c.settle.new.self c.args.call (made_before (M c.args.call) c.reserve.new.self c.restart.new.self c.settle.new.self c.restart.ensures.made c.settle.ensures.same).script (ap (λ (s : Course). s.order) (made_before (M c.args.call) c.reserve.new.self c.restart.new.self c.settle.new.self c.restart.ensures.made c.settle.ensures.same).course)))
 
 pub commit-commit-requires-clause-changes : goal.commit-commit-requires-clause-changes
 commit-commit-requires-clause-changes c =
-    some_then c.in_ok-prepared.prepared.changes c.in_ok-prepared.ensures.changes
+    some_then c.in_ok-told.told.changes c.in_ok-told.ensures.changes
     (λ told is. is ∙ sym (last_changes_on c.reserve.new.self c.settle.new.self c.args.call (made_before (M c.args.call) c.reserve.new.self c.restart.new.self c.settle.new.self c.restart.ensures.made c.settle.ensures.same).script (ap (λ (s : Course). s.order) (made_before (M c.args.call) c.reserve.new.self c.restart.new.self c.settle.new.self c.restart.ensures.made c.settle.ensures.same).course)))
 
 pub commit-commit-requires-clause-alone : goal.commit-commit-requires-clause-alone
 commit-commit-requires-clause-alone c =
     let live = live_now c.args.book.now c.args.book.now c.reserve.new.self c.args.call refl c.requires.live c.reserve.ensures.same in
-    none_then c.in_ok-prepared.prepared.changes c.in_ok-prepared.ensures.alone (still_alone c.args.call c.reserve.new.self c.settle.new.self live.0 live.1 (made_before (M c.args.call) c.reserve.new.self c.restart.new.self c.settle.new.self c.restart.ensures.made c.settle.ensures.same))
+    none_then c.in_ok-told.told.changes c.in_ok-told.ensures.alone (still_alone c.args.call c.reserve.new.self c.settle.new.self live.0 live.1 (made_before (M c.args.call) c.reserve.new.self c.restart.new.self c.settle.new.self c.restart.ensures.made c.settle.ensures.same))
 
 pub commit-commit-requires-clause-room : goal.commit-commit-requires-clause-room
 commit-commit-requires-clause-room c = c.settle.ensures.room c.args.call 1 (c.restart.ensures.room c.args.call 1 c.in_ok-reserve.ensures.room)
 
 pub stamp-requires : goal.stamp-requires
 stamp-requires c =
-    let last = c.in_ok-prepared.ensures.ok.last in
+    let last = c.in_ok-told.ensures.ok.last in
     let number = c.commit-commit.ensures.number in
     let same = ap (λ (s : Course). length s.order) (made_before (M c.args.call) c.reserve.new.self c.restart.new.self c.settle.new.self c.restart.ensures.made c.settle.ensures.same).course in
     omega (arith, last, number, same)
@@ -76,6 +73,6 @@ returns-clause-stored c =
     let course : c.settle.new.self.course ≡ after (work_in c.reserve.new.self) c.reserve.new.self.course (M c.args.call) = (made_before (M c.args.call) c.reserve.new.self c.restart.new.self c.settle.new.self c.restart.ensures.made c.settle.ensures.same).course in
     stored_committed None c.args.call c.settle.new.self c.commit-commit.new.self c.stamp.new.self
     (stamped_on c.reserve.new.self c.settle.new.self c.args.call c.stamp.new.self
-    (c.in_ok-prepared.ensures.ok.stamped c.commit-commit.result c.stamp.new.self (c.commit-commit.ensures.number ∙ ap (λ (s : Course). length s.order + 1) course) c.stamp.ensures)
+    (c.in_ok-told.ensures.ok.stamped c.commit-commit.result c.stamp.new.self (c.commit-commit.ensures.number ∙ ap (λ (s : Course). length s.order + 1) course) c.stamp.ensures)
     (made_before (M c.args.call) c.reserve.new.self c.restart.new.self c.settle.new.self c.restart.ensures.made c.settle.ensures.same).script (ap (λ (s : Course). s.order) course) (ap (λ (s : Course). s.low) course))
     c.commit-commit.ensures.made

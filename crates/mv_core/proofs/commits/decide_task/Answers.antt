@@ -11,29 +11,32 @@ use Rattle.mv_core.specs.Cores.{IsLiveTask, IsRepaired, HasTurns}
 use Rattle.mv_core.proofs.Stored.{stored_same}
 use Rattle.mv_core.proofs.Taking.{due_live, due_now, task_runs, task_back, task_given}
 use Rattle.mv_core.proofs.Changed.{on_new, on_old, running_same, allowed_same, due_decided, committed_after}
-use Rattle.mv_core.proofs.tasks.decide_task.Goals as goal
+use Rattle.mv_core.proofs.commits.decide_task.Goals as goal
 
-pub repair_task-requires-clause-call : goal.repair_task-requires-clause-call
-repair_task-requires-clause-call c =
-    running_same c.args.book.now c.settle.new.self c.args.store.now c.args.call c.args.running.now c.settle.ensures.same c.requires.call
+pub repair_last-requires-clause-stored : goal.repair_last-requires-clause-stored
+repair_last-requires-clause-stored c = stored_same c.args.book.now c.settle.new.self c.args.store.now c.requires.stored c.settle.ensures.same
 
-pub repair_task-requires-clause-fresh : goal.repair_task-requires-clause-fresh
-repair_task-requires-clause-fresh c = on_new (λ s x. (l : Live) → IsLive x c.args.call l → is_stale x l ≡ false) c.args.book.now c.settle.new.self c.settle.ensures.same c.requires.fresh
+pub repair_last-requires-clause-call : goal.repair_last-requires-clause-call
+repair_last-requires-clause-call c =
+    running_same c.args.book.now c.settle.new.self c.args.call c.args.running.now c.settle.ensures.same c.requires.call
 
-pub repair_task-requires-clause-whole : goal.repair_task-requires-clause-whole
-repair_task-requires-clause-whole c =
+pub repair_last-requires-clause-fresh : goal.repair_last-requires-clause-fresh
+repair_last-requires-clause-fresh c = on_new (λ s x. (l : Live) → IsLive x c.args.call l → is_stale x l ≡ false) c.args.book.now c.settle.new.self c.settle.ensures.same c.requires.fresh
+
+pub repair_last-requires-clause-whole : goal.repair_last-requires-clause-whole
+repair_last-requires-clause-whole c =
     on_new (λ s x. (l : Live) → IsLive x c.args.call l → c.args.running.now.task.log.records ≡ records_at (work_of s) x.order l.start c.args.call) c.args.book.now c.settle.new.self c.settle.ensures.same c.requires.whole
 
-pub returns-in_err-repair_task-clause-stored : goal.returns-in_err-repair_task-clause-stored
-returns-in_err-repair_task-clause-stored c = stored_same c.args.book.now c.settle.new.self c.args.store.now c.requires.call.stored c.settle.ensures.same
+pub returns-in_err-repair_last-clause-stored : goal.returns-in_err-repair_last-clause-stored
+returns-in_err-repair_last-clause-stored c = stored_same c.args.book.now c.settle.new.self c.args.store.now c.requires.stored c.settle.ensures.same
 
-pub returns-in_err-repair_task-clause-task : goal.returns-in_err-repair_task-clause-task
-returns-in_err-repair_task-clause-task c =
+pub returns-in_err-repair_last-clause-task : goal.returns-in_err-repair_last-clause-task
+returns-in_err-repair_last-clause-task c =
     always_err _ _
-    (on_old (λ s x. (l : Live) → IsLive x c.args.call l → IsLiveTask s x.order c.args.call l c.repair_task.new.running) c.args.book.now c.settle.new.self c.settle.ensures.same c.in_err-repair_task.ensures.err)
+    (on_old (λ s x. (l : Live) → IsLive x c.args.call l → IsLiveTask s x.order c.args.call l c.repair_last.new.running) c.args.book.now c.settle.new.self c.settle.ensures.same c.in_err-repair_last.ensures.err)
 
 pub commit_task-committed-requires-clause-stored : goal.commit_task-committed-requires-clause-stored
-commit_task-committed-requires-clause-stored c = stored_same c.args.book.now c.settle.new.self c.args.store.now c.requires.call.stored c.settle.ensures.same
+commit_task-committed-requires-clause-stored c = stored_same c.args.book.now c.settle.new.self c.args.store.now c.requires.stored c.settle.ensures.same
 
 pub commit_task-committed-requires-clause-live : goal.commit_task-committed-requires-clause-live
 commit_task-committed-requires-clause-live c = on_new (λ s x. IsLiveCall x c.args.call) c.args.book.now c.settle.new.self c.settle.ensures.same c.requires.call.live
@@ -47,22 +50,22 @@ commit_task-committed-requires-clause-allowed c = allowed_same (X c.args.call) c
 pub commit_task-committed-requires-clause-whole : goal.commit_task-committed-requires-clause-whole
 commit_task-committed-requires-clause-whole c =
     let live = on_new (λ s x. IsLiveCall x c.args.call) c.args.book.now c.settle.new.self c.settle.ensures.same c.requires.call.live in
-    (c.in_ok-repair_task.ensures.ok live.0 live.1).records
+    (c.in_ok-repair_last.ensures.ok live.0 live.1).records
 
 pub commit_task-committed-requires-clause-own : goal.commit_task-committed-requires-clause-own
 commit_task-committed-requires-clause-own c =
     let live = on_new (λ s x. IsLiveCall x c.args.call) c.args.book.now c.settle.new.self c.settle.ensures.same c.requires.call.live in
     let turns =
     on_new (λ s x. (l : Live) → IsLive x c.args.call l → HasTurns (length x.order) l) c.args.book.now c.settle.new.self c.settle.ensures.same (λ l at. (c.requires.call.task l at).turns) in
-    due_decided c.settle.new.self c.args.call live.0 live.1 (turns live.0 live.1) ∙ ap Some (sym (c.in_ok-repair_task.ensures.ok live.0 live.1).executed)
+    due_decided c.settle.new.self c.args.call live.0 live.1 (turns live.0 live.1) ∙ ap Some (sym (c.in_ok-repair_last.ensures.ok live.0 live.1).executed)
 
 pub returns-then-is_err-clause-task : goal.returns-then-is_err-clause-task
 returns-then-is_err-clause-task c = always_err c.commit_task-committed.result _ (λ l live.
     let due = due_now c.args.book.now c.args.call c.number-number.result c.args.running.now c.requires.call.live c.requires.call.task c.requires.whole c.number-number.ensures in
-    let repaired = on_old (λ s x. (m : Live) → IsLive x c.args.call m → IsRepaired s x.order c.args.call m c.repair_task.new.running) c.args.book.now c.settle.new.self c.settle.ensures.same c.in_ok-repair_task.ensures.ok in
+    let repaired = on_old (λ s x. (m : Live) → IsLive x c.args.call m → IsRepaired s x.order c.args.call m c.repair_last.new.running) c.args.book.now c.settle.new.self c.settle.ensures.same c.in_ok-repair_last.ensures.ok in
     task_given c.args.book.now.script c.args.book.now.course.order c.args.call c.number-number.result l c.spend.new.self (c.requires.call.task l live).turns
     (sym (due_live (work_in c.args.book.now) c.args.book.now.course c.args.call l live) ∙ due) c.spend.ensures.count c.spend.ensures.executed
-    (task_back c.args.book.now.script c.args.call _ c.repair_task.new.running.task c.spend.new.self.task (task_runs c.args.book.now.script c.args.call _ c.repair_task.new.running.task (repaired l live).runs) c.spend.ensures.begins))
+    (task_back c.args.book.now.script c.args.call _ c.repair_last.new.running.task c.spend.new.self.task (task_runs c.args.book.now.script c.args.call _ c.repair_last.new.running.task (repaired l live).runs) c.spend.ensures.begins))
 
 pub returns-then-is_err-clause-made : goal.returns-then-is_err-clause-made
 returns-then-is_err-clause-made c = committed_after (X c.args.call) c.commit_task-committed.result c.args.book.now c.settle.new.self c.commit_task-committed.new.book c.settle.ensures.same c.commit_task-committed.ensures.made
