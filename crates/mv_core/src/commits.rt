@@ -14,6 +14,7 @@ ghost use Rattle.mv_core.specs.Cores.{RunsOn, IsStoreOf, IsTaskIn, IsRunningIn, 
 
 use crate::book::{Book, Check};
 use crate::fresh::no_memory;
+use crate::spare::Spare;
 use crate::tasks::{Running, Told, move_task, repair_task, tell, validate_task, whole_task};
 use crate::told::put_told;
 use mv_exec::task::Task;
@@ -47,23 +48,36 @@ pub(crate) fn check_task(
     }
 }
 
-/// Runs a call whole on the last tables of the store. Returns its task. Fails with `NoMemory` if memory runs out.
-fn run_last(alloc: Global, book: &Book, store: &Store, call: u32) -> Result<Task, NoMemory>
+/// Runs a call whole on the last tables of the store. Returns its task, which has the spare log. Fails with `NoMemory` if
+/// memory runs out.
+fn run_last(
+    alloc: Global,
+    book: &Book,
+    store: &Store,
+    call: u32,
+    spare: &mut Spare,
+) -> Result<Task, NoMemory>
     requires stored { IsStoreOf book.now store.now }
     requires number { call < length book.now.script.calls }
     ensures records { IfOk result (λ task. AreLastOf book.now call task.log.records) }
     ensures executed { IfOk result (λ task. task.executed ≡ length task.log.records) }
 {
     let mut view = StoreView::new(store, book.commits());
-    match whole_task(alloc, book.script(), call, &mut view) {
+    match whole_task(alloc, book.script(), call, &mut view, spare) {
         Ok(task) => Ok(task),
         Err(why) => Err(no_memory(why)),
     }
 }
 
 /// Event M of a live call: it starts anew after all commits, and is run whole on the last tables of the store. Returns its
-/// task. If memory runs out, the call hasn't moved.
-pub fn move_last(alloc: Global, book: &mut Book, store: &Store, call: u32) -> Result<Task, NoMemory>
+/// task, which has the spare log. If memory runs out, the call hasn't moved.
+pub fn move_last(
+    alloc: Global,
+    book: &mut Book,
+    store: &Store,
+    call: u32,
+    spare: &mut Spare,
+) -> Result<Task, NoMemory>
     requires stored { IsStoreOf book.old store.now }
     requires live { IsLiveCall book.old.course call }
     requires number { call < length book.old.script.calls }
@@ -75,7 +89,7 @@ pub fn move_last(alloc: Global, book: &mut Book, store: &Store, call: u32) -> Re
     ensures same { OnErr result (IsSame book.old book.new) }
 {
     let mut view = StoreView::new(store, book.commits());
-    match move_task(alloc, book, &mut view, call) {
+    match move_task(alloc, book, &mut view, call, spare) {
         Ok(task) => Ok(task),
         Err(why) => Err(no_memory(why)),
     }
@@ -202,13 +216,15 @@ pub fn settle_and_commit(
     commit_task(alloc, book, store, call, task, None)
 }
 
-/// Moves a live call, and commits it in the same step. It runs the call whole on the tables after all commits. Returns
-/// the number of the commit. If memory runs out, the call has neither moved nor committed.
+/// Moves a live call, and commits it in the same step. It runs the call whole on the tables after all commits, with the
+/// spare log, and keeps that log. Returns the number of the commit. If memory runs out, the call has neither moved nor
+/// committed.
 pub fn move_and_commit(
     alloc: Global,
     book: &mut Book,
     store: &mut Store,
     call: u32,
+    spare: &mut Spare,
 ) -> Result<u32, NoMemory>
     requires stored { IsStoreOf book.old store.old }
     requires live { IsLiveCall book.old.course call }
@@ -216,13 +232,14 @@ pub fn move_and_commit(
     ensures made { HasMovedAndCommitted call result book.old book.new }
     ensures stored { IsStoreOf book.new store.new }
 {
-    let task = run_last(alloc, book, store, call)?;
+    let task = run_last(alloc, book, store, call, spare)?;
     book.reserve(call)?;
     let told = prepare(alloc, book, store, call, &task.records())?;
     book.restart(call, Mark::Moved);
     book.settle(call, &task);
     let commit = book.commit(call, told.reply, told.changes, None);
     store.stamp(call, commit);
+    spare.keep(task);
     Ok(commit)
 }
 

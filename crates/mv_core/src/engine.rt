@@ -1,6 +1,6 @@
 //! A history with its tables and its running calls.
 
-ghost use Rattle.std.specs.Prelude.{◌≡◌, ◌<◌, ◌≤◌, [], ◌==◌, ◌&&◌, not, nat_lt, length, None, IfOk, IfErr, IfSome, IfNone, OnOk};
+ghost use Rattle.std.specs.Prelude.{◌≡◌, ◌<◌, ◌≤◌, [], ◌==◌, ◌&&◌, not, nat_lt, length, slice_set, None, IfOk, IfErr, IfSome, IfNone, OnOk};
 ghost use Rattle.mv_journal.specs.declared.event.Event.TheVariants.{A, X};
 ghost use Rattle.mv_lawful.specs.Lawful.{Live, Lawful, beginning, course_of, has_step, has_round, open_call, AllAllowed};
 ghost use Rattle.mv_lawful.specs.Outcomes.{outcome_of};
@@ -14,6 +14,7 @@ use crate::book::{Book, Check};
 use crate::commits::{
     check_task, collect_versions, decide_task, move_last, outcome_of, settle_and_commit,
 };
+use crate::spare::Spare;
 use crate::tasks::{Running, finish_task, has_step, new_task, rerun_task, step_task};
 use mv_exec::step::Stepped;
 use mv_journal::event::Event;
@@ -26,6 +27,7 @@ use mv_values::memory::NoMemory;
 use mv_view::view::Refused;
 use std::alloc::Global;
 use std::marker::Model;
+use std::mem;
 
 /// What a call's attempt to commit comes to.
 #[derive(Clone, Copy)]
@@ -46,6 +48,7 @@ pub struct Core {
     store: Store,
     /// The tasks of the calls that have begun, by number. A call that has committed has none.
     tasks: Vec<Option<Running>>,
+    spare: Spare,
 }
 
 impl Model for Core {
@@ -76,6 +79,7 @@ impl Core {
             book: Book::new(alloc, script),
             store,
             tasks: Vec::new(alloc),
+            spare: Spare::new(),
         })
     }
 
@@ -88,7 +92,7 @@ impl Core {
         let Some(call) = self.book.next_call() else {
             return Ok(None);
         };
-        let task = new_task(alloc, self.book.script(), call)?;
+        let task = new_task(alloc, self.book.script(), call, &mut self.spare)?;
         self.tasks.push(Some(Running { task, count: None }))?;
         match self.book.begin(alloc) {
             Ok(Some(begun)) => Ok(Some(begun.call)),
@@ -152,7 +156,7 @@ impl Core {
             Check::Free => {
                 let task = &running.task;
                 let commit = settle_and_commit(alloc, &mut self.book, &mut self.store, call, task)?;
-                self.tasks[call as usize] = None;
+                set_task(&mut self.tasks, call, None, &mut self.spare);
                 Ok(Attempt::Committed(commit))
             }
             Check::Hit { number, commit } => Ok(Attempt::Hit { number, commit }),
@@ -210,7 +214,7 @@ impl Core {
         let mut view = StoreView::new(&self.store, self.book.start(call));
         finish_task(alloc, &self.book, &mut view, call, running)?;
         let commit = decide_task(alloc, &mut self.book, &mut self.store, call, running)?;
-        self.tasks[call as usize] = None;
+        set_task(&mut self.tasks, call, None, &mut self.spare);
         Ok(commit)
     }
 
@@ -222,9 +226,10 @@ impl Core {
         ensures whole { OnOk result (HasAllRecords self.new call) }
         ensures others { KeepsOtherTasks call self.old self.new }
     {
-        let task = move_last(alloc, &mut self.book, &self.store, call)?;
+        let task = move_last(alloc, &mut self.book, &self.store, call, &mut self.spare)?;
         let executed = task.executed();
-        self.tasks[call as usize] = Some(Running { task, count: None });
+        let running = Running { task, count: None };
+        set_task(&mut self.tasks, call, Some(running), &mut self.spare);
         Ok(executed)
     }
 
@@ -370,4 +375,19 @@ fn stepped_of(more: bool) -> Stepped
     ensures { result ≡ stepped (not more) }
 {
     if more { Stepped::Ran } else { Stepped::Ended }
+}
+
+/// Puts this in place of the task of a call, whose log becomes the spare one.
+fn set_task(
+    tasks: &mut Vec<Option<Running>>,
+    call: u32,
+    running: Option<Running>,
+    spare: &mut Spare,
+)
+    requires { call < length tasks.old.items }
+    ensures { tasks.new.items ≡ slice_set tasks.old.items call running }
+{
+    if let Some(before) = mem::replace(&mut tasks[call as usize], running) {
+        spare.keep(before.task);
+    }
 }

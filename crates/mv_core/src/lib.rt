@@ -12,5 +12,6 @@ mod progress;
 mod roomy;
 pub mod running;
 pub mod runs;
+pub mod spare;
 pub mod tasks;
 pub mod told;

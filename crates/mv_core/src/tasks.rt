@@ -20,11 +20,11 @@ ghost use Rattle.mv_core.specs.Cores.{RunsOn, IsDatabaseIn, IsTaskIn, IsRunningI
 
 use crate::book::{Book, Check};
 use crate::running::{find_call, has_more, repair_over, run_all, run_next};
+use crate::spare::Spare;
 use crate::told::{changes_told, reply_of};
 use mv_changes::changes::Changes;
 use mv_exec::task::Task;
 use mv_journal::outcome::Mark;
-use mv_log::log::Log;
 use mv_log::records::Records;
 use mv_script::script::Script;
 use mv_values::calls::Reply;
@@ -76,9 +76,14 @@ impl Running {
     }
 }
 
-/// Returns a call of the script before its first statement. It copies the arguments. Fails with `NoMemory` if memory runs
-/// out.
-pub fn new_task(alloc: Global, script: &Script, number: u32) -> Result<Task, NoMemory>
+/// Returns a call of the script before its first statement, with the spare log. It copies the arguments. Fails with
+/// `NoMemory` if memory runs out.
+pub fn new_task(
+    alloc: Global,
+    script: &Script,
+    number: u32,
+    spare: &mut Spare,
+) -> Result<Task, NoMemory>
     requires script { IsScript script.now }
     requires number { number < length script.now.calls }
     ensures runs { IfOk result (λ task. (db : Tables) → RunsOn script.now number db task) }
@@ -86,7 +91,7 @@ pub fn new_task(alloc: Global, script: &Script, number: u32) -> Result<Task, NoM
     ensures executed { IfOk result (λ task. task.executed ≡ 0) }
 {
     let at = find_call(script, number);
-    let log = Log::new(alloc);
+    let log = spare.take(alloc);
     Task::new(alloc, at.graph, at.call, log)
 }
 
@@ -241,13 +246,14 @@ pub fn rerun_task<V: View>(
     Ok(running.task.executed())
 }
 
-/// Runs a call of the script whole over a view. Returns its task. Fails with `NoMemory` if memory runs out, and with
-/// `Stale` if the view reports it.
+/// Runs a call of the script whole over a view. Returns its task, which has the spare log. Fails with `NoMemory` if
+/// memory runs out, and with `Stale` if the view reports it.
 pub fn whole_task<V: View>(
     alloc: Global,
     script: &Script,
     number: u32,
     view: &mut V,
+    spare: &mut Spare,
 ) -> Result<Task, Refused>
     requires script { IsScript script.now }
     requires number { number < length script.now.calls }
@@ -257,19 +263,20 @@ pub fn whole_task<V: View>(
     ensures executed { IfOk result (λ task. task.executed ≡ length task.log.records) }
     ensures view { OnlyAsks (V.sight view.old) (V.sight view.new) result }
 {
-    let mut task = new_task(alloc, script, number)?;
+    let mut task = new_task(alloc, script, number, spare)?;
     run_all(alloc, script, number, &mut task, view)?;
     Ok(task)
 }
 
 /// Event M of a live call: it starts anew after all commits, and is run whole over a view that shows the tables there.
-/// Returns its task. Fails with `NoMemory` if memory runs out, and with `Stale` if the view reports it. Then the call
-/// hasn't moved.
+/// Returns its task, which has the spare log. Fails with `NoMemory` if memory runs out, and with `Stale` if the view
+/// reports it. Then the call hasn't moved.
 pub fn move_task<V: View>(
     alloc: Global,
     book: &mut Book,
     view: &mut V,
     call: u32,
+    spare: &mut Spare,
 ) -> Result<Task, Refused>
     requires script { IsScript book.old.script }
     requires shows { ShowsLast book.old (V.sight view.old) }
@@ -283,7 +290,7 @@ pub fn move_task<V: View>(
     ensures same { OnErr result (IsSame book.old book.new) }
     ensures view { OnlyAsks (V.sight view.old) (V.sight view.new) result }
 {
-    let task = whole_task(alloc, book.script(), call, view)?;
+    let task = whole_task(alloc, book.script(), call, view, spare)?;
     book.reserve(call)?;
     book.restart(call, Mark::Moved);
     book.settle(call, &task);

@@ -22,6 +22,7 @@ use mv_core::commits::{
     collect_versions, decide_task, move_and_commit, move_last, outcome_of, settle_and_commit,
 };
 use mv_core::fresh::no_memory;
+use mv_core::spare::Spare;
 use mv_core::tasks::{Running, finish_task, has_step, new_task, rerun_task, step_task, whole_task};
 use mv_journal::outcome::Outcome;
 use mv_script::script::Script;
@@ -32,6 +33,7 @@ use mv_store::view::StoreView;
 use mv_values::memory::NoMemory;
 use std::alloc::Global;
 use std::marker::Model;
+use std::mem;
 
 /// The history of a run, its tables, and the gate's pass. Contracts see the history.
 #[derive(Drop)]
@@ -71,15 +73,21 @@ impl<N: Making> Desk<N> {
         Ok(Desk { book, store, pass })
     }
 
-    /// Event B. Begins the next call, after all commits, and hands it out. It copies the call's arguments. Returns `None`
-    /// exactly if each call has begun. Fails with `NoMemory` if memory runs out. Then the call hasn't begun.
-    pub fn begin(&mut self, alloc: Global, board: &Board<N>) -> Result<Option<Held<N>>, NoMemory>
+    /// Event B. Begins the next call, after all commits, and hands it out with the spare log. It copies the call's
+    /// arguments. Returns `None` exactly if each call has begun. Fails with `NoMemory` if memory runs out. Then the call
+    /// hasn't begun.
+    pub fn begin(
+        &mut self,
+        alloc: Global,
+        board: &Board<N>,
+        spare: &mut Spare,
+    ) -> Result<Option<Held<N>>, NoMemory>
         ensures { HandsOut result self.old self.new }
     {
         let Some(call) = self.book.next_call() else {
             return Ok(None);
         };
-        let task = new_task(alloc, self.book.script(), call)?;
+        let task = new_task(alloc, self.book.script(), call, spare)?;
         let Some(begun) = self.book.begin(alloc)? else {
             unreachable!();
         };
@@ -224,8 +232,9 @@ impl<N: Making> Desk<N> {
         Ok(commit)
     }
 
-    /// Event M of a call whose start is below low. Runs it whole on the tables after all commits, and returns its task.
-    fn move_up(&mut self, alloc: Global, call: u32) -> Result<Running, NoMemory>
+    /// Event M of a call whose start is below low. Runs it whole on the tables after all commits, and returns its task,
+    /// which has the spare log.
+    fn move_up(&mut self, alloc: Global, call: u32, spare: &mut Spare) -> Result<Running, NoMemory>
         requires call { IsLate self.old call }
         requires left { HasRound true self.old call }
         ensures ok { OnOk result (Made (M call) self.old self.new) }
@@ -233,7 +242,7 @@ impl<N: Making> Desk<N> {
         ensures err { OnErr result (IsSame self.old self.new) }
     {
         let _events = self.book.journal();
-        let task = move_last(alloc, &mut self.book, &self.store, call)?;
+        let task = move_last(alloc, &mut self.book, &self.store, call, spare)?;
         Ok(Running { task, count: None })
     }
 
@@ -244,12 +253,13 @@ impl<N: Making> Desk<N> {
         alloc: Global,
         board: &Board<N>,
         call: u32,
+        spare: &mut Spare,
     ) -> Result<u32, NoMemory>
         requires { IsLate self.old call }
         ensures { HasMovedAndCommitted call result self.old self.new }
     {
         let _events = self.book.journal();
-        let commit = move_and_commit(alloc, &mut self.book, &mut self.store, call)?;
+        let commit = move_and_commit(alloc, &mut self.book, &mut self.store, call, spare)?;
         self.pass.append(board, call);
         Ok(commit)
     }
@@ -262,12 +272,13 @@ impl<N: Making> Desk<N> {
         board: &Board<N>,
         call: u32,
         running: &mut Running,
+        spare: &mut Spare,
     ) -> Result<Answer, NoMemory>
         requires { IsUnderWay self.old call running.old }
         ensures { Meets call running.new result self.old self.new }
     {
         if self.book.is_stale(call) {
-            return self.meet_stale(alloc, board, call, running);
+            return self.meet_stale(alloc, board, call, running, spare);
         }
         self.decide(alloc, board, call, running)
     }
@@ -279,15 +290,18 @@ impl<N: Making> Desk<N> {
         board: &Board<N>,
         call: u32,
         running: &mut Running,
+        spare: &mut Spare,
     ) -> Result<Answer, NoMemory>
         requires { IsLate self.old call }
         ensures { Meets call running.new result self.old self.new }
     {
         if self.book.has_round(call) {
-            *running = self.move_up(alloc, call)?;
+            let moved = self.move_up(alloc, call, spare)?;
+            let before = mem::replace(running, moved);
+            spare.keep(before.task);
             return Ok(Answer::Moved);
         }
-        let commit = self.move_and_commit(alloc, board, call)?;
+        let commit = self.move_and_commit(alloc, board, call, spare)?;
         Ok(Answer::Committed(commit))
     }
 
@@ -346,12 +360,13 @@ impl<N: Making> Desk<N> {
     /// low and it has used its rounds. Before C, A and X it runs the rest of the call at its start. After a repair or a
     /// move the call is given back. It then starts anew after all commits. Returns `Lost`, and does nothing, only if the
     /// history doesn't have the call as its holder knows it. Fails with `NoMemory` if memory runs out. Then no event was
-    /// made, and the call is left to `commit_all_left`.
+    /// made, and the call is left to `commit_all_left`. Keeps the log of a call that has committed.
     pub fn attempt(
         &mut self,
         alloc: Global,
         board: &Board<N>,
         mut held: Held<N>,
+        spare: &mut Spare,
     ) -> Result<(Answer, Option<Held<N>>), NoMemory>
         ensures tried { Tries held.call (answer_in result) self.old self.new }
         ensures lost { IfOk result (λ r. r.0 ≡ Answer.Lost → IsKnown self.old held → ⊥) }
@@ -368,7 +383,7 @@ impl<N: Making> Desk<N> {
             pass,
             ..
         } = held;
-        match self.try_commit(alloc, board, call, &mut running)? {
+        match self.try_commit(alloc, board, call, &mut running, spare)? {
             Answer::Repaired => {
                 let repaired = self.give_back(board, call, Some(start), running, pass);
                 Ok((Answer::Repaired, Some(repaired)))
@@ -377,7 +392,10 @@ impl<N: Making> Desk<N> {
                 let moved = self.give_back(board, call, None, running, pass);
                 Ok((Answer::Moved, Some(moved)))
             }
-            answer => Ok((answer, None)),
+            answer => {
+                spare.keep(running.task);
+                Ok((answer, None))
+            }
         }
     }
 
@@ -424,8 +442,9 @@ impl<N: Making> Desk<N> {
         self.book.script().calls.len() as u32
     }
 
-    /// Runs a live call whole anew, at its start, which isn't below low. Fails with `NoMemory` if memory runs out.
-    fn renew(&self, alloc: Global, call: u32) -> Result<Running, NoMemory>
+    /// Runs a live call whole anew, at its start, which isn't below low, with the spare log. Fails with `NoMemory` if memory
+    /// runs out.
+    fn renew(&self, alloc: Global, call: u32, spare: &mut Spare) -> Result<Running, NoMemory>
         requires live { IsLiveCall self.now.course call }
         requires number { call < length self.now.script.calls }
         requires fresh { IsNotStale self.now call }
@@ -433,7 +452,7 @@ impl<N: Making> Desk<N> {
     {
         let start = self.book.start(call);
         let mut view = StoreView::new(&self.store, start);
-        match whole_task(alloc, self.book.script(), call, &mut view) {
+        match whole_task(alloc, self.book.script(), call, &mut view, spare) {
             Ok(task) => {
                 let count = Some(self.book.number(call, &task));
                 Ok(Running { task, count })
@@ -443,22 +462,30 @@ impl<N: Making> Desk<N> {
     }
 
     /// Commits a live call that no worker holds any more. If its start is below low, it moves first.
-    fn commit_left(&mut self, alloc: Global, board: &Board<N>, call: u32) -> Result<(), NoMemory>
+    fn commit_left(
+        &mut self,
+        alloc: Global,
+        board: &Board<N>,
+        call: u32,
+        spare: &mut Spare,
+    ) -> Result<(), NoMemory>
         requires live { IsLiveCall self.old.course call }
         requires number { call < length self.old.script.calls }
         ensures done { OnOk result (IsDone self.new.course call) }
         ensures kept { GoesOn self.old self.new }
     {
         if self.book.is_stale(call) {
-            self.move_and_commit(alloc, board, call)?;
+            self.move_and_commit(alloc, board, call, spare)?;
             return Ok(());
         }
-        let mut running = self.renew(alloc, call)?;
+        let mut running = self.renew(alloc, call, spare)?;
         let answer = self.decide(alloc, board, call, &mut running)?;
         let Answer::Repaired = answer else {
+            spare.keep(running.task);
             return Ok(());
         };
         self.commit(alloc, board, call, &running)?;
+        spare.keep(running.task);
         Ok(())
     }
 
@@ -480,7 +507,13 @@ impl<N: Making> Desk<N> {
     }
 
     /// Brings a call to its commit, if it hasn't committed. All calls before it have begun.
-    fn bring(&mut self, alloc: Global, board: &Board<N>, call: u32) -> Result<(), NoMemory>
+    fn bring(
+        &mut self,
+        alloc: Global,
+        board: &Board<N>,
+        call: u32,
+        spare: &mut Spare,
+    ) -> Result<(), NoMemory>
         requires begun { call ≤ length self.old.course.calls }
         requires there { call < length self.old.script.calls }
         ensures begun { OnOk result (call < length self.new.course.calls) }
@@ -491,7 +524,7 @@ impl<N: Making> Desk<N> {
         let Some(_) = self.book.rounds(call) else {
             return Ok(());
         };
-        self.commit_left(alloc, board, call)
+        self.commit_left(alloc, board, call, spare)
     }
 
     /// Begins the calls that haven't begun, and commits those that haven't committed, one after another. Fails with
@@ -500,8 +533,9 @@ impl<N: Making> Desk<N> {
         ensures ended { OnOk result (open_call (work_in self.new) self.new.course ≡ None) }
         ensures events { IsPrefix self.old.journal self.new.journal }
     {
+        let mut spare = Spare::new();
         for call in 0..self.calls() {
-            self.bring(alloc, board, call)?;
+            self.bring(alloc, board, call, &mut spare)?;
         }
         Ok(())
     }

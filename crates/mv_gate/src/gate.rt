@@ -12,6 +12,7 @@ use crate::desk::Desk;
 use crate::guarded::Guarded;
 use crate::held::Held;
 use crate::notes::note;
+use mv_core::spare::Spare;
 use mv_edge::pace::{Moment, Pace, Point};
 use mv_journal::outcome::Outcome;
 use mv_script::script::Script;
@@ -64,9 +65,14 @@ impl<N: Making> Gate<N> {
     }
 
     /// Event B, as one hold. Returns `None` too once a hold has found no memory.
-    fn begin<R: Wait>(&self, rt: &R, alloc: Global) -> Result<Option<Held<N>>, NoMemory> {
+    fn begin<R: Wait>(
+        &self,
+        rt: &R,
+        alloc: Global,
+        spare: &mut Spare,
+    ) -> Result<Option<Held<N>>, NoMemory> {
         let mut guarded = self.guarded.lock(rt);
-        guarded.begin(alloc, &self.board)
+        guarded.begin(alloc, &self.board, spare)
     }
 
     /// Event S, as one hold.
@@ -83,9 +89,10 @@ impl<N: Making> Gate<N> {
         rt: &R,
         alloc: Global,
         held: Held<N>,
+        spare: &mut Spare,
     ) -> Result<(Answer, Option<Held<N>>), NoMemory> {
         let mut guarded = self.guarded.lock(rt);
-        guarded.attempt(alloc, &self.board, held)
+        guarded.attempt(alloc, &self.board, held, spare)
     }
 
     /// Event G, as one hold, after each commit whose number is a multiple of `COLLECTION_INTERVAL`, unless a hold has found
@@ -138,6 +145,7 @@ fn run_call<N: Making, R: Threads + Wait + Sync, P: Pace>(
     alloc: Global,
     gate: &Gate<N>,
     mut held: Held<N>,
+    spare: &mut Spare,
     number: u32,
     pace: &P,
 ) -> Result<(), NoMemory> {
@@ -146,7 +154,7 @@ fn run_call<N: Making, R: Threads + Wait + Sync, P: Pace>(
     run_statements(rt, alloc, gate, &mut held, number, pace)?;
     for _ in rt.forever() {
         tell(rt, pace, number, call, Moment::Before);
-        let (answer, back) = gate.attempt(rt, alloc, held)?;
+        let (answer, back) = gate.attempt(rt, alloc, held, spare)?;
         if let Answer::Committed(commit) = answer {
             tell(rt, pace, number, call, Moment::Answered);
             gate.collect(rt, commit);
@@ -174,12 +182,13 @@ pub fn worker<N: Making, R: Threads + Wait + Sync, P: Pace>(
     ensures role { pass.new.role ≡ pass.old.role }
     ensures seen { IsPrefix pass.old.seen pass.new.seen }
 {
+    let mut spare = Spare::new();
     for _ in rt.forever() {
-        let Some(mut held) = gate.begin(rt, alloc)? else {
+        let Some(mut held) = gate.begin(rt, alloc, &mut spare)? else {
             return Ok(());
         };
         pass.meet(&gate.board, held.pass_for(&gate.board));
-        run_call(rt, alloc, gate, held, number, pace)?;
+        run_call(rt, alloc, gate, held, &mut spare, number, pace)?;
     }
     unreachable!()
 }

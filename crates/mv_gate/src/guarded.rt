@@ -8,6 +8,7 @@ ghost use Rattle.mv_gate.specs.Gates.{IsKnown, HandsOut, StepsOn, Tries, answer_
 use crate::answers::Answer;
 use crate::desk::Desk;
 use crate::held::Held;
+use mv_core::spare::Spare;
 use mv_seats::board::{Board, Making};
 use mv_values::memory::NoMemory;
 use std::alloc::Global;
@@ -36,6 +37,7 @@ impl<N: Making> Guarded<N> {
         &mut self,
         alloc: Global,
         board: &Board<N>,
+        spare: &mut Spare,
     ) -> Result<Option<Held<N>>, NoMemory>
         ensures begun { self.old.wants_memory ≡ false → HandsOut result self.old.desk self.new.desk }
         ensures over { self.old.wants_memory ≡ true → (result ≡ Ok None) × (self.new.desk ≡ self.old.desk) }
@@ -44,7 +46,7 @@ impl<N: Making> Guarded<N> {
         if self.wants_memory {
             return Ok(None);
         }
-        let begun = self.desk.begin(alloc, board);
+        let begun = self.desk.begin(alloc, board, spare);
         self.wants_memory = begun.is_err();
         begun
     }
@@ -77,13 +79,14 @@ impl<N: Making> Guarded<N> {
         alloc: Global,
         board: &Board<N>,
         held: Held<N>,
+        spare: &mut Spare,
     ) -> Result<(Answer, Option<Held<N>>), NoMemory>
         ensures tried { Tries held.call (answer_in result) self.old.desk self.new.desk }
         ensures lost { IfOk result (λ r. r.0 ≡ Answer.Lost → IsKnown self.old.desk held → ⊥) }
         ensures back { IfOk result (λ r. GivesBack held r.0 r.1 self.new.desk) }
         ensures mark { self.new.wants_memory ≡ marked result self.old.wants_memory }
     {
-        let tried = self.desk.attempt(alloc, board, held);
+        let tried = self.desk.attempt(alloc, board, held, spare);
         self.wants_memory = self.wants_memory || tried.is_err();
         tried
     }

@@ -1,4 +1,4 @@
-use Rattle.std.proofs.Common.{arith, length, refl, ap, ◌∙◌}
+use Rattle.std.proofs.Common.{arith, ◌+◌, length, refl, ap, ◌∙◌}
 use Rattle.mv_values.proofs.Deciding.{always_err}
 use Rattle.mv_core.proofs.Stored.{database_shown}
 use Rattle.mv_core.proofs.Taking.{runs_shown, runs_back, counts_same, counts_one, task_kept, task_ran, task_named, ran_one}

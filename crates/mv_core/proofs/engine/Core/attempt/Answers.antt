@@ -1,11 +1,12 @@
-use Rattle.std.proofs.Common.{rules, ◌<◌, ◌+◌, None, Ok, length, refl, ap, subst, ◌∙◌, Some}
+use Rattle.std.proofs.Common.{rules, ◌<◌, ◌+◌, List, Option, None, Ok, length, slice_get, refl, sym, ap, subst, ◌∙◌, Some}
 use Rattle.mv_journal.specs.declared.event.Event.TheVariants.{C}
 use Rattle.mv_core.proofs.Taking.{task_there, task_within, due_first, call_within, committed_on, running_in, core_set}
 use Rattle.mv_core.proofs.Numbered.{numbers_same, numbers_other}
 use Rattle.mv_core.proofs.Changed.{core_same, try_failed, live_in, free_told, hit_told, stale_told, same_self, book_in, tasks_in}
 use Rattle.mv_core.specs.declared.engine.Attempt.TheVariants as attempt
 use Rattle.mv_core.specs.Books.{Booked, Made, IsSame}
-use Rattle.mv_core.specs.Cores.{HasTried}
+use Rattle.mv_core.specs.Cores.{IsCore, HasTried}
+use Rattle.mv_core.specs.declared.tasks.Running.{Running}
 use Rattle.mv_core.proofs.Recorded.{others_set, others_twice, whole_set}
 use Rattle.mv_core.proofs.engine.Core.attempt.Goals as goal
 
@@ -45,8 +46,8 @@ invariant_of-self-in_err-commit-in-Free c =
     let same = c.in_err-commit-in-Free.ensures.made in
     record { stored = c.settle_and_commit.ensures.stored; numbers = numbers_same c.self.inside.book c.settle_and_commit.new.book same c.self.invariant.numbers; tasks = (core_same c.self.inside.book c.settle_and_commit.new.book c.self.inside.store _ k same).tasks }
 
-pub index_mut-requires-in-Free : goal.index_mut-requires-in-Free
-index_mut-requires-in-Free c =
+pub set_task-requires : goal.set_task-requires
+set_task-requires c =
     let lt : c.args.call < length c.self.inside.tasks.items = task_within c.self.inside.book.script c.self.inside.book.course c.self.inside.tasks.items c.args.call c.self.invariant.tasks (live_in c.self.inside.book c.args.self.now.book c.args.call (ap book_in c.self.view_is) c.requires) in
     search (rules, lt)
 
@@ -55,11 +56,11 @@ invariant_of-self-in-Free c =
     let live = live_in c.self.inside.book c.args.self.now.book c.args.call (ap book_in c.self.view_is) c.requires in
     let k = core_set c.self.inside.book c.self.inside.store c.self.inside.tasks.items c.args.call c.check_task.new.running c.self.invariant live c.check_task.ensures.task in
     let made = c.in_ok-commit-in-Free.ensures.made.0 in
-    record {
+    subst (λ (ts : List (Option Running)). IsCore c.settle_and_commit.new.book c.settle_and_commit.new.store ts) (sym c.set_task.ensures) (record {
       stored = c.settle_and_commit.ensures.stored;
       numbers = numbers_other (C c.args.call) c.self.inside.book c.settle_and_commit.new.book made (λ d. refl) c.self.invariant.numbers;
       tasks = committed_on None c.self.inside.book c.settle_and_commit.new.book _ c.args.call live.0 k.tasks live.1 made;
-    }
+    })
 
 pub invariant_of-self-in-Hit : goal.invariant_of-self-in-Hit
 invariant_of-self-in-Hit c = core_set c.self.inside.book c.self.inside.store c.self.inside.tasks.items c.args.call c.check_task.new.running c.self.invariant (live_in c.self.inside.book c.args.self.now.book c.args.call (ap book_in c.self.view_is) c.requires) c.check_task.ensures.task
@@ -97,7 +98,7 @@ pub returns-in_err-commit-in-Free-clause-others : goal.returns-in_err-commit-in-
 returns-in_err-commit-in-Free-clause-others c = others_set c.args.call c.self.inside.tasks.items (Some c.check_task.new.running) c.args.self.now (ap tasks_in c.self.view_is)
 
 pub returns-in_ok-commit-in-Free-clause-others : goal.returns-in_ok-commit-in-Free-clause-others
-returns-in_ok-commit-in-Free-clause-others c = others_twice c.args.call c.self.inside.tasks.items (Some c.check_task.new.running) None c.args.self.now (ap tasks_in c.self.view_is)
+returns-in_ok-commit-in-Free-clause-others c d ne = ap (λ (ts : List (Option Running)). slice_get ts d) c.set_task.ensures ∙ others_twice c.args.call c.self.inside.tasks.items (Some c.check_task.new.running) None c.args.self.now (ap tasks_in c.self.view_is) d ne
 
 pub returns-in-Hit-clause-others : goal.returns-in-Hit-clause-others
 returns-in-Hit-clause-others c = others_set c.args.call c.self.inside.tasks.items (Some c.check_task.new.running) c.args.self.now (ap tasks_in c.self.view_is)

@@ -1,9 +1,11 @@
-use Rattle.std.proofs.Common.{rules, ◌<◌, ◌+◌, length, ap, sym, subst, ◌∙◌, Some, None, refl}
+use Rattle.std.proofs.Common.{rules, ◌<◌, ◌+◌, List, Option, length, slice_get, ap, sym, subst, ◌∙◌, Some, None, refl}
 use Rattle.std.proofs.lemmas.Result.{err_from_is_err_and}
 use Rattle.mv_journal.specs.declared.event.Event.TheVariants.{X}
 use Rattle.std.specs.Prelude.{not}
 use Rattle.mv_lawful.specs.Lawful.{has_round}
 use Rattle.mv_core.specs.Books.{Booked, work_in, Made, IsSame, IsNotStale}
+use Rattle.mv_core.specs.Cores.{IsCore}
+use Rattle.mv_core.specs.declared.tasks.Running.{Running}
 use Rattle.mv_core.proofs.Taking.{task_there, task_within, tasks_set, tasks_same, decided_on, call_within, due_first, core_set, running_in}
 use Rattle.mv_core.proofs.Stored.{shows_start, fresh_start}
 use Rattle.mv_core.proofs.Refusing.{repairs_last}
@@ -60,19 +62,19 @@ invariant_of-self-in_err-commit c = record {
       (tasks_set c.self.inside.book.script c.self.inside.book.course c.self.inside.tasks.items c.args.call c.decide_task.new.running c.self.invariant.tasks (live_in c.self.inside.book c.args.self.now.book c.args.call (ap book_in c.self.view_is) c.requires.live) c.in_err-commit.ensures.task) c.in_err-commit.ensures.made.script c.in_err-commit.ensures.made.course;
 }
 
-pub index_mut-requires-2 : goal.index_mut-requires-2
-index_mut-requires-2 c =
+pub set_task-requires : goal.set_task-requires
+set_task-requires c =
     let lt : c.args.call < length c.self.inside.tasks.items = task_within c.self.inside.book.script c.self.inside.book.course c.self.inside.tasks.items c.args.call c.self.invariant.tasks (live_in c.self.inside.book c.args.self.now.book c.args.call (ap book_in c.self.view_is) c.requires.live) in
     search (rules, lt)
 
 pub invariant_of-self-2 : goal.invariant_of-self-2
 invariant_of-self-2 c =
     let live = live_in c.self.inside.book c.args.self.now.book c.args.call (ap book_in c.self.view_is) c.requires.live in
-    record {
+    subst (λ (ts : List (Option Running)). IsCore c.decide_task.new.book c.decide_task.new.store ts) (sym c.set_task.ensures) (record {
       stored = c.decide_task.ensures.stored;
       numbers = numbers_other (X c.args.call) c.self.inside.book c.decide_task.new.book c.in_ok-commit.ensures.made.0 (λ d. refl) c.self.invariant.numbers;
       tasks = decided_on c.self.inside.book c.decide_task.new.book c.self.inside.tasks.items c.args.call live.0 c.decide_task.new.running c.self.invariant.tasks live.1 c.in_ok-commit.ensures.made.0;
-    }
+    })
 
 pub returns-clause-made : goal.returns-clause-made
 returns-clause-made c = (subst (λ (b : Booked). Made (X c.args.call) b c.decide_task.new.book) (ap book_in c.self.view_is) c.in_ok-commit.ensures.made.0, c.in_ok-commit.ensures.made.1 ∙ ap (λ (b : Booked). length b.course.order + 1) (ap book_in c.self.view_is))
@@ -93,4 +95,4 @@ pub returns-in_err-commit-clause-others : goal.returns-in_err-commit-clause-othe
 returns-in_err-commit-clause-others c = others_set c.args.call c.self.inside.tasks.items (Some c.decide_task.new.running) c.args.self.now (ap tasks_in c.self.view_is)
 
 pub returns-clause-others : goal.returns-clause-others
-returns-clause-others c = others_twice c.args.call c.self.inside.tasks.items (Some c.decide_task.new.running) None c.args.self.now (ap tasks_in c.self.view_is)
+returns-clause-others c d ne = ap (λ (ts : List (Option Running)). slice_get ts d) c.set_task.ensures ∙ others_twice c.args.call c.self.inside.tasks.items (Some c.decide_task.new.running) None c.args.self.now (ap tasks_in c.self.view_is) d ne

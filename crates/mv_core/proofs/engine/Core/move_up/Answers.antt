@@ -1,9 +1,10 @@
-use Rattle.std.proofs.Common.{rules, ◌<◌, Some, None, length, refl, ap, subst, ◌∙◌}
+use Rattle.std.proofs.Common.{rules, ◌<◌, List, Option, Some, None, length, slice_get, refl, sym, ap, subst, ◌∙◌}
 use Rattle.mv_journal.specs.declared.event.Event.TheVariants.{M}
 use Rattle.mv_journal.specs.declared.outcome.Mark.TheVariants.{Moved}
 use Rattle.mv_lawful.specs.Work.{records_at}
-use Rattle.mv_core.specs.Books.{Booked, work_in, Made}
-use Rattle.mv_core.specs.Cores.{HasTurns}
+use Rattle.mv_core.specs.Books.{Booked, work_in, Made, AreRecordsOf}
+use Rattle.mv_core.specs.Cores.{HasTurns, IsCore, records_by}
+use Rattle.mv_core.specs.declared.tasks.Running.{Running}
 use Rattle.mv_core.proofs.Stored.{stored_made}
 use Rattle.mv_core.proofs.Numbered.{numbers_moved}
 use Rattle.mv_core.proofs.Taking.{task_within, task_moved, call_within, restarted_on}
@@ -22,8 +23,8 @@ move_last-requires-clause-number c =
 pub invariant_of-self : goal.invariant_of-self
 invariant_of-self c = core_same c.self.inside.book c.move_last.new.book c.self.inside.store c.self.inside.tasks.items c.self.invariant c.in_err-task.ensures.same
 
-pub index_mut-requires : goal.index_mut-requires
-index_mut-requires c =
+pub set_task-requires : goal.set_task-requires
+set_task-requires c =
     let lt : c.args.call < length c.self.inside.tasks.items =
     task_within c.self.inside.book.script c.self.inside.book.course c.self.inside.tasks.items c.args.call c.self.invariant.tasks (live_in c.self.inside.book c.args.self.now.book c.args.call (ap book_in c.self.view_is) c.requires) in
     search (rules, lt)
@@ -34,12 +35,12 @@ invariant_of-self-2 c =
     let live = live_in b c.args.self.now.book c.args.call (ap book_in c.self.view_is) c.requires in
     let made : Made (M c.args.call) b c.move_last.new.book = c.in_ok-task.ensures.made in
     let turns : HasTurns (length b.course.order) live.0 = (c.self.invariant.tasks.running c.args.call live.0 live.1).2.turns in
-    record {
+    subst (λ (ts : List (Option Running)). IsCore c.move_last.new.book c.self.inside.store ts) (sym c.set_task.ensures) (record {
       stored = stored_made (M c.args.call) b c.move_last.new.book c.self.inside.store c.self.invariant.stored made refl refl;
       numbers = numbers_moved c.args.call b c.move_last.new.book made c.in_ok-task.ensures.settled c.self.invariant.numbers;
       tasks = restarted_on Moved b c.move_last.new.book c.self.inside.tasks.items c.args.call live.0 _ apart c.self.invariant.tasks live.1 made
           (task_moved b.script b.course.order c.args.call live.0 c.in_ok-task.task turns c.in_ok-task.ensures.runs);
-    }
+    })
 
 pub returns-clause-made : goal.returns-clause-made
 returns-clause-made c = (
@@ -52,11 +53,14 @@ pub returns-in_err-task-clause-others : goal.returns-in_err-task-clause-others
 returns-in_err-task-clause-others c = others_kept c.args.call c.self.inside.tasks.items c.args.self.now (ap tasks_in c.self.view_is)
 
 pub returns-clause-others : goal.returns-clause-others
-returns-clause-others c = others_set c.args.call c.self.inside.tasks.items (Some (record { task = c.in_ok-task.task; count = None })) c.args.self.now (ap tasks_in c.self.view_is)
+returns-clause-others c d ne =
+    ap (λ (ts : List (Option Running)). slice_get ts d) c.set_task.ensures
+    ∙ others_set c.args.call c.self.inside.tasks.items (Some (record { task = c.in_ok-task.task; count = None })) c.args.self.now (ap tasks_in c.self.view_is) d ne
 
 pub returns-clause-whole : goal.returns-clause-whole
 returns-clause-whole c =
     let b : Booked = c.self.inside.book in
     let live = live_in b c.args.self.now.book c.args.call (ap book_in c.self.view_is) c.requires in
-    whole_set b.script b.course c.move_last.new.book c.self.inside.tasks.items c.args.call (record { task = c.in_ok-task.task; count = None }) c.self.invariant.tasks live
-    (whole_again Moved b c.move_last.new.book c.args.call live.0 c.in_ok-task.task.log.records apart live.1 c.in_ok-task.ensures.made c.in_ok-task.ensures.records)
+    subst (λ (ts : List (Option Running)). AreRecordsOf c.move_last.new.book c.args.call (records_by (slice_get ts c.args.call))) (sym c.set_task.ensures)
+    (whole_set b.script b.course c.move_last.new.book c.self.inside.tasks.items c.args.call (record { task = c.in_ok-task.task; count = None }) c.self.invariant.tasks live
+    (whole_again Moved b c.move_last.new.book c.args.call live.0 c.in_ok-task.task.log.records apart live.1 c.in_ok-task.ensures.made c.in_ok-task.ensures.records))

@@ -1,9 +1,10 @@
-use Rattle.std.proofs.Common.{arith, rules, ◌≡◌, ◌+◌, ◌<◌, length, sym, ap, subst, ◌∙◌, refl, Some}
+use Rattle.std.proofs.Common.{arith, rules, ◌≡◌, ◌+◌, ◌<◌, length, false, sym, ap, subst, ◌∙◌, refl, Some}
 use Rattle.std.specs.Prelude.{not}
 use Rattle.std.proofs.lemmas.Result.{err_from_is_err_and}
 use Rattle.mv_journal.specs.declared.event.Event.TheVariants.{S}
-use Rattle.mv_lawful.specs.Lawful.{used}
+use Rattle.mv_lawful.specs.Lawful.{Live, Course, used, is_stale}
 use Rattle.mv_exec.specs.Running.{stepped}
+use Rattle.mv_core.specs.Calls.{IsLive}
 use Rattle.mv_core.specs.Books.{Booked, IsSame, work_in}
 use Rattle.mv_core.proofs.Stored.{shows_start, fresh_start, stored_made}
 use Rattle.mv_core.proofs.Numbered.{numbers_other}

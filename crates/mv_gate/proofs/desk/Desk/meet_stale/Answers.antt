@@ -1,7 +1,7 @@
-use Rattle.std.proofs.Common.{inr, true, false, sym, subst, ◌∙◌}
+use Rattle.std.proofs.Common.{None, inr, true, false, sym, subst, ◌∙◌}
 use Rattle.mv_core.specs.Books.{Booked}
 use Rattle.mv_core.specs.Calls.{IsLiveCall}
-use Rattle.mv_gate.specs.Gates.{HasRound}
+use Rattle.mv_gate.specs.Gates.{HasRound, IsLatest}
 use Rattle.mv_gate.proofs.desk.Desk.meet_stale.Goals as goal
 
 pub has_round-requires : goal.has_round-requires
@@ -15,9 +15,9 @@ returns-then-has_round g c = (
   record {
     stale = c.requires.stale;
     left = subst (λ (b : Booked). HasRound true b c.args.call) c.self.view_is (λ l live. sym (c.has_round.ensures l live) ∙ c.if-has_round.true);
-    made = c.in_ok-running.ensures.ok;
+    made = c.in_ok-moved.ensures.ok;
   },
-  c.in_ok-running.ensures.latest,
+  subst (IsLatest c.move_up.new.self c.args.call None) (sym c.replace-before.ensures.after) c.in_ok-moved.ensures.latest,
 )
 
 pub returns : goal.returns
