@@ -13,9 +13,9 @@ pub returns-clause-count : goal.returns-clause-count
 returns-clause-count c =
     let live = c.requires.live in
     let ran = c.in_ok-step.ensures.one in
-    let none : length ran.before.task.records ≡ 0 = ap (λ (rs : List Record). length rs) (sym (ap records_by ran.had) ∙ c.requires.fresh) in
+    let none : length ran.before.task.log.records ≡ 0 = ap (λ (rs : List Record). length rs) (sym (ap records_by ran.had) ∙ c.requires.fresh) in
     let one = (ran.one live.0 live.1 (omega (arith, none))).records in
-    let told = ap (λ (rs : List Record). length rs) (c.records.ensures.told ∙ ap records_by ran.has) in
+    let told = c.len.ensures ∙ ap (λ (rs : List Record). length rs) (c.records.ensures.told ∙ ap records_by ran.has) in
     omega (arith, none, one, told)
 
 pub returns-clause-first : goal.returns-clause-first
