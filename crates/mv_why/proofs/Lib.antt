@@ -1,0 +1,14 @@
+pub mod Counting
+pub mod Deciding
+pub mod Ending
+pub mod Fixed
+pub mod Going
+pub mod Hitting
+pub mod Least
+pub mod Lists
+pub mod Placing
+pub mod Ruling
+pub mod Telling
+pub mod Texts
+pub mod Ties
+pub mod Writing

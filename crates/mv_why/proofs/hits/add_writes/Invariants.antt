@@ -1,0 +1,6 @@
+use Rattle.std.proofs.Common.{◌≡◌, ◌++◌, take}
+use Rattle.mv_why.specs.Walking.{undo_of}
+use Rattle.mv_why.proofs.hits.add_writes.Given as goal
+
+abbrev pub invariant-loop-write : goal.invariant-loop-write
+invariant-loop-write l = l.undo ≡ l.fn.undo ++ undo_of l.number (take l.write-index l.writes)
