@@ -1,0 +1,15 @@
+pub mod Calling
+pub mod Asking
+pub mod Few
+pub mod Finding
+pub mod Fitting
+pub mod Following
+pub mod Holding
+pub mod Once
+pub mod Reading
+pub mod Telling
+pub mod Turning
+pub mod Undoing
+pub mod WellNamed
+pub mod Whole
+pub mod Writing

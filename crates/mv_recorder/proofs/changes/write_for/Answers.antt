@@ -1,0 +1,17 @@
+use Rattle.std.proofs.Common.{List, Result, Ok, sym, ap, ◌∙◌}
+use Rattle.mv_values.specs.declared.value.Value.{Value}
+use Rattle.mv_values.specs.declared.calls.End.{End}
+use Rattle.mv_values.specs.Tables.{columns_at}
+use Rattle.mv_alone.specs.Changes.{set_row}
+use Rattle.mv_alone.specs.Outcome.{then_do}
+use Rattle.mv_recorded.specs.Doing.{write, set_patch}
+use Rattle.mv_recorder.proofs.changes.write_for.Goals as goal
+
+pub returns : goal.returns
+returns c =
+    let env = c.args.scene.now.env.now in
+    let items = c.args.update.now.items.now in
+    let row = c.args.item.now.row.now in
+    let same = ap (λ cs. set_row cs c.key_in-keys.result.now env row items row) c.columns_in-columns.ensures ∙ ap (λ ks. set_row (columns_at c.args.scene.now.infos.now c.args.update.now.table) ks env row items row) c.key_in-keys.ensures in
+    let is = c.in_ok-set_write.ensures ∙ (ap (λ r. write c.narrow.result c.args.item.now.key.now (set_patch items r)) c.as_slice.ensures ∙ ap (λ t. write t c.args.item.now.key.now (set_patch items c.in_ok-row.row)) c.narrow.ensures) in
+    ap (λ (o : Result (List Value) End). then_do o (λ r. Ok (write c.args.update.now.table c.args.item.now.key.now (set_patch items r)))) (sym same ∙ c.in_ok-row.ensures) ∙ sym (ap (λ l. Ok l) is)

@@ -1,0 +1,5 @@
+use Rattle.std.proofs.Common.{refl}
+use Rattle.mv_recorder.proofs.reads.is_behind.Goals as goal
+
+pub returns : goal.returns
+returns c = refl

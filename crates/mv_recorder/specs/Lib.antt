@@ -1,0 +1,6 @@
+pub mod Adding
+pub mod Naming
+pub mod Sites
+pub mod Scenes
+pub mod Undoing
+pub mod Running
