@@ -10,12 +10,12 @@ use Rattle.mv_names.specs.declared.fault.FaultKind.{FaultKind}
 use Rattle.mv_names.specs.declared.fault.FaultKind.TheVariants as kind
 use Rattle.mv_names.specs.First.{IsFirst, is_before, rank}
 use Rattle.mv_names.specs.Faults.{faults}
-use Rattle.mv_catalog.specs.declared.refused.NameFault.{NameFault}
-use Rattle.mv_catalog.specs.declared.refused.NameFault.TheVariants as naming
+use Rattle.mv_resolve.specs.declared.refused.NameFault.{NameFault}
+use Rattle.mv_resolve.specs.declared.refused.NameFault.TheVariants as naming
 use Rattle.mv_catalog.specs.declared.resolved.Resolved.{Resolved}
 use Rattle.mv_catalog.specs.declared.resolved.Program.{Program}
-use Rattle.mv_catalog.specs.Resolving.{Refuses}
-use Rattle.mv_catalog.specs.Building.{resolved_of}
+use Rattle.mv_resolve.specs.Resolving.{Refuses}
+use Rattle.mv_resolve.specs.Building.{resolved_of}
 use Rattle.mv_opening.specs.declared.fault.OpeningFault.{OpeningFault}
 use Rattle.mv_opening.specs.declared.fault.OpeningFault.TheVariants as opening
 use Rattle.mv_opening.specs.Opening.{IsOpening, HasNoOpening}

@@ -14,7 +14,7 @@ use Rattle.mv_names.specs.First.{IsFirst}
 use Rattle.mv_names.specs.Faults.{faults}
 use Rattle.mv_catalog.specs.declared.resolved.Resolved.{Resolved}
 use Rattle.mv_catalog.specs.declared.resolved.Program.{Program}
-use Rattle.mv_catalog.specs.Building.{resolved_of}
+use Rattle.mv_resolve.specs.Building.{resolved_of}
 use Rattle.mv_opening.specs.declared.fault.OpeningFault.{OpeningFault}
 use Rattle.mv_opening.specs.declared.fault.OpeningFault.TheVariants as opening
 use Rattle.mv_opening.specs.Opening.{IsOpening, HasNoOpening}

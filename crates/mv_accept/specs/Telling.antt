@@ -4,8 +4,8 @@ use Rattle.mv_lex.specs.declared.lexer.LexFault.{LexFault}
 use Rattle.mv_lex.specs.declared.lexer.LexFault.TheVariants as lexing
 use Rattle.mv_parser.specs.declared.fault.ParseFault.{ParseFault}
 use Rattle.mv_parser.specs.declared.fault.ParseFault.TheVariants as parsing
-use Rattle.mv_catalog.specs.declared.refused.NameFault.{NameFault}
-use Rattle.mv_catalog.specs.declared.refused.NameFault.TheVariants as naming
+use Rattle.mv_resolve.specs.declared.refused.NameFault.{NameFault}
+use Rattle.mv_resolve.specs.declared.refused.NameFault.TheVariants as naming
 use Rattle.mv_catalog.specs.declared.resolved.Resolved.{Resolved}
 use Rattle.mv_opening.specs.declared.fault.OpeningFault.{OpeningFault}
 use Rattle.mv_accept.specs.declared.refusal.Refusal.{Refusal}

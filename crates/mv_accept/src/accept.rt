@@ -10,8 +10,6 @@ ghost use Rattle.mv_accept.specs.Telling.{OfOpening};
 
 use crate::refusal::Refusal;
 use mv_ast::tree::Script;
-use mv_catalog::refused::NameFault;
-use mv_catalog::resolve::resolve;
 use mv_catalog::resolved::{Program, Resolved};
 use mv_lex::lexer::{LexFault, lex};
 use mv_lex::token::Token;
@@ -19,6 +17,8 @@ use mv_opening::fault::OpeningFault;
 use mv_opening::opening::opening;
 use mv_parser::fault::ParseFault;
 use mv_parser::parse::parse;
+use mv_resolve::refused::NameFault;
+use mv_resolve::resolve::resolve;
 use mv_values::copied::Copied;
 use mv_values::list::List;
 use mv_values::memory::NoMemory;

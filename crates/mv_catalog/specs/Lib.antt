@@ -2,5 +2,3 @@ pub mod Fits
 pub mod Types
 pub mod Statements
 pub mod Text
-pub mod Building
-pub mod Resolving

@@ -1,11 +1,4 @@
-//! Translates the syntax tree of a script into a program: checks names and types, and replaces names by numbers.
+//! Programs: scripts in which numbers replace names, and when such a program is well formed.
 #![tactic(auto)]
 
-pub mod build;
-mod build_exprs;
-mod build_names;
-mod build_statements;
-pub mod refused;
-pub mod resolve;
 pub mod resolved;
-pub mod slot;

@@ -21,7 +21,7 @@ use Rattle.mv_names.specs.Named.{Text, place_named, same_text}
 use Rattle.mv_names.specs.Items.{call_in, copy_in, lates, parts_of, table_in}
 use Rattle.mv_names.specs.Statements.{missing_table, table_named}
 use Rattle.mv_names.specs.Faults.{copy, faults, parts_faults}
-use Rattle.mv_catalog.specs.Building.{call_of, copy_of, described, resolved_of, row_of, rows_of, table_of, table_place}
+use Rattle.mv_resolve.specs.Building.{call_of, copy_of, described, resolved_of, row_of, rows_of, table_of, table_place}
 use Rattle.mv_opening.specs.Opening.{FitTogether, IsBlockAt}
 
 -- Parts of items

@@ -30,7 +30,7 @@ use Rattle.mv_values.specs.Tables.{rows_at, Tables}
 use Rattle.mv_catalog.specs.Types.{Kind, int, Vars, kind_of_column}
 use Rattle.mv_catalog.specs.Statements.{kinds_of, IsOfKind, Takes, IsItem, IsTotal}
 use Rattle.mv_catalog.specs.Text.{IsOf, IsRow, types_of}
-use Rattle.mv_catalog.proofs.Lists.{map_map}
+use Rattle.mv_catalog.proofs.Maps.{map_map}
 use Rattle.mv_alone.specs.declared.state.Env.{Env}
 use Rattle.mv_alone.specs.Outcome.{then_do}
 use Rattle.mv_alone.specs.Env.{with_value, with_values}

@@ -1,5 +1,0 @@
-use Rattle.std.proofs.Common.{refl}
-use Rattle.mv_catalog.proofs.build.block_into.Goals as goal
-
-pub returns : goal.returns
-returns c = refl

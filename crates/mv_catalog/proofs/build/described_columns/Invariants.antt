@@ -1,6 +1,0 @@
-use Rattle.std.proofs.Common.{◌≡◌, ◌++◌, drop, map}
-use Rattle.mv_catalog.specs.Building.{described}
-use Rattle.mv_catalog.proofs.build.described_columns.Given as goal
-
-abbrev pub invariant-loop-column : goal.invariant-loop-column
-invariant-loop-column l = l.all ++ map described (drop l.column-index l.columns) ≡ map described l.columns

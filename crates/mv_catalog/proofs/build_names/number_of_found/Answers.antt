@@ -1,4 +1,0 @@
-use Rattle.mv_catalog.proofs.build_names.number_of_found.Goals as goal
-
-pub returns : goal.returns
-returns c = rw (c.len.ensures, c.len-2.ensures) at c.sum.ensures

@@ -1,5 +1,0 @@
-use Rattle.mv_catalog.proofs.Lists.{one_on}
-use Rattle.mv_catalog.proofs.build_names.variables.Goals as goal
-
-pub loop-name-preserved : goal.loop-name-preserved
-loop-name-preserved c = one_on _ c.args.names.now c.loop-name.name-index c.name-item.result _ _ _ c.name-item.is c.loop-name-test.true c.variable.ensures c.in_ok-push.ensures.ok c.loop-name.invariant

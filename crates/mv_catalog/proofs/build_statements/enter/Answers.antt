@@ -1,5 +1,0 @@
-use Rattle.mv_catalog.proofs.Lists.{on_ok}
-use Rattle.mv_catalog.proofs.build_statements.enter.Goals as goal
-
-pub returns-clause-next : goal.returns-clause-next
-returns-clause-next c = on_ok c.push.result c.in_ok-next.ensures

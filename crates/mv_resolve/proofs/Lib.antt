@@ -1,0 +1,13 @@
+pub mod Lists
+pub mod Doubles
+pub mod Scopes
+pub mod Unrolled
+pub mod Exprs
+pub mod Parts
+pub mod Tables
+pub mod Loops
+pub mod Stmts
+pub mod Sized
+pub mod Procs
+pub mod Whole
+pub mod Examples
