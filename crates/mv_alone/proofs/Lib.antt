@@ -9,3 +9,4 @@ pub mod Standing
 pub mod FirstRows
 pub mod Few
 pub mod Printing
+pub mod Lines

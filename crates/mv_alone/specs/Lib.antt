@@ -1,6 +1,7 @@
 pub mod Outcome
 pub mod Env
 pub mod Value
+pub mod Known
 pub mod Rows
 pub mod Changes
 pub mod Line

@@ -23,3 +23,14 @@ Gives (Err s) meant = Fails s meant
 abbrev pub Leaves : {A : Type 0} → Result (Unit {0}) Stop → A → Result A End → Type 0
 Leaves (Ok x) new meant = meant ≡ Ok new
 Leaves (Err s) new meant = Fails s meant
+
+-- what is made of the value that is meant
+pub record IsMadeOf {A B : Type 0} (make : A → B) (meant : Result A End) (answer : B) : Type 0 where
+  pub value : A
+  pub is : meant ≡ Ok value
+  pub made : make value ≡ answer
+
+-- the answer is made of the value that is meant, unless memory ran out
+abbrev pub Makes : {A B : Type 0} → (A → B) → Result B Stop → Result A End → Type 0
+Makes make (Ok answer) meant = IsMadeOf make meant answer
+Makes make (Err stop) meant = Fails stop meant

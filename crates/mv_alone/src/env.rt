@@ -2,7 +2,7 @@
 
 ghost use Rattle.std.specs.Prelude.{◌≡◌, IfOk, OnErr, OnOk, length, take};
 ghost use Rattle.mv_values.specs.Columns.{column_of, columns_of};
-ghost use Rattle.mv_alone.specs.Env.{scalar_at, turn_at, turns_at, padded, truth, with_held, with_value, with_values, with_found, ArePartlySet};
+ghost use Rattle.mv_alone.specs.Env.{turn_at, turns_at, padded, truth, with_held, with_value, with_values, with_found, ArePartlySet};
 
 use crate::state::{Content, Env};
 use mv_values::copied::Copied;
@@ -16,16 +16,6 @@ pub(crate) fn truth_of(b: bool) -> Value
     ensures { result ≡ truth b }
 {
     Value::Int(if b { 1 } else { 0 })
-}
-
-/// Returns a copy of the value of a variable, or 0 if the variable holds rows.
-pub(crate) fn scalar(alloc: Global, env: &Env, x: u16) -> Result<Value, NoMemory>
-    ensures { IfOk result (λ v. v ≡ scalar_at env.now x) }
-{
-    match env.held.as_slice().get(x as usize) {
-        Some(Content::Scalar(v)) => v.copy(alloc),
-        _ => Ok(Value::Int(0)),
-    }
 }
 
 /// Borrows the current row of a loop; empty if the variable holds no row.

@@ -10,6 +10,7 @@ pub mod extremes;
 pub mod find;
 pub mod fixing;
 mod foremost;
+pub mod known;
 pub mod line;
 pub mod made;
 pub mod order;

@@ -2,12 +2,12 @@
 
 ghost use Rattle.std.specs.Prelude.{◌≡◌, ◌≤ℤ◌, ◌+ℤ◌, ◌^◌, ◌-◌, neg_ℤ, pos, map, IfOk, if◌then◌else◌};
 ghost use Rattle.std.specs.Option.{option_copied, option_map};
-ghost use Rattle.mv_values.specs.Columns.{column_of, number};
+ghost use Rattle.mv_values.specs.Columns.{column_of};
 ghost use Rattle.mv_alone.specs.Outcome.{Gives};
 ghost use Rattle.mv_alone.specs.Rows.{column, sum_of, lesser, greater, least, greatest, total, aggregate};
 
 use crate::env::column_value;
-use crate::expr::number_in;
+use crate::expr::number_at;
 use crate::fixing::distinct_rows;
 use crate::order::compare_by;
 use crate::state::Stop;
@@ -17,16 +17,6 @@ use mv_values::calls::End;
 use mv_values::memory::NoMemory;
 use mv_values::value::Value;
 use std::alloc::Global;
-
-/// Returns the number in a column of a row.
-fn number_at(row: &[Value], c: u16) -> i64
-    ensures { result ≡ number (column_of row.now c) }
-{
-    match row.get(c as usize) {
-        Some(v) => number_in(v),
-        None => 0,
-    }
-}
 
 /// Returns the exact sum.
 fn plus(sum: i128, n: i64) -> i128

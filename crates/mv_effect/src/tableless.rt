@@ -14,8 +14,8 @@ ghost use Rattle.mv_effect.specs.Looking.{OnlyAsks};
 use crate::asking::{end, stop_early};
 use crate::slots::push_found;
 use mv_alone::env::copied_turns;
-use mv_alone::expr::{holds, value, values};
-use mv_alone::line::line_from;
+use mv_alone::expr::{holds, value};
+use mv_alone::line::line_of_exprs;
 use mv_alone::state::Env;
 use mv_catalog::resolved::RExpr;
 use mv_log::log::Log;
@@ -61,8 +61,8 @@ pub(crate) fn decide(alloc: Global, test: &RExpr, env: &Env, log: &mut Log) -> R
     ensures branch { IfOk result (λ it. (v : Value) → value_of test.now env.now [] ≡ Ok v → it ≡ is_so v) }
     ensures view { (sight : Sight) → OnlyAsks sight sight result }
 {
-    match value(alloc, test, env, &[]) {
-        Ok(value) => Ok(holds(&value)),
+    match holds(alloc, test, env) {
+        Ok(it) => Ok(it),
         Err(reason) => {
             stop_early(log, reason)?;
             Ok(false)
@@ -78,7 +78,7 @@ pub(crate) fn branch(alloc: Global, test: &RExpr, env: &Env, log: &mut Log) -> R
     ensures err { OnErr result (without_effect log.new ≡ without_effect log.old) }
     ensures view { (sight : Sight) → OnlyAsks sight sight result }
 {
-    match value(alloc, test, env, &[]) {
+    match holds(alloc, test, env) {
         Ok(_) => {}
         Err(reason) => stop_early(log, reason)?,
     }
@@ -93,8 +93,8 @@ pub(crate) fn print(alloc: Global, exprs: &[RExpr], env: &Env, log: &mut Log) ->
     ensures err { OnErr result (without_effect log.new ≡ without_effect log.old) }
     ensures view { (sight : Sight) → OnlyAsks sight sight result }
 {
-    match values(alloc, exprs, env) {
-        Ok(values) => log.push_line(line_from(alloc, values.as_slice())?)?,
+    match line_of_exprs(alloc, exprs, env) {
+        Ok(line) => log.push_line(line)?,
         Err(reason) => stop_early(log, reason)?,
     }
     Ok(())

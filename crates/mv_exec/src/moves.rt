@@ -10,7 +10,7 @@ ghost use Rattle.mv_exec.specs.Moves.{inner_places, place_after};
 
 use crate::places::{Holder, Place};
 use crate::position::Position;
-use mv_alone::expr::{holds, value};
+use mv_alone::expr::holds;
 use mv_alone::state::{Env, Stop};
 use mv_catalog::resolved::RStmt;
 use mv_values::memory::NoMemory;
@@ -23,8 +23,8 @@ pub(crate) fn branch(alloc: Global, statement: &RStmt, env: &Env) -> Result<bool
     let RStmt::Branch { test, .. } = statement else {
         return Ok(false);
     };
-    match value(alloc, test, env, &[]) {
-        Ok(v) => Ok(holds(&v)),
+    match holds(alloc, test, env) {
+        Ok(it) => Ok(it),
         Err(Stop::Memory) => Err(NoMemory),
         Err(Stop::Ended(_)) => Ok(false),
     }

@@ -16,7 +16,7 @@ use crate::adding::{Run, Text, add, last_rows};
 use crate::sites::Site;
 use crate::sizes::{size_of, size_of_all};
 use mv_alone::env::set_held;
-use mv_alone::expr::{holds, value};
+use mv_alone::expr::holds;
 use mv_alone::state::{Content, Env, Stop};
 use mv_catalog::resolved::{RExpr, RStmt};
 use mv_values::copied::Copied;
@@ -27,8 +27,7 @@ use std::alloc::Global;
 fn takes(alloc: Global, test: &RExpr, env: &Env) -> Result<bool, Stop>
     ensures { Gives result (then_do (value_of test.now env.now []) (λ v. Ok (is_so v))) }
 {
-    let v = value(alloc, test, env, &[])?;
-    Ok(holds(&v))
+    holds(alloc, test, env)
 }
 
 /// Runs statements, of which the first has this number in the text.

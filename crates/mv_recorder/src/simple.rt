@@ -11,8 +11,8 @@ use crate::queries::has_turn;
 use crate::scene::Scene;
 use crate::slots::found_slots;
 use mv_alone::env::copied_turns;
-use mv_alone::expr::{value, values};
-use mv_alone::line::line_from;
+use mv_alone::expr::{holds, value};
+use mv_alone::line::line_of_exprs;
 use mv_alone::state::Stop;
 use mv_catalog::resolved::RExpr;
 use mv_record::effect::Effect;
@@ -43,7 +43,7 @@ pub(crate) fn assign(
 pub(crate) fn branch(alloc: Global, scene: &Scene<'_>, test: &RExpr) -> Result<Effect, Stop>
     ensures { Finds result (λ effect. (ys ns : Seq RStmt) → IsEffect scene.now.infos.now (layer.Branch test.now ys ns) scene.now.env.now scene.now.tables.now effect) }
 {
-    let _value = value(alloc, test, scene.env, &[])?;
+    let _holds = holds(alloc, test, scene.env)?;
     Ok(nothing(alloc))
 }
 
@@ -63,9 +63,9 @@ pub(crate) fn for_rows(alloc: Global, scene: &Scene<'_>, over: u16) -> Result<Ef
 pub(crate) fn print(alloc: Global, scene: &Scene<'_>, exprs: &[RExpr]) -> Result<Effect, Stop>
     ensures { Finds result (IsEffect scene.now.infos.now (layer.Print exprs.now) scene.now.env.now scene.now.tables.now) }
 {
-    let values = values(alloc, exprs, scene.env)?;
+    let line = line_of_exprs(alloc, exprs, scene.env)?;
     let mut effect = nothing(alloc);
-    effect.line = Some(line_from(alloc, values.as_slice())?);
+    effect.line = Some(line);
     Ok(effect)
 }
 

@@ -8,9 +8,9 @@ ghost use Rattle.mv_alone.specs.Alone.{assign, select, print};
 
 use mv_alone::chosen::chosen_in;
 use mv_alone::env::{set_columns, set_found, set_value};
-use mv_alone::expr::{number_in, offset, value, values};
+use mv_alone::expr::{number_in, offset, value};
 use mv_alone::find::tests_from;
-use mv_alone::line::line_from;
+use mv_alone::line::line_of_exprs;
 use mv_alone::state::{State, Stop};
 use mv_catalog::resolved::{Query, RExpr};
 use mv_values::schema::TableInfo;
@@ -77,7 +77,7 @@ pub(crate) fn run_print(alloc: Global, exprs: &[RExpr], state: &mut State) -> Re
     ensures does { Leaves result state.new (print exprs.now state.old) }
     ensures tables { state.new.tables ≡ state.old.tables }
 {
-    let values = values(alloc, exprs, &state.env)?;
-    state.lines.push(line_from(alloc, values.as_slice())?)?;
+    let line = line_of_exprs(alloc, exprs, &state.env)?;
+    state.lines.push(line)?;
     Ok(())
 }

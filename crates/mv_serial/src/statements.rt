@@ -17,7 +17,7 @@ use crate::run::{run_assign, run_print, run_select};
 use crate::totals::run_total;
 use crate::updating::run_update;
 use mv_alone::env::{copied_turns, set_found, set_held};
-use mv_alone::expr::{holds, value};
+use mv_alone::expr::holds;
 use mv_alone::find::{found_in, tests_from};
 use mv_alone::fixing::fixed_rows;
 use mv_alone::state::{Content, Env, State, Stop};
@@ -34,8 +34,7 @@ use std::alloc::Global;
 fn takes(alloc: Global, test: &RExpr, env: &Env) -> Result<bool, Stop>
     ensures { Gives result (then_do (value_of test.now env.now []) (λ v. Ok (is_so v))) }
 {
-    let v = value(alloc, test, env, &[])?;
-    Ok(holds(&v))
+    holds(alloc, test, env)
 }
 
 /// Sets `:found` for a loop over these rows.
