@@ -3,6 +3,7 @@ use Rattle.std.proofs.Common.{◌≡◌, ℕ, ◌+◌, ◌-◌, ◌<◌, ◌≤�
 use Rattle.std.specs.Option.{option_map}
 use Rattle.std.proofs.lemmas.List.{take_more, drop_more, take-append-drop, take_all, drop_all, get_or_default}
 use Rattle.mv_journal.specs.declared.event.Event.{Event}
+use Rattle.mv_core.specs.declared.drive.DriveFault.{DriveFault}
 use Rattle.mv_core.specs.declared.drive.DriveFault.TheVariants as fault
 use Rattle.mv_lawful.specs.declared.fault.Wrong.TheVariants as wrong
 use Rattle.mv_core.specs.declared.drive.Refusal.{Refusal}
@@ -10,7 +11,7 @@ use Rattle.mv_core.specs.declared.drive.Refusal.TheVariants.{Refused, NoMemory}
 use Rattle.mv_lawful.specs.Lawful.{Course, refusal, after, or_refused, wrong_from, open_call}
 use Rattle.mv_script.specs.Scripts.{work_of}
 use Rattle.mv_core.specs.Books.{Booked, Made}
-use Rattle.mv_core.specs.Drives.{HasMade, HasTaken, Stops, Driven, fault_at}
+use Rattle.mv_core.specs.Drives.{HasMade, HasTaken, TakesLine, Stops, Driven, fault_at}
 use Rattle.mv_core.proofs.Journals.{reach_more, allowed_more}
 
 pub none_made : (old : Booked) → HasMade [] old old
@@ -58,6 +59,11 @@ stops_at es n e old mid new (Refused f) lt is s t = (
   less : (n : ℕ) → n ≡ n + 1 - 1
   less n = omega arith
 stops_at es n e old mid new NoMemory lt is s t = (take n es, drop n es, sym (take-append-drop n es), made_none (take n es) old mid new s.made t)
+
+pub stops_line : (es : List Event) (n : ℕ) (e : Event) (old mid new : Booked) (f : DriveFault) → n < length es → e ≡ get_or es n e → IsDriven es n old mid → TakesLine e (n + 1) mid new (Err f) → Stops es old new f
+stops_line es n e old mid new (fault.Refused m f) lt is s t = subst (λ k. Stops es old new (fault.Refused k f)) (sym t.0) (stops_at es n e old mid new (Refused f) lt is s (t.1, t.2))
+stops_line es n e old mid new (fault.Open c) lt is s t = absurd t
+stops_line es n e old mid new fault.NoMemory lt is s t = stops_at es n e old mid new NoMemory lt is s t
 
 pub ends_well : (es : List Event) (n : ℕ) (old mid : Booked) → length es ≤ n → IsDriven es n old mid → open_call (work_of mid.script) mid.course ≡ None → Driven es old mid (Ok tt)
 ends_well es n old mid le s o = (

@@ -18,5 +18,6 @@ pub mod Refusing
 pub mod Beginning
 pub mod Changed
 pub mod Recorded
+pub mod Lasting
 pub mod Turning
 pub mod Crossing

@@ -110,7 +110,7 @@ covers_since tables s order start k =
     (subst (Covers (all_of (changes_after w old (drop start order))) old) end (covers_after tables s (drop start order) old k (table_database tables s order start k)))
 
 -- the runs of a call at its start and after all commits
-are_runs : (s : Script) (order : List ℕ) (c start : ℕ) (call : Call) (g : Graph) → IsScript s → IsCallOf s c call g
+pub are_runs : (s : Script) (order : List ℕ) (c start : ℕ) (call : Call) (g : Graph) → IsScript s → IsCallOf s c call g
     → AreRuns g.tables g.procedure call (table_at (work_of s) order start) (table_at (work_of s) order (length order)) (all_of (since (work_of s) order start))
 are_runs s order c start call g k here =
     let w : Work = work_of s in

@@ -193,6 +193,24 @@ pub record IsCore (b : Booked) (store : Versioned) (ts : List (Option Running)) 
   pub numbers : HaveNumbers b
   pub tasks : HasTasks b.script b.course ts
 
+-- the records are those of the latest commit: of a full run of its call on the tables before it
+abbrev pub AreOfLast : Booked → List Record → Type 0
+AreOfLast b rs = (order : List ℕ) (c : ℕ) → b.course.order ≡ order ++ c ∷ [] → rs ≡ records_at (work_in b) order (length order) c
+
+-- the task of the latest commit is kept
+abbrev pub KeepsLast : Booked → Option Running → Type 0
+KeepsLast b last = 0 < length b.course.order → (running : Running) × (last ≡ Some running) × AreOfLast b running.task.log.records
+
+-- a call that was repaired or moved has run whole
+abbrev pub HasRunWhole : Event → Cored → Type 0
+HasRunWhole (A c) k = HasAllRecords k c
+HasRunWhole (M c) k = HasAllRecords k c
+HasRunWhole (B c) k = Unit {0}
+HasRunWhole (S c) k = Unit {0}
+HasRunWhole (C c) k = Unit {0}
+HasRunWhole (X c) k = Unit {0}
+HasRunWhole G k = Unit {0}
+
 -- Results
 
 -- the call is in its first round, which has a statement left

@@ -43,6 +43,13 @@ HasTaken e old new (Ok x) = Made e old new
 HasTaken e old new (Err (Refused f)) = (refusal (work_in old) old.course e ≡ Some f) × HasMade [] old new
 HasTaken e old new (Err NoMemory) = HasMade [] old new
 
+-- the same of an event on the line of this number
+abbrev pub TakesLine : Event → ℕ → Booked → Booked → Result (Unit {0}) DriveFault → Type 0
+TakesLine e n old new (Ok x) = Made e old new
+TakesLine e n old new (Err (fault.Refused m f)) = (m ≡ n) × (refusal (work_in old) old.course e ≡ Some f) × HasMade [] old new
+TakesLine e n old new (Err (fault.Open c)) = ⊥
+TakesLine e n old new (Err fault.NoMemory) = HasMade [] old new
+
 -- whether a live call that is hit may be repaired once more; or its repair is refused, in a step of its own and in that of
 -- its commit
 abbrev pub TellsRound : ℕ → Result Bool Refusal → Booked → Booked → Type 0

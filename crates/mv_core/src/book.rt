@@ -13,9 +13,11 @@ ghost use Rattle.mv_core.specs.Books.{work_in, IsSettled, last_run, last_tables,
 ghost use Rattle.mv_journal.specs.declared.event.Event.TheVariants.{S, G};
 ghost use Rattle.mv_journal.specs.declared.outcome.Mark.TheVariants.{Plain, Exclusive};
 
+use crate::copies::append_copies;
 use crate::live::LiveCalls;
 use crate::progress::{Progress, history_of, live_at, replies_of};
 use crate::roomy::{Roomy, last_number};
+use crate::shared::SharedScript;
 use mv_changes::changes::Changes;
 use mv_changes::recent::{Committed, Recent};
 use mv_exec::task::Task;
@@ -52,7 +54,7 @@ pub enum Check {
 /// The law of journals allows each of its events.
 #[derive(Drop)]
 pub struct Book {
-    script: Script,
+    script: SharedScript,
     /// The calls that have committed, in order.
     order: Roomy<u32>,
     /// The calls that have begun, by number.
@@ -90,7 +92,7 @@ impl Model for Book {
 
 impl Book {
     /// Returns a history without events. It allocates no memory.
-    pub fn new(alloc: Global, script: Script) -> Book
+    pub fn new(alloc: Global, script: SharedScript) -> Book
         requires { length script.calls < 2 ^ 32 }
         ensures script { result.script ≡ script }
         ensures course { result.course ≡ beginning }
@@ -112,7 +114,7 @@ impl Book {
     pub fn script(&self) -> &Script
         ensures { result.now ≡ self.now.script }
     {
-        &self.script
+        self.script.get()
     }
 
     /// Returns the events. The law of journals allows each of them after those before it.
@@ -130,7 +132,7 @@ impl Book {
         ensures none { IfNone result (length self.now.course.calls ≡ length self.now.script.calls) }
     {
         let call = self.calls.len();
-        if call < self.script.calls.len() {
+        if call < self.script.get().calls.len() {
             Some(call as u32)
         } else {
             None
@@ -142,7 +144,7 @@ impl Book {
     pub fn begin(&mut self, alloc: Global) -> Result<Option<Begun>, NoMemory>
         ensures { HasBegun result self.old self.new }
     {
-        if self.calls.len() >= self.script.calls.len() {
+        if self.calls.len() >= self.script.get().calls.len() {
             return Ok(None);
         }
         let call = self.calls.len() as u32;
@@ -269,7 +271,7 @@ impl Book {
     fn next_low(&self) -> u32
         ensures { result ≡ next_low (work_in self.now) self.now.course }
     {
-        let floor = floor_of(self.commits(), self.script.options.horizon);
+        let floor = floor_of(self.commits(), self.script.get().options.horizon);
         self.low.max(self.oldest_start().max(floor))
     }
 
@@ -373,7 +375,7 @@ impl Book {
         requires { IsLiveCall self.now.course call }
         ensures { (l : Live) → IsLive self.now.course call l → result ≡ has_round (work_in self.now) l }
     {
-        self.calls[call as usize].rounds.len() <= self.script.options.rounds as usize
+        self.calls[call as usize].rounds.len() <= self.script.get().options.rounds as usize
     }
 
     /// Returns the number of commits.
@@ -391,6 +393,19 @@ impl Book {
         ensures numbers { (l : Live) → IsLive self.now.course call l → AreNumbered (l.start + 1) result.now }
     {
         self.recent.since(self.start(call))
+    }
+
+    /// Copies the commits after the start of a live call, with their changes. The call's start may not be below low. Fails
+    /// with `NoMemory` if memory runs out.
+    pub fn copy_since(&self, alloc: Global, call: u32) -> Result<List<Committed>, NoMemory>
+        requires live { IsLiveCall self.now.course call }
+        requires fresh { IsNotStale self.now call }
+        ensures changes { IfOk result (λ commits. (l : Live) → IsLive self.now.course call l → changes_in commits ≡ since (work_in self.now) self.now.course.order l.start) }
+        ensures numbers { IfOk result (λ commits. (l : Live) → IsLive self.now.course call l → AreNumbered (l.start + 1) commits) }
+    {
+        let mut commits = List::new(alloc);
+        append_copies(alloc, &mut commits, self.since(call))?;
+        Ok(commits)
     }
 
     /// Validates a live call against the commits after its start. Its task must have executed all its statements at

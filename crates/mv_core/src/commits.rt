@@ -261,6 +261,7 @@ pub fn decide_task(
     requires allowed { refusal (work_in book.old) book.old.course (X call) ≡ None }
     ensures made { HasCommitted (X call) result book.old book.new }
     ensures stored { IsStoreOf book.new store.new }
+    ensures whole { OnOk result (AreLastOf book.old call running.new.task.log.records) }
     ensures task { OnErr result (IsTaskIn book.old call running.new) }
 {
     book.settle(call, &running.task);

@@ -3,7 +3,7 @@
 ghost use Rattle.std.specs.Prelude.{◌≡◌, ◌<◌, ◌^◌, length};
 ghost use Rattle.mv_lawful.specs.Lawful.{open_call};
 ghost use Rattle.mv_core.specs.Books.{Booked, work_in};
-ghost use Rattle.mv_core.specs.Drives.{HasTaken, Driven, fault_at};
+ghost use Rattle.mv_core.specs.Drives.{TakesLine, Driven, fault_at};
 
 use mv_journal::event::Event;
 use mv_lawful::fault::Fault;
@@ -72,9 +72,9 @@ pub trait Events {
     /// The history.
     ghost booked: { Self → Booked };
 
-    /// Makes an event. If it is refused, the history is unchanged.
-    fn event(&mut self, alloc: Global, event: Event) -> Result<(), Refusal>
-        ensures { HasTaken event (booked self.old) (booked self.new) result };
+    /// Makes the event on line n of a journal. If it is refused, the history is unchanged.
+    fn event(&mut self, alloc: Global, event: &Event, n: u32) -> Result<(), DriveFault>
+        ensures { TakesLine event.now n (booked self.old) (booked self.new) result };
 
     /// Returns the least call that hasn't committed.
     fn open_call(&self) -> Option<u32>
@@ -82,7 +82,7 @@ pub trait Events {
 }
 
 /// Returns the fault of the event with this number.
-fn fault_at(refusal: Refusal, n: u32) -> DriveFault
+pub(crate) fn fault_at(refusal: Refusal, n: u32) -> DriveFault
     ensures { result ≡ fault_at n refusal }
 {
     match refusal {
@@ -100,9 +100,7 @@ pub fn drive<E: Events>(alloc: Global, history: &mut E, events: &[Event]) -> Res
     let mut n: u32 = 0;
     for event in events {
         n += 1;
-        if let Err(refusal) = history.event(alloc, *event) {
-            return Err(fault_at(refusal, n));
-        }
+        history.event(alloc, event, n)?;
     }
     match history.open_call() {
         Some(call) => Err(DriveFault::Open { call }),

@@ -1,28 +1,35 @@
 //! A history with its tables and its running calls.
 
-ghost use Rattle.std.specs.Prelude.{◌≡◌, ◌<◌, ◌≤◌, [], ◌==◌, ◌&&◌, not, nat_lt, length, slice_set, None, IfOk, IfErr, IfSome, IfNone, OnOk};
+ghost use Rattle.std.specs.Prelude.{◌≡◌, ◌<◌, ◌≤◌, [], ◌==◌, ◌&&◌, not, nat_lt, ◌+◌, length, slice_get, slice_set, Some, None, IfOk, IfErr, IfSome, IfNone, OnOk};
 ghost use Rattle.mv_journal.specs.declared.event.Event.TheVariants.{A, X};
 ghost use Rattle.mv_lawful.specs.Lawful.{Live, Lawful, beginning, course_of, has_step, has_round, open_call, AllAllowed};
 ghost use Rattle.mv_lawful.specs.Outcomes.{outcome_of};
 ghost use Rattle.mv_exec.specs.Running.{stepped};
+ghost use Rattle.mv_changes.specs.Commits.{changes_in, AreNumbered};
+ghost use Rattle.mv_lawful.specs.Work.{since};
 ghost use Rattle.mv_core.specs.Calls.{IsLive, IsLiveCall, last_number, due_number};
 ghost use Rattle.mv_script.specs.Scripts.{IsScript};
-ghost use Rattle.mv_core.specs.Books.{work_in, HasRounds, IsSame, IsNotStale, IsAnswer};
-ghost use Rattle.mv_core.specs.Cores.{HasStep, HasEnded, MayStep, IsAllowedIfFresh, HasRefused, HasBegunCall, HasStepped, HasTried, HasRepaired, HasDecided, HasMovedUp, HasCollected, AreFirstOf, HasAllRecords, KeepsOtherTasks, BeginsTask, RunsOne, RunsWhole, records_in};
+ghost use Rattle.mv_core.specs.Books.{work_in, HasRounds, IsSame, IsNotStale, IsAnswer, AreRecordsOf};
+ghost use Rattle.mv_core.specs.Cores.{HasStep, HasEnded, MayStep, IsAllowedIfFresh, HasRefused, HasBegunCall, HasStepped, HasTried, HasRepaired, HasDecided, HasMovedUp, HasCollected, AreFirstOf, AreOfLast, HasAllRecords, KeepsOtherTasks, BeginsTask, RunsOne, RunsWhole, records_in};
 
+use crate::block::Block;
 use crate::book::{Book, Check};
 use crate::commits::{
     check_task, collect_versions, decide_task, move_last, outcome_of, settle_and_commit,
 };
+use crate::shared::SharedScript;
 use crate::spare::Spare;
-use crate::tasks::{Running, finish_task, has_step, new_task, rerun_task, step_task};
+use crate::tasks::{Running, finish_task, has_step, new_task, rerun_task, step_task, whole_task};
+use mv_changes::recent::Committed;
 use mv_exec::step::Stepped;
+use mv_exec::task::Task;
 use mv_journal::event::Event;
 use mv_journal::outcome::{Outcome, Round};
 use mv_log::records::Records;
 use mv_script::script::Script;
 use mv_store::store::Store;
 use mv_store::view::StoreView;
+use mv_values::list::List;
 use mv_values::memory::NoMemory;
 use mv_view::view::Refused;
 use std::alloc::Global;
@@ -47,14 +54,18 @@ pub struct Core {
     book: Book,
     store: Store,
     /// The tasks of the calls that have begun, by number. A call that has committed has none.
-    tasks: Vec<Option<Running>>,
+    tasks: Vec<Option<Block<Running>>>,
     spare: Spare,
+    /// The task of the latest commit, with its records.
+    last: Option<Block<Running>>,
+    /// The block of a call that committed before, for the next call. It has the task of that call until then.
+    block: Option<Block<Running>>,
 }
 
 impl Model for Core {
     ghost use Rattle.std.specs.Coded.{codes};
     ghost use Rattle.mv_catalog.specs.contracts.resolved.RStmt as statement;
-    ghost use Rattle.mv_core.specs.Cores.{Cored, IsCore};
+    ghost use Rattle.mv_core.specs.Cores.{Cored, IsCore, KeepsLast};
 
     ghost Value = { Cored };
 
@@ -62,7 +73,7 @@ impl Model for Core {
 
     ghost view = { λ c. record { book = c.book; tasks = c.tasks.items } };
 
-    ghost invariant = { λ c. IsCore c.book c.store c.tasks.items };
+    ghost invariant = { λ c. IsCore c.book c.store c.tasks.items × KeepsLast c.book c.last };
 }
 
 impl Core {
@@ -75,11 +86,14 @@ impl Core {
         ensures tasks { IfOk result (λ core. core.tasks ≡ []) }
     {
         let store = Store::new(alloc, &script.opening)?;
+        let script = SharedScript::new(alloc, script)?;
         Ok(Core {
             book: Book::new(alloc, script),
             store,
             tasks: Vec::new(alloc),
             spare: Spare::new(),
+            last: None,
+            block: None,
         })
     }
 
@@ -93,7 +107,9 @@ impl Core {
             return Ok(None);
         };
         let task = new_task(alloc, self.book.script(), call, &mut self.spare)?;
-        self.tasks.push(Some(Running { task, count: None }))?;
+        let running = Running { task, count: None };
+        let block = block_for(alloc, running, &mut self.block, &mut self.spare)?;
+        self.tasks.push(Some(block))?;
         match self.book.begin(alloc) {
             Ok(Some(begun)) => Ok(Some(begun.call)),
             Ok(None) => unreachable!(),
@@ -131,9 +147,10 @@ impl Core {
     {
         self.refuse_stale(call)?;
         self.book.reserve(call)?;
-        let Some(running) = &mut self.tasks[call as usize] else {
+        let Some(block) = &mut self.tasks[call as usize] else {
             unreachable!();
         };
+        let running = block.get_mut();
         let mut view = StoreView::new(&self.store, self.book.start(call));
         step_task(alloc, &self.book, &mut view, call, running)?;
         self.book.ran(call);
@@ -149,14 +166,15 @@ impl Core {
         ensures whole { IfOk result (λ attempt. RunsWhole call attempt self.new) }
         ensures others { KeepsOtherTasks call self.old self.new }
     {
-        let Some(running) = &mut self.tasks[call as usize] else {
+        let Some(block) = &mut self.tasks[call as usize] else {
             unreachable!();
         };
+        let running = block.get_mut();
         match check_task(alloc, &self.book, &self.store, call, running)? {
             Check::Free => {
                 let task = &running.task;
                 let commit = settle_and_commit(alloc, &mut self.book, &mut self.store, call, task)?;
-                set_task(&mut self.tasks, call, None, &mut self.spare);
+                end_task(&mut self.tasks, call, &mut self.last, &mut self.block);
                 Ok(Attempt::Committed(commit))
             }
             Check::Hit { number, commit } => Ok(Attempt::Hit { number, commit }),
@@ -170,9 +188,10 @@ impl Core {
         ensures answer { IfOk result (λ check. (l : Live) → IsLive self.old.book.course call l → IsAnswer check (work_in self.old.book) self.old.book.course call l) }
         ensures same { IsSame self.old.book self.new.book }
     {
-        let Some(running) = &mut self.tasks[call as usize] else {
+        let Some(block) = &mut self.tasks[call as usize] else {
             unreachable!();
         };
+        let running = block.get_mut();
         check_task(alloc, &self.book, &self.store, call, running)
     }
 
@@ -188,9 +207,10 @@ impl Core {
         ensures others { KeepsOtherTasks call self.old self.new }
     {
         self.refuse_stale(call)?;
-        let Some(running) = &mut self.tasks[call as usize] else {
+        let Some(block) = &mut self.tasks[call as usize] else {
             unreachable!();
         };
+        let running = block.get_mut();
         let mut view = StoreView::new(&self.store, self.book.start(call));
         finish_task(alloc, &self.book, &mut view, call, running)?;
         let mut last = StoreView::new(&self.store, self.book.commits());
@@ -208,13 +228,14 @@ impl Core {
         ensures others { KeepsOtherTasks call self.old self.new }
     {
         self.refuse_stale(call)?;
-        let Some(running) = &mut self.tasks[call as usize] else {
+        let Some(block) = &mut self.tasks[call as usize] else {
             unreachable!();
         };
+        let running = block.get_mut();
         let mut view = StoreView::new(&self.store, self.book.start(call));
         finish_task(alloc, &self.book, &mut view, call, running)?;
         let commit = decide_task(alloc, &mut self.book, &mut self.store, call, running)?;
-        set_task(&mut self.tasks, call, None, &mut self.spare);
+        end_task(&mut self.tasks, call, &mut self.last, &mut self.block);
         Ok(commit)
     }
 
@@ -228,8 +249,11 @@ impl Core {
     {
         let task = move_last(alloc, &mut self.book, &self.store, call, &mut self.spare)?;
         let executed = task.executed();
+        let Some(block) = &mut self.tasks[call as usize] else {
+            unreachable!();
+        };
         let running = Running { task, count: None };
-        set_task(&mut self.tasks, call, Some(running), &mut self.spare);
+        replace_task(block.get_mut(), running, &mut self.spare);
         Ok(executed)
     }
 
@@ -277,10 +301,59 @@ impl Core {
         ensures told { result ≡ records_in self.now call }
         ensures first { AreFirstOf self.now.book call result }
     {
-        let Some(running) = &self.tasks[call as usize] else {
+        let Some(block) = &self.tasks[call as usize] else {
             unreachable!();
         };
-        running.task.records()
+        block.get().task.records()
+    }
+
+    /// Returns the records of the latest commit: those of a full run of its call on the tables before it. A call must have
+    /// committed.
+    pub fn last_records(&self) -> Records<'_>
+        requires { 0 < length self.now.book.course.order }
+        ensures { AreOfLast self.now.book result }
+    {
+        let Some(block) = &self.last else {
+            unreachable!();
+        };
+        block.get().task.records()
+    }
+
+    /// Returns the commits after the start of a live call, with their changes. The call's start may not be below low.
+    pub fn since(&self, call: u32) -> &[Committed]
+        requires live { IsLiveCall self.now.book.course call }
+        requires fresh { IsNotStale self.now.book call }
+        ensures changes { (l : Live) → IsLive self.now.book.course call l → changes_in result.now ≡ since (work_in self.now.book) self.now.book.course.order l.start }
+        ensures numbers { (l : Live) → IsLive self.now.book.course call l → AreNumbered (l.start + 1) result.now }
+    {
+        self.book.since(call)
+    }
+
+    /// Copies the commits after the start of a live call, with their changes. The call's start may not be below low. Fails
+    /// with `NoMemory` if memory runs out.
+    pub fn copy_since(&self, alloc: Global, call: u32) -> Result<List<Committed>, NoMemory>
+        requires live { IsLiveCall self.now.book.course call }
+        requires fresh { IsNotStale self.now.book call }
+        ensures changes { IfOk result (λ commits. (l : Live) → IsLive self.now.book.course call l → changes_in commits ≡ since (work_in self.now.book) self.now.book.course.order l.start) }
+        ensures numbers { IfOk result (λ commits. (l : Live) → IsLive self.now.book.course call l → AreNumbered (l.start + 1) commits) }
+    {
+        self.book.copy_since(alloc, call)
+    }
+
+    /// Runs a live call whole at its start, beside its own task. Fails with `Stale` exactly if the start is below low, and
+    /// with `NoMemory` if memory runs out.
+    pub fn run_whole(&self, alloc: Global, call: u32) -> Result<Task, Refused>
+        requires { IsLiveCall self.now.book.course call }
+        ensures records { IfOk result (λ task. AreRecordsOf self.now.book call task.log.records) }
+        ensures number { OnOk result (call < length self.now.book.script.calls) }
+        ensures fresh { OnOk result (IsNotStale self.now.book call) }
+        ensures refused { IfErr result (λ why. HasRefused call why self.now.book self.now.book) }
+    {
+        self.refuse_stale(call)?;
+        let mut view = StoreView::new(&self.store, self.book.start(call));
+        let mut spare = Spare::new();
+        let task = whole_task(alloc, self.book.script(), call, &mut view, &mut spare)?;
+        Ok(task)
     }
 
     /// Returns the number of records that the last round of a live call executed. The call's statements must have run.
@@ -289,13 +362,21 @@ impl Core {
         requires ended { HasEnded self.now.book call }
         ensures { due_number (work_in self.now.book) self.now.book.course call ≡ Some result }
     {
-        let Some(running) = &self.tasks[call as usize] else {
+        let Some(block) = &self.tasks[call as usize] else {
             unreachable!();
         };
+        let running = block.get();
         match running.count {
             Some(count) => count,
             None => self.book.number(call, &running.task),
         }
+    }
+
+    /// Returns the number of commits.
+    pub fn commits(&self) -> u32
+        ensures { result ≡ length self.now.book.course.order }
+    {
+        self.book.commits()
     }
 
     /// Returns the number of calls that have begun.
@@ -331,9 +412,10 @@ impl Core {
         let Some(_) = self.book.rounds(call) else {
             return false;
         };
-        let Some(running) = &self.tasks[call as usize] else {
+        let Some(block) = &self.tasks[call as usize] else {
             unreachable!();
         };
+        let running = block.get();
         has_step(&self.book, call, running)
     }
 
@@ -377,17 +459,41 @@ fn stepped_of(more: bool) -> Stepped
     if more { Stepped::Ran } else { Stepped::Ended }
 }
 
-/// Puts this in place of the task of a call, whose log becomes the spare one.
-fn set_task(
-    tasks: &mut Vec<Option<Running>>,
-    call: u32,
-    running: Option<Running>,
+/// Puts a running call in place of another, whose log becomes the spare one.
+fn replace_task(running: &mut Running, next: Running, spare: &mut Spare)
+    ensures { running.new ≡ next }
+{
+    let before = mem::replace(running, next);
+    spare.keep(before.task);
+}
+
+/// Returns a block with this running call. It is the kept one, and the log of the task in it becomes the spare one. If no
+/// block is kept, it is a new one. Fails with `NoMemory` if memory runs out.
+fn block_for(
+    alloc: Global,
+    running: Running,
+    kept: &mut Option<Block<Running>>,
     spare: &mut Spare,
+) -> Result<Block<Running>, NoMemory>
+    ensures { IfOk result (λ block. block ≡ running) }
+{
+    let Some(mut block) = kept.take() else {
+        return Block::new(alloc, running);
+    };
+    replace_task(block.get_mut(), running, spare);
+    Ok(block)
+}
+
+/// Ends the task of a call, which is then the last one, and keeps the block of the one before.
+fn end_task(
+    tasks: &mut Vec<Option<Block<Running>>>,
+    call: u32,
+    last: &mut Option<Block<Running>>,
+    kept: &mut Option<Block<Running>>,
 )
     requires { call < length tasks.old.items }
-    ensures { tasks.new.items ≡ slice_set tasks.old.items call running }
+    ensures tasks { tasks.new.items ≡ slice_set tasks.old.items call None }
+    ensures last { slice_get tasks.old.items call ≡ Some last.new }
 {
-    if let Some(before) = mem::replace(&mut tasks[call as usize], running) {
-        spare.keep(before.task);
-    }
+    *kept = mem::replace(last, tasks[call as usize].take());
 }

@@ -1,10 +1,12 @@
 //! The events of a core.
 
+ghost use Rattle.std.specs.Prelude.{OnOk};
 ghost use Rattle.mv_journal.specs.declared.event.Event.TheVariants.{B, S, A, M, C, X, G};
-ghost use Rattle.mv_core.specs.Drives.{HasTaken, TellsRound};
+ghost use Rattle.mv_core.specs.Drives.{HasTaken, TakesLine, TellsRound};
+ghost use Rattle.mv_core.specs.Cores.{HasAllRecords, HasRunWhole};
 
 use crate::book::Check;
-use crate::drive::{Events, Refusal};
+use crate::drive::{DriveFault, Events, Refusal, fault_at};
 use crate::engine::{Attempt, Core};
 use mv_journal::event::Event;
 use mv_lawful::fault::Fault;
@@ -34,7 +36,8 @@ fn step_event(core: &mut Core, alloc: Global, call: u32) -> Result<(), Refusal>
 
 /// Moves a call, if it is live.
 fn move_event(core: &mut Core, alloc: Global, call: u32) -> Result<(), Refusal>
-    ensures { HasTaken (M call) core.old.book core.new.book result }
+    ensures taken { HasTaken (M call) core.old.book core.new.book result }
+    ensures whole { OnOk result (HasAllRecords core.new call) }
 {
     if core.rounds(call).is_none() {
         return Err(Refusal::Refused(Fault::Order));
@@ -75,7 +78,8 @@ fn round_left(core: &mut Core, alloc: Global, call: u32) -> Result<bool, Refusal
 
 /// Repairs a call, if it is live, hit and may be repaired once more.
 fn repair_event(core: &mut Core, alloc: Global, call: u32) -> Result<(), Refusal>
-    ensures { HasTaken (A call) core.old.book core.new.book result }
+    ensures taken { HasTaken (A call) core.old.book core.new.book result }
+    ensures whole { OnOk result (HasAllRecords core.new call) }
 {
     let more = round_left(core, alloc, call)?;
     if !more {
@@ -105,21 +109,43 @@ fn collect_event(core: &mut Core) -> Result<(), Refusal>
     Ok(())
 }
 
+/// Makes an event. If it is refused, the history is unchanged.
+fn take(core: &mut Core, alloc: Global, event: Event) -> Result<(), Refusal>
+    ensures taken { HasTaken event core.old.book core.new.book result }
+    ensures whole { OnOk result (HasRunWhole event core.new) }
+{
+    match event {
+        Event::B(call) => begin_event(core, alloc, call),
+        Event::S(call) => step_event(core, alloc, call),
+        Event::A(call) => repair_event(core, alloc, call),
+        Event::M(call) => move_event(core, alloc, call),
+        Event::C(call) => commit_event(core, alloc, call),
+        Event::X(call) => decide_event(core, alloc, call),
+        Event::G => collect_event(core),
+    }
+}
+
+impl Core {
+    /// Makes the event on line n of a journal. Fails exactly if the law of journals refuses it, and with `NoMemory` if
+    /// memory runs out. Then the history is unchanged. A call that was repaired or moved has its new records.
+    pub fn event(&mut self, alloc: Global, event: &Event, n: u32) -> Result<(), DriveFault>
+        ensures taken { TakesLine event.now n self.old.book self.new.book result }
+        ensures whole { OnOk result (HasRunWhole event.now self.new) }
+    {
+        match take(self, alloc, *event) {
+            Ok(()) => Ok(()),
+            Err(refusal) => Err(fault_at(refusal, n)),
+        }
+    }
+}
+
 impl Events for Core {
     ghost booked = { λ core. core.book };
 
-    fn event(&mut self, alloc: Global, event: Event) -> Result<(), Refusal>
-        ensures { HasTaken event self.old.book self.new.book result }
+    fn event(&mut self, alloc: Global, event: &Event, n: u32) -> Result<(), DriveFault>
+        ensures { TakesLine event.now n self.old.book self.new.book result }
     {
-        match event {
-            Event::B(call) => begin_event(self, alloc, call),
-            Event::S(call) => step_event(self, alloc, call),
-            Event::A(call) => repair_event(self, alloc, call),
-            Event::M(call) => move_event(self, alloc, call),
-            Event::C(call) => commit_event(self, alloc, call),
-            Event::X(call) => decide_event(self, alloc, call),
-            Event::G => collect_event(self),
-        }
+        Core::event(self, alloc, event, n)
     }
 
     fn open_call(&self) -> Option<u32> {

@@ -22,6 +22,7 @@ use mv_core::commits::{
     collect_versions, decide_task, move_and_commit, move_last, outcome_of, settle_and_commit,
 };
 use mv_core::fresh::no_memory;
+use mv_core::shared::SharedScript;
 use mv_core::spare::Spare;
 use mv_core::tasks::{Running, finish_task, has_step, new_task, rerun_task, step_task, whole_task};
 use mv_journal::outcome::Outcome;
@@ -69,6 +70,7 @@ impl<N: Making> Desk<N> {
         ensures journal { IfOk result (λ desk. desk.journal ≡ []) }
     {
         let store = Store::new(alloc, &script.opening)?;
+        let script = SharedScript::new(alloc, script)?;
         let book = Book::new(alloc, script);
         Ok(Desk { book, store, pass })
     }

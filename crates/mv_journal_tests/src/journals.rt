@@ -2,7 +2,7 @@
 
 use crate::scripts::byte;
 use mv_accept::accept::accept;
-use mv_core::drive::{Events, Refusal};
+use mv_core::drive::DriveFault;
 use mv_core::engine::Core;
 use mv_journal::event::Event;
 use mv_top::script::prepare;
@@ -29,8 +29,8 @@ fn any_event(random: &mut SplitMix64, next: u32) -> Event {
 
 /// Makes an event, if the law of journals allows it.
 fn try_event(alloc: Global, core: &mut Core, event: Event) -> Result<(), NoMemory> {
-    match core.event(alloc, event) {
-        Err(Refusal::NoMemory) => Err(NoMemory),
+    match core.event(alloc, &event, 0) {
+        Err(DriveFault::NoMemory) => Err(NoMemory),
         _ => Ok(()),
     }
 }
@@ -38,7 +38,7 @@ fn try_event(alloc: Global, core: &mut Core, event: Event) -> Result<(), NoMemor
 /// Makes random events until each call has committed.
 fn make_events(alloc: Global, random: &mut SplitMix64, core: &mut Core) -> Result<(), Fail> {
     for _ in 0..100_000u32 {
-        if Events::open_call(core).is_none() {
+        if core.open_call().is_none() {
             return Ok(());
         }
         let event = any_event(random, core.begun());

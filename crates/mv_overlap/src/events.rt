@@ -2,7 +2,7 @@
 
 ghost use Rattle.std.specs.Prelude.{◌≡◌};
 
-use mv_core::drive::{Events, Refusal};
+use mv_core::drive::DriveFault;
 use mv_core::engine::Core;
 use mv_journal::event::Event;
 use mv_lawful::fault::Fault;
@@ -18,10 +18,11 @@ pub(crate) fn try_event(
 ) -> Result<Option<Fault>, NoMemory>
     ensures script { core.new.book.script ≡ core.old.book.script }
 {
-    match core.event(alloc, event) {
+    match core.event(alloc, &event, 0) {
         Ok(()) => Ok(None),
-        Err(Refusal::Refused(fault)) => Ok(Some(fault)),
-        Err(Refusal::NoMemory) => Err(NoMemory),
+        Err(DriveFault::Refused { fault, .. }) => Ok(Some(fault)),
+        Err(DriveFault::Open { .. }) => unreachable!(),
+        Err(DriveFault::NoMemory) => Err(NoMemory),
     }
 }
 

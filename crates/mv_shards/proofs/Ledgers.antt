@@ -23,11 +23,11 @@ use Rattle.mv_shards.specs.Scripts.{script_in}
 use Rattle.mv_shards.specs.Histories.{tables_at, last_touch, changes_in}
 use Rattle.mv_shards.specs.Kept.{HasGrown}
 use Rattle.mv_shards.specs.Installing.{MayInstall, HasInstalled, Leads}
-use Rattle.mv_shards.specs.Reads.{IsStart}
+use Rattle.mv_shards.specs.Reads.{IsStart, MayRead}
 use Rattle.mv_shards.proofs.Pieces.{unwritten}
-use Rattle.mv_shards.proofs.Histories.{tables_front, touch_front}
+use Rattle.mv_shards.proofs.Histories.{tables_front, touch_front, touch_climbs}
 use Rattle.mv_shards.proofs.Stored.{below_eight, in_eight}
-use Rattle.mv_shards.specs.Ledgers.{IsLedger, AreTouched}
+use Rattle.mv_shards.specs.Ledgers.{IsLedger, AreTouched, AreLastChanges}
 
 zeros_at : (n k : ℕ) → slice_index (replicate n 0) k ≡ 0
 zeros_at zero k = refl
@@ -63,6 +63,34 @@ ledger_start s n k touched l = record {
   past = let seen = l.seen in omega (arith, seen);
   touches = l.touches;
   marks = l.marks;
+}
+
+-- a view of the tables after all commits
+pub ledger_reads : (s : Script) (n : ℕ) (k : Knows) (touched : List ℕ) → IsLedger s k n touched → MayRead s eight n (plain k)
+ledger_reads s n k touched l = record {
+  role = refl;
+  script = l.script;
+  past = let seen = l.seen in omega (arith, seen);
+  marks = λ q own.
+      let lt = below_eight q own in
+      let t = l.touches q lt in
+      let m = l.marks q lt in
+      omega (arith, t, m);
+}
+
+-- a start after fewer commits
+pub ledger_start_at : (s : Script) (n m : ℕ) (k : Knows) (touched now : List ℕ) → IsLedger s k n touched → m ≤ n → AreLastChanges s k.seen m now → IsStart s m (plain k) now
+ledger_start_at s n m k touched now l le are = record {
+  role = refl;
+  script = l.script;
+  past = let seen = l.seen in omega (arith, seen, le);
+  touches = are;
+  marks = λ q lt.
+      let is = are q lt in
+      let climbs = touch_climbs s q k.seen m n le in
+      let t = l.touches q lt in
+      let mark = l.marks q lt in
+      omega (arith, is, climbs, t, mark);
 }
 
 pub ledger_may : (s : Script) (n call : ℕ) (ws : List Write) (k : Knows) (touched : List ℕ) → IsLedger s k n touched → call < length s.calls → list_any (eqb call) k.seen ≡ false → Leads s k call ws → MayInstall s eight call ws k

@@ -25,3 +25,7 @@ pub record IsLedger (s : Script) (k : Knows) (n : ℕ) (touched : List ℕ) : Ty
 -- the number of each shard with one of these changes is n, and that of each other is as before
 abbrev pub AreTouched : List Change → ℕ → List ℕ → List ℕ → Type 0
 AreTouched changes n old new = (q : ℕ) → q < 8 → slice_index new q ≡ (if changes_in q changes then n else slice_index old q)
+
+-- for each shard the last of these commits that changes a row of it, or 0
+abbrev pub AreLastChanges : Script → List ℕ → ℕ → List ℕ → Type 0
+AreLastChanges s order n touched = (q : ℕ) → q < 8 → slice_index touched q ≡ last_touch s q order n

@@ -1,21 +1,26 @@
 //! What the gate keeps of its shards: how far they have come, and when each has last changed.
 
-ghost use Rattle.std.specs.Prelude.{◌≡◌, ◌<◌, ◌+◌, ◌++◌, ◌∷◌, [], IfOk, OnErr, false, length};
+ghost use Rattle.std.specs.Prelude.{◌≡◌, ◌<◌, ◌≤◌, ◌+◌, ◌++◌, ◌∷◌, [], ℕ, IfOk, OnOk, OnErr, false, length};
 ghost use Rattle.std.specs.List.{list_any};
+ghost use Rattle.std.specs.Option.{is_some};
 ghost use lib.Dec.{eqb};
 ghost use mathlib.Core.List.{IsPrefix};
 ghost use Rattle.mv_history.specs.Changes.{changes_between};
-ghost use Rattle.mv_seats.specs.Knowing.{Plain, Gate};
+ghost use Rattle.mv_seats.specs.Knowing.{Plain, Gate, plain};
 ghost use Rattle.mv_script.specs.Scripts.{IsScript};
 ghost use Rattle.mv_shards.specs.Scripts.{script_in};
 ghost use Rattle.mv_shards.specs.Histories.{tables_at};
 ghost use Rattle.mv_shards.specs.Installing.{Leads};
-ghost use Rattle.mv_shards.specs.Ledgers.{IsLedger, AreTouched};
+ghost use Rattle.mv_lawful.specs.Rounds.{IsPast};
+ghost use Rattle.mv_view.specs.declared.view.Refused.TheVariants.{Stale};
+ghost use Rattle.mv_shards.specs.Kept.{IsLow};
+ghost use Rattle.mv_shards.specs.Ledgers.{IsLedger, AreTouched, AreLastChanges};
 
 use crate::notes::note;
 use crate::parts::{SHARDS, shard_of};
 use crate::shards::Shards;
 use crate::start::Start;
+use crate::view::ShardsView;
 use mv_history::change::Change;
 use mv_seats::board::{Board, Making};
 use mv_seats::pass::Pass;
@@ -23,6 +28,7 @@ use mv_values::copied::Copied;
 use mv_values::list::List;
 use mv_values::memory::NoMemory;
 use mv_values::patch::Write;
+use mv_view::view::Refused;
 use std::alloc::Global;
 use std::marker::Model;
 use std::sync::Wait;
@@ -63,6 +69,102 @@ impl<N: Making> Ledger<N> {
         })
     }
 
+    /// Returns the number of commits.
+    pub fn commits(&self) -> u32
+        ensures commits { result ≡ self.now.commits }
+        ensures kept { IsLedger N.script self.now.knows self.now.commits self.now.touched }
+    {
+        let _pass = &self.pass;
+        let _touched = &self.touched;
+        self.commits
+    }
+
+    /// Splits off a plain pass that has seen all commits.
+    pub fn pass_for(&mut self, board: &Board<N>) -> Pass<N>
+        ensures same { self.new ≡ self.old }
+        ensures role { result.role ≡ Plain }
+        ensures seen { result.seen ≡ self.old.knows.seen }
+    {
+        note(&mut self.pass, board)
+    }
+
+    /// Learns that what a plain pass has seen begins the history.
+    pub fn meet(&mut self, board: &Board<N>, other: Pass<N>)
+        requires { other.role ≡ Plain }
+        ensures commits { self.new.commits ≡ self.old.commits }
+        ensures touched { self.new.touched ≡ self.old.touched }
+        ensures kept { self.new.knows.seen ≡ self.old.knows.seen }
+        ensures seen { IsPrefix other.seen self.old.knows.seen }
+    {
+        self.pass.meet(board, other);
+    }
+
+    /// Learns that what a view has seen begins the history. The low of the view's last `Stale` result lies below what the
+    /// horizon keeps of all commits.
+    pub fn learn<R: Wait>(&mut self, board: &Board<N>, view: ShardsView<'_, N, R>)
+        ensures commits { self.new.commits ≡ self.old.commits }
+        ensures touched { self.new.touched ≡ self.old.touched }
+        ensures kept { self.new.knows.seen ≡ self.old.knows.seen }
+        ensures low { IsLow N.script.options.horizon view.entry.sight.last_low self.old.commits }
+    {
+        let _commits = self.commits();
+        let seen = view.into_pass();
+        self.meet(board, seen);
+    }
+
+    /// Learns why a view of the tables after this many commits has refused a query: memory ran out, or the rows may be
+    /// gone. In the second case more commits than the horizon have been made after that.
+    pub fn refused<R: Wait>(
+        &mut self,
+        board: &Board<N>,
+        view: ShardsView<'_, N, R>,
+        number: u32,
+        why: Refused,
+    ) -> Result<(), NoMemory>
+        requires { (start low : ℕ) → why ≡ Stale start low → (number < low) × (view.sight.last_low ≡ low) }
+        ensures commits { self.new.commits ≡ self.old.commits }
+        ensures touched { self.new.touched ≡ self.old.touched }
+        ensures kept { self.new.knows.seen ≡ self.old.knows.seen }
+        ensures past { OnOk result (IsPast N.script.options.horizon number self.old.commits) }
+    {
+        match why {
+            Refused::NoMemory => Err(NoMemory),
+            Refused::Stale {
+                start: _start,
+                low: _low,
+            } => {
+                self.learn(board, view);
+                Ok(())
+            }
+        }
+    }
+
+    /// Returns a view of the tables after all commits, before any query. It allocates no memory.
+    pub fn view<'a, R: Wait>(
+        &mut self,
+        rt: &'a R,
+        shards: &'a Shards<N>,
+        board: &'a Board<N>,
+    ) -> ShardsView<'a, N, R>
+        ensures same { self.new ≡ self.old }
+        ensures sight { result.sight ≡ record { database = tables_at N.script self.old.knows.seen self.old.commits; start = self.old.commits; may_be_stale = is_some N.script.options.horizon; stale_answers = 0; last_low = 0; rows_calls = 0; row_calls = 0 } }
+        ensures seen { result.seen ≡ self.old.knows.seen }
+    {
+        let pass = note(&mut self.pass, board);
+        ShardsView::of(rt, shards, board, pass, self.commits)
+    }
+
+    /// Returns the start after this many commits. `touched` must have for each shard the last commit up to there that
+    /// changes a row of it, or 0. It allocates no memory.
+    pub fn start_at(&mut self, board: &Board<N>, number: u32, touched: List<u32>) -> Start<N>
+        requires past { number ≤ self.old.commits }
+        requires touched { AreLastChanges N.script self.old.knows.seen number touched }
+        ensures same { self.new ≡ self.old }
+        ensures start { result ≡ record { number = number; knows = plain self.old.knows; touched = touched } }
+    {
+        Start::of(note(&mut self.pass, board), number, touched)
+    }
+
     /// Returns the start after all commits. Its pass has seen what the other pass, which must be plain, had seen.
     pub fn start(
         &mut self,
@@ -73,8 +175,10 @@ impl<N: Making> Ledger<N> {
         requires plain { other.old.role ≡ Plain }
         ensures same { other.new ≡ other.old }
         ensures commits { self.new.commits ≡ self.old.commits }
+        ensures touched { self.new.touched ≡ self.old.touched }
         ensures kept { self.new.knows.seen ≡ self.old.knows.seen }
         ensures number { IfOk result (λ start. start.number ≡ self.old.commits) }
+        ensures whole { IfOk result (λ start. start.knows.seen ≡ self.old.knows.seen) }
         ensures all { IfOk result (λ start. start.number ≡ length start.knows.seen) }
         ensures seen { IfOk result (λ start. IsPrefix other.old.seen start.knows.seen) }
     {
@@ -101,8 +205,10 @@ impl<N: Making> Ledger<N> {
         requires leads { Leads N.script self.old.knows call writes.now }
         requires changes { changes.now ≡ changes_between (tables_at N.script self.old.knows.seen self.old.commits) (tables_at N.script (self.old.knows.seen ++ call ∷ []) (self.old.commits + 1)) }
         ensures number { IfOk result (λ n. n ≡ self.old.commits + 1) }
+        ensures counted { IfOk result (λ n. self.new.commits ≡ n) }
         ensures appended { IfOk result (λ n. self.new.knows.seen ≡ self.old.knows.seen ++ call ∷ []) }
         ensures err { OnErr result (self.new.knows.seen ≡ self.old.knows.seen) }
+        ensures stays { OnErr result (self.new.commits ≡ self.old.commits) }
     {
         let n = shards.install(rt, alloc, board, &mut self.pass, call, writes)?;
         touch(&mut self.touched, changes, n);

@@ -1,12 +1,22 @@
 //! Starts of calls.
 
-ghost use Rattle.std.specs.Prelude.{◌≡◌};
+ghost use Rattle.std.specs.Prelude.{◌≡◌, ◌<◌, ℕ, length, OnOk};
+ghost use mathlib.Core.List.{IsPrefix};
+ghost use Rattle.mv_seats.specs.Knowing.{Plain};
+ghost use Rattle.mv_lawful.specs.Rounds.{IsPast};
+ghost use Rattle.mv_view.specs.declared.view.Refused.TheVariants.{Stale};
+ghost use Rattle.mv_shards.specs.Kept.{IsLow};
 ghost use Rattle.mv_shards.specs.Reads.{IsStart};
 
-use mv_seats::board::Making;
+use crate::notes::note;
+use crate::view::ShardsView;
+use mv_seats::board::{Board, Making};
 use mv_seats::pass::Pass;
 use mv_values::list::List;
+use mv_values::memory::NoMemory;
+use mv_view::view::Refused;
 use std::marker::Model;
+use std::sync::Wait;
 
 /// The start of a call: a number of commits, a pass that has seen as many, and for each shard the last commit up to the
 /// start that changes a row of the shard, or 0.
@@ -47,5 +57,62 @@ impl<N: Making> Start<N> {
     {
         let _pass = &self.pass;
         self.number
+    }
+
+    /// Returns for each shard the last commit up to the start that changes a row of it, or 0.
+    pub fn touched(&self) -> &List<u32>
+        ensures touched { result.now ≡ self.now.touched }
+        ensures kept { IsStart N.script self.now.number self.now.knows self.now.touched }
+    {
+        let _pass = &self.pass;
+        let _number = self.number;
+        &self.touched
+    }
+
+    /// Splits off a plain pass that has seen as much.
+    pub fn pass_for(&mut self, board: &Board<N>) -> Pass<N>
+        ensures same { self.new ≡ self.old }
+        ensures role { result.role ≡ Plain }
+        ensures seen { result.seen ≡ self.old.knows.seen }
+    {
+        note(&mut self.pass, board)
+    }
+
+    /// Learns what a view has seen. The low of the view's last `Stale` result then lies below what the horizon keeps of
+    /// the commits that the start's pass has seen.
+    pub fn learn<R: Wait>(&mut self, board: &Board<N>, view: ShardsView<'_, N, R>)
+        ensures number { self.new.number ≡ self.old.number }
+        ensures touched { self.new.touched ≡ self.old.touched }
+        ensures seen { IsPrefix self.old.knows.seen self.new.knows.seen }
+        ensures low { IsLow N.script.options.horizon view.entry.sight.last_low (length self.new.knows.seen) }
+    {
+        let seen = view.into_pass();
+        self.pass.meet(board, seen);
+    }
+
+    /// Learns why a view of the start has refused a query: memory ran out, or the rows may be gone. In the second case more
+    /// commits than the horizon have been made after the start.
+    pub fn refused<R: Wait>(
+        &mut self,
+        board: &Board<N>,
+        view: ShardsView<'_, N, R>,
+        why: Refused,
+    ) -> Result<(), NoMemory>
+        requires { (start low : ℕ) → why ≡ Stale start low → (self.old.number < low) × (view.sight.last_low ≡ low) }
+        ensures number { self.new.number ≡ self.old.number }
+        ensures touched { self.new.touched ≡ self.old.touched }
+        ensures seen { IsPrefix self.old.knows.seen self.new.knows.seen }
+        ensures past { OnOk result (IsPast N.script.options.horizon self.old.number (length self.new.knows.seen)) }
+    {
+        match why {
+            Refused::NoMemory => Err(NoMemory),
+            Refused::Stale {
+                start: _start,
+                low: _low,
+            } => {
+                self.learn(board, view);
+                Ok(())
+            }
+        }
     }
 }

@@ -3,9 +3,11 @@
 ghost use Rattle.std.specs.Prelude.{◌≡◌, ◌<◌, ◌^◌, length};
 ghost use Rattle.std.specs.Option.{is_some};
 ghost use Rattle.mv_view.specs.Viewing.{Sight};
+ghost use Rattle.mv_seats.specs.Knowing.{Plain};
+ghost use Rattle.mv_shards.specs.Parts.{eight};
 ghost use Rattle.mv_shards.specs.Histories.{tables_at};
 ghost use Rattle.mv_shards.specs.Kept.{IsLow};
-ghost use Rattle.mv_shards.specs.Reads.{answers_after, low_after};
+ghost use Rattle.mv_shards.specs.Reads.{MayRead, answers_after, low_after};
 
 use crate::notes::note;
 use crate::shards::Shards;
@@ -75,6 +77,43 @@ impl<'a, N: Making, R: Wait> ShardsView<'a, N, R> {
             rows_calls: 0,
             row_calls: 0,
         }
+    }
+
+    /// Returns a view of the tables after this many commits of what the pass has seen, before any query. It allocates no
+    /// memory.
+    pub(crate) fn of(
+        rt: &'a R,
+        shards: &'a Shards<N>,
+        board: &'a Board<N>,
+        pass: Pass<N>,
+        start: u32,
+    ) -> ShardsView<'a, N, R>
+        requires { MayRead N.script eight start pass }
+        ensures sight { result.sight ≡ record { database = tables_at N.script pass.seen start; start = start; may_be_stale = is_some N.script.options.horizon; stale_answers = 0; last_low = 0; rows_calls = 0; row_calls = 0 } }
+        ensures seen { result.seen ≡ pass.seen }
+    {
+        ShardsView {
+            rt,
+            shards,
+            board,
+            pass,
+            start,
+            stale_answers: 0,
+            last_low: 0,
+            rows_calls: 0,
+            row_calls: 0,
+        }
+    }
+
+    /// Returns the view's pass, which has seen what the shards have shown. The low of the last `Stale` result lies below
+    /// what the horizon keeps of the commits that it has seen.
+    pub fn into_pass(self) -> Pass<N>
+        ensures role { result.role ≡ Plain }
+        ensures seen { result.seen ≡ self.entry.seen }
+        ensures low { IsLow N.script.options.horizon self.entry.sight.last_low (length result.seen) }
+    {
+        let ShardsView { pass, .. } = self;
+        pass
     }
 
     /// Returns the low of the last `Stale` result, or 0. It lies below what the horizon keeps of the commits that the

@@ -11,6 +11,7 @@ use Rattle.mv_core.specs.Cores.{IsLiveTask, IsRepaired, HasTurns}
 use Rattle.mv_core.proofs.Stored.{stored_same}
 use Rattle.mv_core.proofs.Taking.{due_live, due_now, task_runs, task_back, task_given}
 use Rattle.mv_core.proofs.Changed.{on_new, on_old, running_same, allowed_same, due_decided, committed_after}
+use Rattle.mv_core.proofs.Lasting.{always_ok}
 use Rattle.mv_core.proofs.commits.decide_task.Goals as goal
 
 pub repair_last-requires-clause-stored : goal.repair_last-requires-clause-stored
@@ -51,6 +52,12 @@ pub commit_task-committed-requires-clause-whole : goal.commit_task-committed-req
 commit_task-committed-requires-clause-whole c =
     let live = on_new (λ s x. IsLiveCall x c.args.call) c.args.book.now c.settle.new.self c.settle.ensures.same c.requires.call.live in
     (c.in_ok-repair_last.ensures.ok live.0 live.1).records
+
+pub returns-else-is_err-clause-whole : goal.returns-else-is_err-clause-whole
+returns-else-is_err-clause-whole c =
+    let live = on_new (λ s x. IsLiveCall x c.args.call) c.args.book.now c.settle.new.self c.settle.ensures.same c.requires.call.live in
+    always_ok c.commit_task-committed.result _
+    (on_old (λ s x. c.repair_last.new.running.task.log.records ≡ records_at (work_of s) x.order (length x.order) c.args.call) c.args.book.now c.settle.new.self c.settle.ensures.same (c.in_ok-repair_last.ensures.ok live.0 live.1).records)
 
 pub commit_task-committed-requires-clause-own : goal.commit_task-committed-requires-clause-own
 commit_task-committed-requires-clause-own c =

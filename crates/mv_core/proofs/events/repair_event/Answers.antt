@@ -9,4 +9,4 @@ again-requires-clause-allowed c = round_allowed c.args.core.now.book c.round_lef
 pub returns-in_err-again : goal.returns-in_err-again
 returns-in_err-again c =
     let p = err_from_is_err_and c.from_residual-in_err-again.result c.from_residual-in_err-again.ensures.1 in
-    rw (p.1, p.2) (again_refused c.args.call c.args.core.now.book c.round_left.new.core.book c.again.new.self.book c.in_err-again.field-0.0 c.in_ok-more.ensures.0 c.in_err-again.ensures.made)
+    rw (p.1, p.2) (record { taken = again_refused c.args.call c.args.core.now.book c.round_left.new.core.book c.again.new.self.book c.in_err-again.field-0.0 c.in_ok-more.ensures.0 c.in_err-again.ensures.made; whole = tt })

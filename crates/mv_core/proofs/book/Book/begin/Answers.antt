@@ -4,6 +4,7 @@ use Rattle.mv_core.specs.declared.progress.Progress.{Progress}
 use Rattle.std.specs.Prelude.{All}
 use Rattle.mv_core.specs.Lives.{live_numbers}
 use Rattle.mv_core.specs.Calls.{live_of, IsFresh}
+use Rattle.mv_script.specs.declared.script.Script.{Script}
 use Rattle.mv_script.specs.Scripts.{work_of}
 use Rattle.mv_core.specs.Books.{Booked, IsBook}
 use Rattle.mv_core.proofs.Keeping.{few_inside, live_within, live_comes, kept_begun, begun_none, begun_made, the_course, all_begun}
@@ -11,7 +12,7 @@ use Rattle.mv_core.proofs.Recents.{recent_begun}
 use Rattle.mv_core.proofs.book.Book.begin.Goals as goal
 
 pub returns-then-len : goal.returns-then-len
-returns-then-len c = all_begun c.self.inside c.args.self.now c.self.view_is c.self.invariant.kept (search (rules, c.if-len.true, c.len.ensures, c.len-2.ensures))
+returns-then-len c = all_begun c.self.inside c.args.self.now c.self.view_is c.self.invariant.kept (search (rules, c.if-len.true, c.len.ensures, c.len-2.ensures ∙ ap (λ (s : Script). length s.calls) c.get.ensures))
 
 pub returns-in_err-reserve : goal.returns-in_err-reserve
 returns-in_err-reserve c = begun_none _ c.self.inside c.args.self.now _ c.self.inside.calls.items c.from_residual.result c.self.view_is refl refl refl refl c.reserve.ensures.items c.from_residual.ensures.1
@@ -41,7 +42,7 @@ number : (c : goal.After-put) → c.len-call.result ≡ length c.self.inside.cal
 number c = search (rules, c.len-call.ensures)
 
 less : (c : goal.After-put) → length c.self.inside.calls.items < length c.self.inside.script.calls
-less c = search (rules, c.if-len.false, c.len.ensures, c.len-2.ensures)
+less c = search (rules, c.if-len.false, c.len.ensures, c.len-2.ensures ∙ ap (λ (s : Script). length s.calls) c.get.ensures)
 
 fresh : (c : goal.After-put) → IsFresh (length c.self.inside.order.items) c.in_ok-progress.progress
 fresh c = subst (λ n. IsFresh n c.in_ok-progress.progress) c.len-start.ensures c.in_ok-progress.ensures

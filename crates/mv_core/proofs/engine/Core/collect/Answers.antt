@@ -9,6 +9,7 @@ use Rattle.mv_core.proofs.Taking.{tasks_same, collected_on}
 use Rattle.mv_core.proofs.Numbered.{numbers_same, numbers_other}
 use Rattle.mv_journal.specs.declared.event.Event.TheVariants.{G}
 use Rattle.mv_core.proofs.Changed.{book_in, tasks_in}
+use Rattle.mv_core.proofs.Lasting.{last_collected}
 use Rattle.mv_core.proofs.engine.Core.collect.Goals as goal
 
 -- versions were collected, or nothing happened
@@ -17,8 +18,7 @@ core_collected (Ok x) old new store raised ts k made stored = record { stored = 
 core_collected (Err e) old new store raised ts k same stored = record { stored = stored; numbers = numbers_same old new same k.numbers; tasks = tasks_same old.script new.script old.course new.course ts k.tasks same.script same.course }
 
 pub invariant_of-self : goal.invariant_of-self
-invariant_of-self c =
-    core_collected c.collect_versions.result c.self.inside.book c.collect_versions.new.book c.self.inside.store c.collect_versions.new.store c.self.inside.tasks.items c.self.invariant c.collect_versions.ensures.made c.collect_versions.ensures.stored
+invariant_of-self c = (core_collected c.collect_versions.result c.self.inside.book c.collect_versions.new.book c.self.inside.store c.collect_versions.new.store c.self.inside.tasks.items c.self.invariant.0 c.collect_versions.ensures.made c.collect_versions.ensures.stored, last_collected c.collect_versions.result c.self.inside.book c.collect_versions.new.book c.self.inside.last c.self.invariant.1 c.collect_versions.ensures.made)
 
 pub returns-clause-made : goal.returns-clause-made
 returns-clause-made c = subst (λ (b : Booked). HasCollected c.collect_versions.result b c.collect_versions.new.book) (ap book_in c.self.view_is) c.collect_versions.ensures.made

@@ -11,43 +11,44 @@ use Rattle.mv_core.proofs.Numbered.{numbers_other}
 use Rattle.mv_core.proofs.Taking.{task_there, task_within, call_within, stepped_on, running_in, core_set}
 use Rattle.mv_core.proofs.Changed.{core_same, live_now, step_now, step_used, live_stepped, step_told, made_now, fresh_with, refused_same, book_in, tasks_in}
 use Rattle.mv_core.proofs.Recorded.{others_kept, others_set, runs_one}
+use Rattle.mv_core.proofs.Lasting.{last_same, last_other}
 use Rattle.mv_core.proofs.engine.Core.step.Goals as goal
 
 pub invariant_of-self : goal.invariant_of-self
-invariant_of-self c = core_same c.self.inside.book c.reserve.new.self c.self.inside.store c.self.inside.tasks.items c.self.invariant c.reserve.ensures.same
+invariant_of-self c = (core_same c.self.inside.book c.reserve.new.self c.self.inside.store c.self.inside.tasks.items c.self.invariant.0 c.reserve.ensures.same, last_same c.self.inside.book c.reserve.new.self c.self.inside.last c.self.invariant.1 c.reserve.ensures.same)
 
 pub index_mut-requires : goal.index_mut-requires
 index_mut-requires c =
-    let k = core_same c.self.inside.book c.reserve.new.self c.self.inside.store c.self.inside.tasks.items c.self.invariant c.reserve.ensures.same in
+    let k = core_same c.self.inside.book c.reserve.new.self c.self.inside.store c.self.inside.tasks.items c.self.invariant.0 c.reserve.ensures.same in
     let lt : c.args.call < length c.self.inside.tasks.items = task_within c.reserve.new.self.script c.reserve.new.self.course c.self.inside.tasks.items c.args.call k.tasks
     (live_now c.self.inside.book c.args.self.now.book c.reserve.new.self c.args.call (ap book_in c.self.view_is) c.requires.live c.reserve.ensures.same) in
     search (rules, lt)
 
 pub unreachable-requires : goal.unreachable-requires
 unreachable-requires c =
-    let k = core_same c.self.inside.book c.reserve.new.self c.self.inside.store c.self.inside.tasks.items c.self.invariant c.reserve.ensures.same in
+    let k = core_same c.self.inside.book c.reserve.new.self c.self.inside.store c.self.inside.tasks.items c.self.invariant.0 c.reserve.ensures.same in
     task_there c.reserve.new.self.script c.reserve.new.self.course c.self.inside.tasks.items c.args.call c.index_mut.result.now k.tasks
     (live_now c.self.inside.book c.args.self.now.book c.reserve.new.self c.args.call (ap book_in c.self.view_is) c.requires.live c.reserve.ensures.same) c.index_mut.ensures.value c.in_default.is
 
 pub step_task-requires-clause-call : goal.step_task-requires-clause-call
 step_task-requires-clause-call c =
-    let k = core_same c.self.inside.book c.reserve.new.self c.self.inside.store c.self.inside.tasks.items c.self.invariant c.reserve.ensures.same in
-    running_in c.reserve.new.self c.self.inside.store c.self.inside.tasks.items c.args.call c.index_mut.result.now c.in-Some.running k
-    (live_now c.self.inside.book c.args.self.now.book c.reserve.new.self c.args.call (ap book_in c.self.view_is) c.requires.live c.reserve.ensures.same) c.index_mut.ensures.value c.in-Some.is
+    let k = core_same c.self.inside.book c.reserve.new.self c.self.inside.store c.self.inside.tasks.items c.self.invariant.0 c.reserve.ensures.same in
+    running_in c.reserve.new.self c.self.inside.store c.self.inside.tasks.items c.args.call c.index_mut.result.now c.get_mut-running.result.now k
+    (live_now c.self.inside.book c.args.self.now.book c.reserve.new.self c.args.call (ap book_in c.self.view_is) c.requires.live c.reserve.ensures.same) c.index_mut.ensures.value (c.in-Some.is ∙ ap Some (sym c.get_mut-running.ensures.value))
 
 pub start-requires : goal.start-requires
 start-requires c = live_now c.self.inside.book c.args.self.now.book c.reserve.new.self c.args.call (ap book_in c.self.view_is) c.requires.live c.reserve.ensures.same
 
 pub step_task-requires-clause-shows : goal.step_task-requires-clause-shows
 step_task-requires-clause-shows c =
-    let k = core_same c.self.inside.book c.reserve.new.self c.self.inside.store c.self.inside.tasks.items c.self.invariant c.reserve.ensures.same in
+    let k = core_same c.self.inside.book c.reserve.new.self c.self.inside.store c.self.inside.tasks.items c.self.invariant.0 c.reserve.ensures.same in
     shows_start c.reserve.new.self c.self.inside.store c.args.call c.start.result c.new-view.result k.stored
     (fresh_with c.self.inside.book c.args.self.now.book c.reserve.new.self c.args.call (ap book_in c.self.view_is) c.reserve.ensures.same c.in_ok-refuse_stale.ensures.fresh) c.start.ensures.value c.start.ensures.past c.new-view.ensures
 
 pub invariant_of-self-in_err-step_task : goal.invariant_of-self-in_err-step_task
 invariant_of-self-in_err-step_task c =
-    let k = core_same c.self.inside.book c.reserve.new.self c.self.inside.store c.self.inside.tasks.items c.self.invariant c.reserve.ensures.same in
-    core_set c.reserve.new.self c.self.inside.store c.self.inside.tasks.items c.args.call c.step_task.new.running k (live_now c.self.inside.book c.args.self.now.book c.reserve.new.self c.args.call (ap book_in c.self.view_is) c.requires.live c.reserve.ensures.same) c.in_err-step_task.ensures.task
+    let k = core_same c.self.inside.book c.reserve.new.self c.self.inside.store c.self.inside.tasks.items c.self.invariant.0 c.reserve.ensures.same in
+    (core_set c.reserve.new.self c.self.inside.store c.self.inside.tasks.items c.args.call c.step_task.new.running k (live_now c.self.inside.book c.args.self.now.book c.reserve.new.self c.args.call (ap book_in c.self.view_is) c.requires.live c.reserve.ensures.same) c.in_err-step_task.ensures.task, last_same c.self.inside.book c.reserve.new.self c.self.inside.last c.self.invariant.1 c.reserve.ensures.same)
 
 pub steps-requires : goal.steps-requires
 steps-requires c =
@@ -64,17 +65,19 @@ has_more-requires c none =
 
 pub invariant_of-self-2 : goal.invariant_of-self-2
 invariant_of-self-2 c =
-    let k = core_same c.self.inside.book c.reserve.new.self c.self.inside.store c.self.inside.tasks.items c.self.invariant c.reserve.ensures.same in
-    let live = live_now c.self.inside.book c.args.self.now.book c.reserve.new.self c.args.call (ap book_in c.self.view_is) c.requires.live c.reserve.ensures.same in
-    record {
-      stored = stored_made (S c.args.call) c.reserve.new.self c.ran.new.self c.self.inside.store k.stored c.ran.ensures.made refl refl;
-      numbers = numbers_other (S c.args.call) c.reserve.new.self c.ran.new.self c.ran.ensures.made (λ d. refl) k.numbers;
-      tasks = stepped_on c.reserve.new.self c.ran.new.self c.self.inside.tasks.items c.args.call live.0 c.step_task.new.running k.tasks live.1 c.ran.ensures.made (c.in_ok-step_task.ensures.ok live.0 live.1);
-    }
+    let k = core_same c.self.inside.book c.reserve.new.self c.self.inside.store c.self.inside.tasks.items c.self.invariant.0 c.reserve.ensures.same in
+    let live = live_now c.self.inside.book c.args.self.now.book c.reserve.new.self c.args.call (ap book_in c.self.view_is) c.requires.live c.reserve.ensures.same in (
+      record {
+        stored = stored_made (S c.args.call) c.reserve.new.self c.ran.new.self c.self.inside.store k.stored c.ran.ensures.made refl refl;
+        numbers = numbers_other (S c.args.call) c.reserve.new.self c.ran.new.self c.ran.ensures.made (λ d. refl) k.numbers;
+        tasks = stepped_on c.reserve.new.self c.ran.new.self c.self.inside.tasks.items c.args.call live.0 c.step_task.new.running k.tasks live.1 c.ran.ensures.made (c.in_ok-step_task.ensures.ok live.0 live.1);
+      },
+      last_other (S c.args.call) c.reserve.new.self c.ran.new.self c.self.inside.last (last_same c.self.inside.book c.reserve.new.self c.self.inside.last c.self.invariant.1 c.reserve.ensures.same) c.ran.ensures.made refl,
+    )
 
 pub returns-clause-made : goal.returns-clause-made
 returns-clause-made c =
-    let k = core_same c.self.inside.book c.reserve.new.self c.self.inside.store c.self.inside.tasks.items c.self.invariant c.reserve.ensures.same in
+    let k = core_same c.self.inside.book c.reserve.new.self c.self.inside.store c.self.inside.tasks.items c.self.invariant.0 c.reserve.ensures.same in
     let live = live_now c.self.inside.book c.args.self.now.book c.reserve.new.self c.args.call (ap book_in c.self.view_is) c.requires.live c.reserve.ensures.same in
     let first : used live.0 ≡ 0 = step_used (work_in c.reserve.new.self) c.reserve.new.self.course c.args.call live.0 (step_now c.self.inside.book c.args.self.now.book c.reserve.new.self c.args.call (ap book_in c.self.view_is) c.requires.left c.reserve.ensures.same live.0 live.1) in (
       made_now (S c.args.call) c.self.inside.book c.args.self.now.book c.reserve.new.self c.ran.new.self (ap book_in c.self.view_is) c.reserve.ensures.same c.ran.ensures.made,
@@ -85,7 +88,7 @@ returns-clause-made c =
 
 pub returns-in_err-step_task-clause-made : goal.returns-in_err-step_task-clause-made
 returns-in_err-step_task-clause-made c =
-    let k = core_same c.self.inside.book c.reserve.new.self c.self.inside.store c.self.inside.tasks.items c.self.invariant c.reserve.ensures.same in
+    let k = core_same c.self.inside.book c.reserve.new.self c.self.inside.store c.self.inside.tasks.items c.self.invariant.0 c.reserve.ensures.same in
     let live = live_now c.self.inside.book c.args.self.now.book c.reserve.new.self c.args.call (ap book_in c.self.view_is) c.requires.live c.reserve.ensures.same in
     let fresh = fresh_with c.self.inside.book c.args.self.now.book c.reserve.new.self c.args.call (ap book_in c.self.view_is) c.reserve.ensures.same c.in_ok-refuse_stale.ensures.fresh in
     let p = err_from_is_err_and c.from_residual-in_err-step_task.result c.from_residual-in_err-step_task.ensures.1 in
@@ -106,8 +109,8 @@ returns-clause-others c = others_set c.args.call c.self.inside.tasks.items (Some
 
 pub returns-clause-one : goal.returns-clause-one
 returns-clause-one c =
-    let k = core_same c.self.inside.book c.reserve.new.self c.self.inside.store c.self.inside.tasks.items c.self.invariant c.reserve.ensures.same in
+    let k = core_same c.self.inside.book c.reserve.new.self c.self.inside.store c.self.inside.tasks.items c.self.invariant.0 c.reserve.ensures.same in
     let live = live_now c.self.inside.book c.args.self.now.book c.reserve.new.self c.args.call (ap book_in c.self.view_is) c.requires.live c.reserve.ensures.same in
-    runs_one c.reserve.new.self.script c.reserve.new.self.course c.self.inside.tasks.items c.args.call c.index_mut.result.now c.in-Some.running c.step_task.new.running c.args.self.now c.ran.new.self
-    k.tasks live c.index_mut.ensures.value c.in-Some.is (ap tasks_in c.self.view_is) (c.reserve.ensures.same.course ∙ ap (λ (b : Booked). b.course) (ap book_in c.self.view_is))
+    runs_one c.reserve.new.self.script c.reserve.new.self.course c.self.inside.tasks.items c.args.call c.index_mut.result.now c.get_mut-running.result.now c.step_task.new.running c.args.self.now c.ran.new.self
+    k.tasks live c.index_mut.ensures.value (c.in-Some.is ∙ ap Some (sym c.get_mut-running.ensures.value)) (ap tasks_in c.self.view_is) (c.reserve.ensures.same.course ∙ ap (λ (b : Booked). b.course) (ap book_in c.self.view_is))
     c.in_ok-step_task.ensures.one c.in_ok-step_task.ensures.named
