@@ -1,3 +1,5 @@
-pub mod Verdicts
-pub mod Laws
+pub mod Comparing
+pub mod Courses
 pub mod Examples
+pub mod Laws
+pub mod Verdicts

@@ -1,0 +1,355 @@
+-- What events do to what is kept.
+use Rattle.std.proofs.Common.{◌≡◌, ◌⊎◌, inl, inr, ℕ, ◌+◌, ◌<◌, ◌≤◌, Bool, true, false, List, [], ◌∷◌, ◌++◌, Option, Some, None, Result, Ok, Err, map, length, drop, get_or, slice_set, ◌^◌, refl, sym, ap, subst, ◌∙◌, arith, rules, length-append}
+use Rattle.std.specs.Prelude.{slice_get, IfOk}
+use Rattle.std.specs.Option.{is_some}
+use Rattle.std.proofs.lemmas.List.{map-append, map-set, length-map, length-set, take_all, drop-append-le}
+use Rattle.std.proofs.lemmas.Option.{slice_get_within, slice_get_read, same_Some}
+use Rattle.mv_values.specs.declared.calls.Call.{Call}
+use Rattle.mv_values.specs.declared.calls.End.{End}
+use Rattle.mv_values.specs.declared.calls.Reply.{Reply}
+use Rattle.mv_values.specs.declared.memory.NoMemory.{NoMemory}
+use Rattle.mv_values.specs.declared.schema.TableInfo.{TableInfo}
+use Rattle.mv_values.specs.Tables.{Tables}
+use Rattle.mv_catalog.specs.declared.resolved.ProcInfo.{ProcInfo}
+use Rattle.mv_catalog.specs.declared.resolved.Program.{Program}
+use Rattle.mv_catalog.specs.Text.{IsProcedure, IsCall}
+use Rattle.mv_alone.specs.TableAfter.{outcome, outcome_at, outcome_in, reply_in, tables_left}
+use Rattle.mv_record.specs.declared.record.Record.{Record}
+use Rattle.mv_record.specs.Databases.{IsDatabaseOf, IsProgram}
+use Rattle.mv_record.specs.Paths.{PathsRise}
+use Rattle.mv_record.specs.Runs.{HasEnd}
+use Rattle.mv_recorded.specs.Recorded.{recorded, records, records_in, records_at as records_by}
+use Rattle.mv_recorded.proofs.RowsTyped.{all_get}
+use Rattle.mv_recorded.proofs.Fronts.{left_is}
+use Rattle.mv_recorded.proofs.Meant.{meaning_tells}
+use Rattle.mv_recorded.proofs.Rising.{recorded_rises}
+use Rattle.mv_history.specs.declared.change.Change.{Change}
+use Rattle.mv_history.specs.Changes.{changes_between}
+use Rattle.mv_journal.specs.declared.event.Event.{Event}
+use Rattle.mv_journal.specs.declared.event.Event.TheVariants.{B, S, A, M, C, X, G}
+use Rattle.mv_journal.specs.declared.outcome.Mark.{Mark}
+use Rattle.mv_journal.specs.declared.outcome.Mark.TheVariants.{Plain, Exclusive, Moved}
+use Rattle.mv_lawful.proofs.Serial.{OrderlyAt, orderly_after, stands, stands_at, at_beginning}
+use Rattle.mv_lawful.proofs.Turns.{tables_more, length_changes}
+use Rattle.mv_lawful.specs.Work.{Work, tables_after, table_at, records_at, changes_after}
+use Rattle.mv_lawful.specs.Lawful.{Turn, Live, Course, beginning, change_live, with_call, begin, again, finish, refusal, after}
+use Rattle.mv_audit.specs.declared.course.Live.{Live as Kept}
+use Rattle.mv_audit.specs.declared.course.Course.{Course as State}
+use Rattle.mv_audit.specs.Courses.{audited, turns_in, live_of, course_of, fresh, restarted, finished, round_event, mark_of, commit_event, begun_state, again_state, committed_state, left_by, TellsRun, TellsCall, IsTrimmed, IsLive, IsLiveCall, IsCourse}
+use Rattle.mv_audit.proofs.Counting.{get_last, get_set, changes_more}
+use Rattle.mv_audit.proofs.Standing.{tells_more, fresh_tells, again_tells, finished_tells, turns_more}
+use Rattle.mv_audit.proofs.Refusing.{live_seen, drop_later, since_kept}
+
+many_commits : (infos : List TableInfo) (w : Work) (s : State) → IsCourse infos w s → length s.commits ≡ length s.order
+many_commits infos w s k = k.many
+
+-- The beginning
+
+pub opened_seen : (s : State) → s.order ≡ [] → s.calls ≡ [] → course_of s ≡ beginning
+opened_seen s order calls = ap (λ (o : List ℕ). record { order = o; calls = map live_of s.calls; low = 0 }) order ∙ ap (λ (ls : List Kept). record { order = []; calls = map live_of ls; low = 0 }) calls
+
+pub opened_kept : (p : Program) (rounds : ℕ) (s : State) → IsProgram p → s.order ≡ [] → s.commits ≡ [] → s.calls ≡ [] → s.tables ≡ p.opening → s.low ≡ 0 → IsCourse p.resolved.tables (audited p rounds) s
+opened_kept p rounds s whole order commits calls tables low = record {
+  database = subst (IsDatabaseOf p.resolved.tables) (sym tables) whole.opening;
+  tables = tables ∙ sym (ap (λ o. table_at (audited p rounds) o (length o)) order);
+  many = ap length commits ∙ sym (ap length order);
+  wide = omega (arith, low);
+  changes = ap (drop s.low) (commits ∙ sym (ap (changes_after (audited p rounds) p.opening) order));
+  needed = λ c l at live. omega (arith, low);
+  orderly = subst (OrderlyAt (audited p rounds)) (sym (opened_seen s order calls)) (at_beginning (audited p rounds));
+  tells = λ c l at. absurd (none c l (sym (ap (λ ls. slice_get ls c) calls) ∙ at));
+} where
+  none : (c : ℕ) (l : Kept) → slice_get [] c ≡ Some l → ⊥
+  none c l is = search (rules, is)
+
+-- A call begins
+
+pub begun_seen : (w : Work) (s : State) (new : List Record) → course_of (begun_state s new) ≡ after w (course_of s) (B (length s.calls))
+begun_seen w s new = ap (λ (ls : List Live). record { order = s.order; calls = ls; low = 0 }) (map-append live_of s.calls (fresh (length s.order) new ∷ []))
+
+pub begun_kept : (infos : List TableInfo) (w : Work) (s : State) (new : List Record) → IsCourse infos w s → refusal w (course_of s) (B (length s.calls)) ≡ None → new ≡ records_at w s.order (length s.order) (length s.calls)
+    → IsCourse infos w (begun_state s new)
+begun_kept infos w s new k free is = record {
+  database = k.database;
+  tables = k.tables;
+  many = k.many;
+  wide = k.wide;
+  changes = k.changes;
+  needed = λ c l at live. first c l live (get_last s.calls (fresh (length s.order) new) c l at);
+  orderly = subst (OrderlyAt w) (sym (begun_seen w s new)) (orderly_after w (course_of s) (B (length s.calls)) free k.orderly);
+  tells = λ c l at. by c l (get_last s.calls (fresh (length s.order) new) c l at);
+} where
+  by : (c : ℕ) (l : Kept) → (slice_get s.calls c ≡ Some l) ⊎ ((c ≡ length s.calls) × (fresh (length s.order) new ≡ l)) → TellsCall w s.order c l
+  by c l (inl at) = k.tells c l at
+  by c l (inr h) = subst (TellsCall w s.order c) h.1 (fresh_tells w s.order c new (is ∙ ap (records_at w s.order (length s.order)) (sym h.0)))
+
+  first : (c : ℕ) (l : Kept) → l.reply ≡ None → (slice_get s.calls c ≡ Some l) ⊎ ((c ≡ length s.calls) × (fresh (length s.order) new ≡ l)) → s.low ≤ l.start
+  first c l live (inl at) = k.needed c l at live
+  first c l live (inr h) = subst (λ (x : Kept). s.low ≤ x.start) h.1 k.wide
+
+-- A call is repaired or moved
+
+restarted_seen : (m : Mark) (l : Kept) (new : List Record) (commits : List (List Change)) → l.reply ≡ None → live_of (restarted l m new commits) ≡ again (length commits) m (live_of l)
+restarted_seen m l new commits live =
+    ap (λ (ts : List Turn). record { start = length commits; turns = ts; steps = 0; done = false }) (turns_more m l (length commits) new commits)
+    ∙ ap (λ o. record { start = length commits; turns = turns_in l.rounds ++ record { start = length commits; mark = m } ∷ []; steps = 0; done = is_some o }) (sym live)
+
+call_seen : (s : State) (c : ℕ) (l x : Kept) (f : Live → Live) → IsLive s c l → live_of x ≡ f (live_of l) → map live_of (slice_set s.calls c x) ≡ change_live (slice_get (map live_of s.calls) c) f (map live_of s.calls) c
+call_seen s c l x f live is =
+    map-set live_of s.calls c x
+    ∙ (ap (slice_set (map live_of s.calls) c) is
+    ∙ sym (ap (λ o. change_live o f (map live_of s.calls) c) (live_seen s c l live)))
+
+again_by : (infos : List TableInfo) (w : Work) (s : State) (c : ℕ) (l : Kept) (m : Mark) (new : List Record) → IsCourse infos w s → IsLive s c l → course_of (again_state s c l m new) ≡ with_call (course_of s) c (again (length s.order) m)
+again_by infos w s c l m new k live =
+    ap (λ (ls : List Live). record { order = s.order; calls = ls; low = 0 })
+    (call_seen s c l (restarted l m new s.commits) (again (length s.order) m) live (restarted_seen m l new s.commits live.live ∙ ap (λ n. again n m (live_of l)) (many_commits infos w s k)))
+
+pub again_seen : (infos : List TableInfo) (w : Work) (s : State) (c : ℕ) (l : Kept) (moved : Bool) (new : List Record) → IsCourse infos w s → IsLive s c l
+    → course_of (again_state s c l (mark_of moved) new) ≡ after w (course_of s) (round_event moved c)
+again_seen infos w s c l false new k live = again_by infos w s c l Plain new k live
+again_seen infos w s c l true new k live = again_by infos w s c l Moved new k live
+
+pub again_kept : (infos : List TableInfo) (w : Work) (s : State) (c : ℕ) (l : Kept) (moved : Bool) (new : List Record) → IsCourse infos w s → IsLive s c l → refusal w (course_of s) (round_event moved c) ≡ None
+    → new ≡ records_at w s.order (length s.order) c → IsCourse infos w (again_state s c l (mark_of moved) new)
+again_kept infos w s c l moved new k live free is = record {
+  database = k.database;
+  tables = k.tables;
+  many = k.many;
+  wide = k.wide;
+  changes = k.changes;
+  needed = λ d x at still. first d x still (get_set s.calls c d (restarted l (mark_of moved) new s.commits) x at);
+  orderly = subst (OrderlyAt w) (sym (again_seen infos w s c l moved new k live)) (orderly_after w (course_of s) (round_event moved c) free k.orderly);
+  tells = λ d x at. by d x (get_set s.calls c d (restarted l (mark_of moved) new s.commits) x at);
+} where
+  by : (d : ℕ) (x : Kept) → ((d ≡ c) × (restarted l (mark_of moved) new s.commits ≡ x)) ⊎ ((d ≡ c → ⊥) × (slice_get s.calls d ≡ Some x)) → TellsCall w s.order d x
+  by d x (inl h) = subst (TellsCall w s.order d) h.1 (subst (λ n. TellsCall w s.order n (restarted l (mark_of moved) new s.commits)) (sym h.0) (again_tells w s.order c (mark_of moved) l new s.commits (k.tells c l live.at) live.live is (since_kept infos w s c l k live)))
+  by d x (inr h) = k.tells d x h.1
+
+  first : (d : ℕ) (x : Kept) → x.reply ≡ None → ((d ≡ c) × (restarted l (mark_of moved) new s.commits ≡ x)) ⊎ ((d ≡ c → ⊥) × (slice_get s.calls d ≡ Some x)) → s.low ≤ x.start
+  first d x still (inl h) = subst (λ (y : Kept). s.low ≤ y.start) h.1 (let wide = k.wide in let many = k.many in omega (arith, wide, many))
+  first d x still (inr h) = k.needed d x h.1 still
+
+-- A call commits
+
+pub committed_seen : (infos : List TableInfo) (w : Work) (s : State) (c : ℕ) (l : Kept) (own : Bool) (new : List Record) (reply : Reply) (db : Tables) → IsCourse infos w s → IsLive s c l
+    → course_of (committed_state s c l own new reply db) ≡ after w (course_of s) (commit_event own c)
+committed_seen infos w s c l false new reply db k live =
+    ap (λ (ls : List Live). record { order = s.order ++ c ∷ []; calls = ls; low = 0 }) (call_seen s c l (finished false l new s.commits reply) finish live refl)
+committed_seen infos w s c l true new reply db k live =
+    ap (λ (ls : List Live). record { order = s.order ++ c ∷ []; calls = ls; low = 0 })
+    (call_seen s c l (finished true l new s.commits reply) (λ x. finish (again (length s.order) Exclusive x)) live
+    (ap finish (restarted_seen Exclusive l new s.commits live.live ∙ ap (λ n. again n Exclusive (live_of l)) (many_commits infos w s k))))
+
+pub committed_kept : (infos : List TableInfo) (w : Work) (s : State) (c : ℕ) (l : Kept) (own : Bool) (new : List Record) (reply : Reply) (db : Tables) → IsCourse infos w s → IsLive s c l → refusal w (course_of s) (commit_event own c) ≡ None
+    → new ≡ records_at w s.order (length s.order) c → reply ≡ (w.run c s.tables).reply → db ≡ (w.run c s.tables).tables → IsDatabaseOf infos db → IsCourse infos w (committed_state s c l own new reply db)
+committed_kept infos w s c l own new reply db k live free is told left sound = record {
+  database = sound;
+  tables = left ∙ (ap (λ x. (w.run c x).tables) here ∙ (sym (tables_more w w.opening s.order c) ∙ ap (tables_after w w.opening) (sym (take_all (length (s.order ++ c ∷ [])) (s.order ++ c ∷ []) (omega arith)))));
+  many = (let many = k.many in let m = length-append s.commits (changes_between s.tables db ∷ []) in let n = length-append s.order (c ∷ []) in omega (arith, many, m, n));
+  wide = (let wide = k.wide in let n = length-append s.order (c ∷ []) in omega (arith, wide, n));
+  changes = drop-append-le s.low s.commits (changes_between s.tables db ∷ []) (let wide = k.wide in let many = k.many in omega (arith, wide, many))
+      ∙ (ap (λ cs. cs ++ changes_between s.tables db ∷ []) k.changes
+      ∙ (ap (λ x. drop s.low all ++ changes_between x db ∷ []) here
+      ∙ (ap (λ x. drop s.low all ++ changes_between (tables_after w w.opening s.order) x ∷ []) (left ∙ ap (λ x. (w.run c x).tables) here)
+      ∙ (sym (drop-append-le s.low all (changes_between (tables_after w w.opening s.order) (w.run c (tables_after w w.opening s.order)).tables ∷ []) (let wide = k.wide in let n = length_changes w w.opening s.order in omega (arith, wide, n)))
+      ∙ ap (drop s.low) (sym (changes_more w w.opening s.order c))))));
+  needed = λ d x at still. first d x still (get_set s.calls c d (finished own l new s.commits reply) x at);
+  orderly = subst (OrderlyAt w) (sym (committed_seen infos w s c l own new reply db k live)) (orderly_after w (course_of s) (commit_event own c) free k.orderly);
+  tells = λ d x at. by d x (get_set s.calls c d (finished own l new s.commits reply) x at);
+} where
+  all : List (List Change)
+  all = changes_after w w.opening s.order
+
+  here : s.tables ≡ tables_after w w.opening s.order
+  here = k.tables ∙ ap (tables_after w w.opening) (take_all (length s.order) s.order (omega arith))
+
+  away : stands c s.order ≡ false
+  away = sym (k.orderly.done c (live_of l) (live_seen s c l live)) ∙ ap is_some live.live
+
+  apart : (n : ℕ) → slice_get s.order n ≡ Some c → ⊥
+  apart n at = let both : false ≡ true = sym away ∙ stands_at s.order n c at in search (rules, both)
+
+  this : TellsCall w (s.order ++ c ∷ []) c (finished own l new s.commits reply)
+  this = finished_tells w s.order c own l new s.commits reply (k.tells c l live.at) live.live apart is (since_kept infos w s c l k live) (told ∙ ap (λ x. (w.run c x).reply) k.tables)
+
+  by : (d : ℕ) (x : Kept) → ((d ≡ c) × (finished own l new s.commits reply ≡ x)) ⊎ ((d ≡ c → ⊥) × (slice_get s.calls d ≡ Some x)) → TellsCall w (s.order ++ c ∷ []) d x
+  by d x (inl h) = subst (TellsCall w (s.order ++ c ∷ []) d) h.1 (subst (λ n. TellsCall w (s.order ++ c ∷ []) n (finished own l new s.commits reply)) (sym h.0) this)
+  by d x (inr h) = tells_more w s.order c d x (k.tells d x h.1)
+
+  ended : (own : Bool) (x : Kept) → x.reply ≡ None → finished own l new s.commits reply ≡ x → s.low ≤ x.start
+  ended false x still h = let some : Some reply ≡ None = ap (λ (y : Kept). y.reply) h ∙ still in absurd (search (rules, some))
+  ended true x still h = let some : Some reply ≡ None = ap (λ (y : Kept). y.reply) h ∙ still in absurd (search (rules, some))
+
+  first : (d : ℕ) (x : Kept) → x.reply ≡ None → ((d ≡ c) × (finished own l new s.commits reply ≡ x)) ⊎ ((d ≡ c → ⊥) × (slice_get s.calls d ≡ Some x)) → s.low ≤ x.start
+  first d x still (inl h) = ended own x still h.1
+  first d x still (inr h) = k.needed d x h.1 still
+
+-- Changes of old commits are dropped
+
+pub trimmed_seen : (s next : State) → IsTrimmed s next → course_of next ≡ course_of s
+trimmed_seen s next t = ap (λ (o : List ℕ). record { order = o; calls = map live_of next.calls; low = 0 }) t.order ∙ ap (λ (cs : List Kept). record { order = s.order; calls = map live_of cs; low = 0 }) t.calls
+
+pub trimmed_kept : (infos : List TableInfo) (w : Work) (s next : State) → IsTrimmed s next → IsCourse infos w s → IsCourse infos w next
+trimmed_kept infos w s next t k = record {
+  database = subst (IsDatabaseOf infos) (sym t.tables) k.database;
+  tables = t.tables ∙ (k.tables ∙ ap (λ o. table_at w o (length o)) (sym t.order));
+  many = t.many ∙ (k.many ∙ ap length (sym t.order));
+  wide = subst (λ o. next.low ≤ length o) (sym t.order) (let wide = t.wide (let a = k.wide in let b = k.many in omega (arith, a, b)) in let many = k.many in omega (arith, wide, many));
+  changes = t.changes
+      ∙ (drop_later s.commits (changes_after w w.opening s.order) s.low next.low t.later k.changes ∙ ap (λ o. drop next.low (changes_after w w.opening o)) (sym t.order));
+  needed = λ c l at live. t.needed k.needed c l (sym (ap (λ ls. slice_get ls c) t.calls) ∙ at) live;
+  orderly = subst (OrderlyAt w) (sym (trimmed_seen s next t)) k.orderly;
+  tells = λ c l at. subst (λ o. TellsCall w o c l) (sym t.order) (k.tells c l (sym (ap (λ ls. slice_get ls c) t.calls) ∙ at));
+}
+
+-- What the calls of a program leave
+
+left_told : (db : Tables) (rs : List Record) (reply : Reply) (left : Tables) → HasEnd reply.end db (record { records = rs; reply = reply; tables = left }) → left_by rs reply.end db ≡ left
+left_told db rs reply left h = by reply.end h where
+  by : (e : Option End) → HasEnd e db (record { records = rs; reply = reply; tables = left }) → left_by rs e db ≡ left
+  by None g = sym g.tables
+  by (Some e) g = sym g.tables
+
+-- a call of a procedure on a database
+procedure_left : (p : Program) (proc : ProcInfo) (call : Call) (db : Tables) → IsDatabaseOf p.resolved.tables db → left_by (records_in p (Some proc) call db) (reply_in (outcome_in p (Some proc) call db)).end db ≡ tables_left db (outcome_in p (Some proc) call db)
+procedure_left p proc call db h =
+    left_told db (recorded p.resolved.tables proc call db) (reply_in (outcome_in p (Some proc) call db)) (tables_left db (outcome_in p (Some proc) call db)) (meaning_tells p.resolved.tables proc call db h.rising)
+
+abbrev LeavesBy : Program → Option Call → Tables → Type 0
+LeavesBy p o db = (left_by (records_by p o db) (reply_in (outcome_at p o db)).end db ≡ tables_left db (outcome_at p o db)) × IsDatabaseOf p.resolved.tables (tables_left db (outcome_at p o db))
+
+pub leaves_by : (p : Program) (c : ℕ) (db : Tables) → IsProgram p → IsDatabaseOf p.resolved.tables db
+    → (left_by (records p c db) (reply_in (outcome p c db)).end db ≡ tables_left db (outcome p c db)) × IsDatabaseOf p.resolved.tables (tables_left db (outcome p c db))
+leaves_by p c db whole h = by (slice_get p.resolved.calls c) refl where
+  called : (call : Call) → IsCall p.resolved.procedures call → LeavesBy p (Some call) db
+  called call is =
+      let proc : IsProcedure p.resolved.tables is.0 = all_get (IsProcedure p.resolved.tables) p.resolved.procedures call.procedure is.0 whole.text.procedures is.1 in
+      subst (λ o. (left_by (records_in p o call db) (reply_in (outcome_in p o call db)).end db ≡ tables_left db (outcome_in p o call db)) × IsDatabaseOf p.resolved.tables (tables_left db (outcome_in p o call db))) (sym is.1)
+      (procedure_left p is.0 call db h, left_is p.resolved.tables is.0 call db proc is.2 h)
+
+  by : (o : Option Call) → slice_get p.resolved.calls c ≡ o → LeavesBy p o db
+  by None at = (refl, h)
+  by (Some call) at = called call (all_get (IsCall p.resolved.procedures) p.resolved.calls c call whole.text.calls at)
+
+-- the records of a call are in the order of their paths
+no_paths : PathsRise []
+no_paths i j d lt within = absurd (omega (arith, within))
+
+rises_in : (p : Program) (o : Option ProcInfo) (call : Call) (db : Tables) → PathsRise (records_in p o call db)
+rises_in p None call db = no_paths
+rises_in p (Some proc) call db = recorded_rises p.resolved.tables proc call db
+
+pub rises : (p : Program) (c : ℕ) (db : Tables) → PathsRise (records p c db)
+rises p c db = by (slice_get p.resolved.calls c) where
+  by : (o : Option Call) → PathsRise (records_by p o db)
+  by None = no_paths
+  by (Some call) = rises_in p (slice_get p.resolved.procedures call.procedure) call db
+
+pub live_rises : (p : Program) (rounds : ℕ) (s : State) (c : ℕ) (l : Kept) → IsCourse p.resolved.tables (audited p rounds) s → IsLiveCall s c → slice_get s.calls c ≡ Some l → PathsRise l.records
+live_rises p rounds s c l k live at =
+    let same : live.0 ≡ l = same_Some live.0 l (sym live.1.at ∙ at) in
+    let its : live.0.records ≡ records_at (audited p rounds) s.order live.0.start c = subst (TellsRun (audited p rounds) s.order c live.0) live.1.live (k.tells c live.0 live.1.at).run in
+    subst (λ (x : Kept). PathsRise x.records) same (subst PathsRise (sym its) (rises p c (table_at (audited p rounds) s.order live.0.start)))
+
+-- What a fallible call gives
+
+pub ok_is : {A E : Type 0} (r : Result A E) (s : A) (P : A → Type 0) → IfOk r (λ x. x ≡ s) → P s → IfOk r P
+ok_is (Ok x) s P h p = subst P (sym h) p
+ok_is (Err e) s P h p = tt
+
+pub ok_by : {A E : Type 0} (r : Result A E) (P Q : A → Type 0) → ((x : A) → P x → Q x) → IfOk r P → IfOk r Q
+ok_by (Ok x) P Q f h = f x h
+ok_by (Err e) P Q f h = tt
+
+-- How many calls there are after an event
+
+change_few : (o : Option Live) (f : Live → Live) (ls : List Live) (c : ℕ) → length (change_live o f ls c) ≡ length ls
+change_few None f ls c = refl
+change_few (Some l) f ls c = length-set ls c (f l)
+
+after_few : (w : Work) (s : Course) (e : Event) → length (after w s e).calls ≤ length s.calls + 1
+after_few w s (B c) = let n = length-append s.calls (begin (length s.order) ∷ []) in omega (arith, n)
+after_few w s (S c) = let n = change_few (slice_get s.calls c) (λ l. record l { steps = l.steps + 1 }) s.calls c in omega (arith, n)
+after_few w s (A c) = let n = change_few (slice_get s.calls c) (again (length s.order) Plain) s.calls c in omega (arith, n)
+after_few w s (M c) = let n = change_few (slice_get s.calls c) (again (length s.order) Moved) s.calls c in omega (arith, n)
+after_few w s (C c) = let n = change_few (slice_get s.calls c) finish s.calls c in omega (arith, n)
+after_few w s (X c) = let n = change_few (slice_get s.calls c) (λ l. finish (again (length s.order) Exclusive l)) s.calls c in omega (arith, n)
+after_few w s G = omega arith
+
+pub calls_few : (w : Work) (s next : State) (e : Event) → course_of next ≡ after w (course_of s) e → length next.calls ≤ length s.calls + 1
+calls_few w s next e is =
+    let few = after_few w (course_of s) e in
+    let same : length (map live_of next.calls) ≡ length (after w (course_of s) e).calls = ap (λ (x : Course). length x.calls) is in
+    let here = length-map s.calls live_of in
+    let there = length-map next.calls live_of in
+    omega (arith, few, same, here, there)
+
+-- What a live call's round and commit ask
+
+pub call_within : (s : State) (c : ℕ) → IsLiveCall s c → c < length s.calls
+call_within s c live = slice_get_within s.calls c live.0 live.1.at
+
+pub starts_within : (infos : List TableInfo) (w : Work) (s : State) (c : ℕ) (l : Kept) → IsCourse infos w s → slice_get s.calls c ≡ Some l → l.start ≤ length s.commits
+starts_within infos w s c l k at = let p = (k.tells c l at).past in let n = many_commits infos w s k in omega (arith, p, n)
+
+pub few_commits : (infos : List TableInfo) (w : Work) (s : State) → IsCourse infos w s → length s.order < 2 ^ 32 → length s.commits < 2 ^ 32
+few_commits infos w s k few = let n = many_commits infos w s k in omega (arith, n, few)
+
+-- the item at a place, as code reads it
+pub same_at : {A : Type 0} (xs : List A) (n : ℕ) (x y : A) → n < length xs → y ≡ get_or xs n y → slice_get xs n ≡ Some x → y ≡ x
+same_at xs n x y lt is at = same_Some y x (sym (slice_get_read xs (length xs) n y refl lt is) ∙ at)
+
+-- The calls that lead from state to state
+
+pub begun_is : (w : Work) (s t : State) (new : List Record) (r : Result State NoMemory) → t ≡ s → IfOk r (λ next. next ≡ begun_state t new) → IfOk r (λ next. course_of next ≡ after w (course_of s) (B (length s.calls)))
+begun_is w s t new r same h =
+    ok_is r (begun_state s new) (λ next. course_of next ≡ after w (course_of s) (B (length s.calls))) (subst (λ x. IfOk r (λ next. next ≡ begun_state x new)) same h) (begun_seen w s new)
+
+pub begun_right : (infos : List TableInfo) (w : Work) (s t : State) (new : List Record) (r : Result State NoMemory) → t ≡ s → IsCourse infos w s → refusal w (course_of s) (B (length s.calls)) ≡ None
+    → new ≡ records_at w s.order (length s.order) (length s.calls) → IfOk r (λ next. next ≡ begun_state t new) → IfOk r (IsCourse infos w)
+begun_right infos w s t new r same k free is h = ok_is r (begun_state s new) (IsCourse infos w) (subst (λ x. IfOk r (λ next. next ≡ begun_state x new)) same h) (begun_kept infos w s new k free is)
+
+abbrev AgainBy : State → ℕ → Bool → List Record → State → Type 0
+AgainBy s c moved new next = (l : Kept) → slice_get s.calls c ≡ Some l → next ≡ again_state s c l (mark_of moved) new
+
+pub again_is : (infos : List TableInfo) (w : Work) (s t : State) (c : ℕ) (moved : Bool) (new : List Record) (r : Result State NoMemory) → t ≡ s → IsCourse infos w s → IsLiveCall s c
+    → IfOk r (λ next. (l : Kept) → slice_get t.calls c ≡ Some l → next ≡ again_state t c l (mark_of moved) new) → IfOk r (λ next. course_of next ≡ after w (course_of s) (round_event moved c))
+again_is infos w s t c moved new r same k live h =
+    ok_by r (AgainBy s c moved new) (λ next. course_of next ≡ after w (course_of s) (round_event moved c))
+    (λ next is. ap course_of (is live.0 live.1.at) ∙ again_seen infos w s c live.0 moved new k live.1) (subst (λ x. IfOk r (AgainBy x c moved new)) same h)
+
+pub again_right : (infos : List TableInfo) (w : Work) (s t : State) (c : ℕ) (moved : Bool) (new : List Record) (r : Result State NoMemory) → t ≡ s → IsCourse infos w s → IsLiveCall s c
+    → refusal w (course_of s) (round_event moved c) ≡ None → new ≡ records_at w s.order (length s.order) c
+    → IfOk r (λ next. (l : Kept) → slice_get t.calls c ≡ Some l → next ≡ again_state t c l (mark_of moved) new) → IfOk r (IsCourse infos w)
+again_right infos w s t c moved new r same k live free are h =
+    ok_by r (AgainBy s c moved new) (IsCourse infos w)
+    (λ next is. subst (IsCourse infos w) (sym (is live.0 live.1.at)) (again_kept infos w s c live.0 moved new k live.1 free are)) (subst (λ x. IfOk r (AgainBy x c moved new)) same h)
+
+abbrev CommittedBy : State → ℕ → Bool → List Record → Reply → State → Type 0
+CommittedBy s c own new reply next = (l : Kept) → slice_get s.calls c ≡ Some l → next ≡ committed_state s c l own new reply (left_by new reply.end s.tables)
+
+pub committed_is : (infos : List TableInfo) (w : Work) (s t : State) (c : ℕ) (own : Bool) (new : List Record) (reply : Reply) (r : Result State NoMemory) → t ≡ s → IsCourse infos w s → IsLiveCall s c
+    → IfOk r (λ next. (l : Kept) → slice_get t.calls c ≡ Some l → next ≡ committed_state t c l own new reply (left_by new reply.end t.tables)) → IfOk r (λ next. course_of next ≡ after w (course_of s) (commit_event own c))
+committed_is infos w s t c own new reply r same k live h =
+    ok_by r (CommittedBy s c own new reply) (λ next. course_of next ≡ after w (course_of s) (commit_event own c))
+    (λ next is. ap course_of (is live.0 live.1.at) ∙ committed_seen infos w s c live.0 own new reply (left_by new reply.end s.tables) k live.1) (subst (λ x. IfOk r (CommittedBy x c own new reply)) same h)
+
+pub committed_right : (p : Program) (rounds : ℕ) (s t : State) (c : ℕ) (own : Bool) (new : List Record) (reply : Reply) (r : Result State NoMemory) → IsProgram p → t ≡ s → IsCourse p.resolved.tables (audited p rounds) s → IsLiveCall s c
+    → refusal (audited p rounds) (course_of s) (commit_event own c) ≡ None → new ≡ records p c s.tables → reply ≡ reply_in (outcome p c s.tables)
+    → IfOk r (λ next. (l : Kept) → slice_get t.calls c ≡ Some l → next ≡ committed_state t c l own new reply (left_by new reply.end t.tables)) → IfOk r (IsCourse p.resolved.tables (audited p rounds))
+committed_right p rounds s t c own new reply r whole same k live free are told h =
+    ok_by r (CommittedBy s c own new reply) (IsCourse p.resolved.tables w)
+    (λ next is. subst (IsCourse p.resolved.tables w) (sym (is live.0 live.1.at))
+    (committed_kept p.resolved.tables w s c live.0 own new reply (left_by new reply.end s.tables) k live.1 free (are ∙ ap (records p c) k.tables) told left_is_its (subst (IsDatabaseOf p.resolved.tables) (sym left_is_its) by.1)))
+    (subst (λ x. IfOk r (CommittedBy x c own new reply)) same h) where
+      w : Work
+      w = audited p rounds
+
+      by : (left_by (records p c s.tables) (reply_in (outcome p c s.tables)).end s.tables ≡ tables_left s.tables (outcome p c s.tables)) × IsDatabaseOf p.resolved.tables (tables_left s.tables (outcome p c s.tables))
+      by = leaves_by p c s.tables whole k.database
+
+      left_is_its : left_by new reply.end s.tables ≡ tables_left s.tables (outcome p c s.tables)
+      left_is_its =
+          ap (λ rs. left_by rs reply.end s.tables) are
+          ∙ (ap (λ (x : Reply). left_by (records p c s.tables) x.end s.tables) told ∙ by.0)

@@ -1,0 +1,243 @@
+//! Judges journals.
+
+ghost use Rattle.std.specs.Prelude.{◌≡◌, ◌≤◌, ◌<◌, ◌+◌, ◌^◌, true, None, Some, All, IfOk, map, length, slice_get};
+ghost use Rattle.std.specs.Option.{is_some};
+ghost use Rattle.mv_journal.specs.declared.event.Event.{Event as AnEvent};
+ghost use Rattle.mv_record.specs.Databases.{IsProgram};
+ghost use Rattle.mv_lawful.specs.Lawful.{refusal, after, beginning, first_open, open_call, course_of as reached};
+ghost use Rattle.mv_lawful.specs.Outcomes.{has_line, outcome_of};
+ghost use Rattle.mv_audit.specs.Courses.{audited, course_of, line_of, live_of, replies_in, IsCourse, IsJudgement, IsWithin};
+
+use crate::course::{Course, Live, allows};
+use crate::events::{again, begin, commit};
+use mv_catalog::resolved::Program;
+use mv_journal::event::Event;
+use mv_journal::outcome::{HistoryLine, Outcome, Round};
+use mv_table::table::{Table, Tables};
+use mv_values::calls::Reply;
+use mv_values::copied::Copied;
+use mv_values::list::List;
+use mv_values::memory::NoMemory;
+use mv_values::rows::Database;
+use std::alloc::Global;
+
+/// What a journal comes to.
+#[derive(Drop)]
+pub(crate) enum Judged {
+    /// The event with this number, counted from 1, is refused.
+    Refused { n: u32 },
+    /// A call stays open.
+    Open,
+    /// It is lawful, and this is its outcome.
+    Lawful(Outcome),
+}
+
+/// Returns the tables of a database. Copies its rows.
+fn tables_of(alloc: Global, database: &Database) -> Result<Tables, NoMemory>
+    ensures { IfOk result (λ tables. tables ≡ database.now) }
+{
+    let mut tables = List::new(alloc);
+    for rows in database.as_slice() {
+        tables.push(Table::of(alloc, rows)?)?;
+    }
+    Ok(tables)
+}
+
+/// Returns the database of these tables. Moves their rows.
+fn database_of(alloc: Global, tables: Tables) -> Result<Database, NoMemory>
+    ensures { IfOk result (λ database. database ≡ tables) }
+{
+    let mut tables = tables;
+    let mut database = List::new(alloc);
+    for at in 0..tables.len() {
+        let rows = tables.replace(at, Table::new(alloc));
+        database.push(rows.into_rows(alloc)?)?;
+    }
+    Ok(database)
+}
+
+/// Returns the state before any event.
+fn opening(alloc: Global, program: &Program, rounds: u32) -> Result<Course, NoMemory>
+    requires { IsProgram program.now }
+    ensures course { IfOk result (λ course. course_of course ≡ beginning) }
+    ensures kept { IfOk result (IsCourse program.now.resolved.tables (audited program.now rounds)) }
+{
+    let tables = tables_of(alloc, &program.opening)?;
+    Ok(Course {
+        order: List::new(alloc),
+        commits: List::new(alloc),
+        calls: List::new(alloc),
+        tables,
+        low: 0,
+        due: 0,
+    })
+}
+
+/// Makes an event that is allowed and has a line.
+fn advance(
+    alloc: Global,
+    program: &Program,
+    rounds: u32,
+    course: Course,
+    event: Event,
+) -> Result<Course, NoMemory>
+    requires whole { IsProgram program.now }
+    requires course { IsCourse program.now.resolved.tables (audited program.now rounds) course }
+    requires line { has_line event ≡ true }
+    requires allowed { refusal (audited program.now rounds) (course_of course) event ≡ None }
+    requires few { length course.order < 2 ^ 32 }
+    requires calls { length course.calls < 2 ^ 32 }
+    ensures after { IfOk result (λ next. course_of next ≡ after (audited program.now rounds) (course_of course) event) }
+    ensures kept { IfOk result (IsCourse program.now.resolved.tables (audited program.now rounds)) }
+    ensures order { IfOk result (λ next. length next.order ≤ length course.order + 1) }
+    ensures more { IfOk result (λ next. length next.calls ≤ length course.calls + 1) }
+{
+    match event {
+        Event::B(_) => begin(alloc, program, rounds, course),
+        Event::A(call) => again(alloc, program, rounds, course, call, false),
+        Event::M(call) => again(alloc, program, rounds, course, call, true),
+        Event::C(call) => commit(alloc, program, rounds, course, call, false),
+        Event::X(call) => commit(alloc, program, rounds, course, call, true),
+        Event::S(_) | Event::G => Ok(course),
+    }
+}
+
+/// Whether a call hasn't committed.
+fn is_open(program: &Program, rounds: u32, course: &Course) -> bool
+    ensures { result ≡ is_some (open_call (audited program.now rounds) (course_of course.now)) }
+{
+    first_open(course.calls.as_slice()) < program.resolved.calls.len()
+}
+
+/// Returns the number of the first call that hasn't committed.
+fn first_open(calls: &[Live]) -> usize
+    ensures { result ≡ first_open 0 (map live_of calls.now) }
+{
+    for call in 0..calls.len() {
+        if calls[call].reply.is_none() {
+            return call;
+        }
+    }
+    calls.len()
+}
+
+/// Returns copies of rounds.
+fn copy_rounds(alloc: Global, rounds: &[Round]) -> Result<List<Round>, NoMemory>
+    ensures { IfOk result (λ all. all ≡ rounds.now) }
+{
+    let mut all = List::new(alloc);
+    all.append(rounds)?;
+    Ok(all)
+}
+
+/// Returns the commits of these calls, in order.
+fn history_of(alloc: Global, calls: &[Live], order: &[u32]) -> Result<List<HistoryLine>, NoMemory>
+    requires { All (λ c. c < length calls.now) order.now }
+    ensures { IfOk result (λ history. history ≡ map (line_of calls.now) order.now) }
+{
+    let mut history = List::new(alloc);
+    for call in order {
+        let rounds = copy_rounds(alloc, calls[*call as usize].rounds.as_slice())?;
+        history.push(HistoryLine {
+            call: *call,
+            rounds,
+        })?;
+    }
+    Ok(history)
+}
+
+/// Returns a copy of a reply.
+fn copy_reply(alloc: Global, reply: &Reply) -> Result<Reply, NoMemory>
+    ensures { IfOk result (λ copy. copy ≡ reply.now) }
+{
+    let lines = reply.lines.copy(alloc)?;
+    let end = match &reply.end {
+        None => None,
+        Some(end) => Some(end.copy(alloc)?),
+    };
+    Ok(Reply { lines, end })
+}
+
+/// Returns the replies of the calls that have committed.
+fn replies_of(alloc: Global, calls: &[Live]) -> Result<List<Reply>, NoMemory>
+    ensures { IfOk result (λ replies. replies ≡ replies_in calls.now) }
+{
+    let mut replies = List::new(alloc);
+    for call in calls {
+        if let Some(reply) = &call.reply {
+            replies.push(copy_reply(alloc, reply)?)?;
+        }
+    }
+    Ok(replies)
+}
+
+/// Returns the outcome of a lawful journal.
+fn outcome_of(
+    alloc: Global,
+    program: &Program,
+    rounds: u32,
+    course: Course,
+    events: &[Event],
+) -> Result<Outcome, NoMemory>
+    requires course { IsCourse program.now.resolved.tables (audited program.now rounds) course }
+    requires events { course_of course ≡ reached (audited program.now rounds) events.now }
+    requires shut { open_call (audited program.now rounds) (course_of course) ≡ None }
+    ensures { IfOk result (λ o. o ≡ outcome_of (audited program.now rounds) events.now) }
+{
+    let Course {
+        order,
+        commits: _,
+        calls,
+        tables,
+        low: _,
+        due: _,
+    } = course;
+    let history = history_of(alloc, calls.as_slice(), order.as_slice())?;
+    let replies = replies_of(alloc, calls.as_slice())?;
+    let mut journal = List::new(alloc);
+    journal.append(events)?;
+    let tables = database_of(alloc, tables)?;
+    Ok(Outcome {
+        replies,
+        history,
+        journal,
+        tables,
+    })
+}
+
+/// Returns the event at an index.
+fn event_at(events: &[Event], i: usize) -> Event
+    requires { i < length events.now }
+    ensures { slice_get events.now i ≡ Some result }
+{
+    events[i]
+}
+
+/// Judges a journal whose events all have lines. Returns its outcome if it is lawful.
+pub(crate) fn judge(
+    alloc: Global,
+    program: &Program,
+    rounds: u32,
+    events: &[Event],
+) -> Result<Judged, NoMemory>
+    requires whole { IsProgram program.now }
+    requires lines { All (λ (e : AnEvent). has_line e ≡ true) events.now }
+    requires few { length events.now < 2 ^ 31 }
+    ensures comes { IfOk result (IsJudgement (audited program.now rounds) events.now) }
+    ensures few { IfOk result (IsWithin (length events.now)) }
+{
+    let mut course = opening(alloc, program, rounds)?;
+    for i in 0..events.len() {
+        let event = event_at(events, i);
+        if !allows(program, rounds, &course, event) {
+            return Ok(Judged::Refused { n: i as u32 + 1 });
+        }
+        let next = advance(alloc, program, rounds, course, event)?;
+        course = next;
+    }
+    if is_open(program, rounds, &course) {
+        return Ok(Judged::Open);
+    }
+    let outcome = outcome_of(alloc, program, rounds, course, events)?;
+    Ok(Judged::Lawful(outcome))
+}

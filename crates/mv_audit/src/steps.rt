@@ -1,0 +1,115 @@
+//! What events leave of the state.
+
+ghost use Rattle.std.specs.Prelude.{◌≡◌, ◌≤◌, ◌<◌, ◌^◌, Some, IfOk, length, slice_get};
+ghost use Rattle.mv_record.specs.Paths.{PathsRise};
+ghost use Rattle.mv_record.specs.Writes.{AreRising};
+ghost use Rattle.mv_audit.specs.declared.course.Live.{Live as Kept};
+ghost use Rattle.mv_audit.specs.Courses.{mark_of, begun_state, again_state, committed_state, left_by};
+
+use crate::course::{Course, Live};
+use crate::rounds::{finished, fresh, restarted};
+use crate::settling::{Left, settle};
+use mv_journal::outcome::Mark;
+use mv_record::record::Record;
+use mv_values::calls::Reply;
+use mv_values::list::List;
+use mv_values::memory::NoMemory;
+use std::alloc::Global;
+
+/// Adds a call that begins after all commits, and leaves these records.
+pub(crate) fn with_call(
+    alloc: Global,
+    course: Course,
+    records: List<Record>,
+) -> Result<Course, NoMemory>
+    requires { length course.order < 2 ^ 32 }
+    ensures { IfOk result (λ next. next ≡ begun_state course records) }
+{
+    let mut course = course;
+    let live = fresh(alloc, course.order.len() as u32, records)?;
+    course.calls.push(live)?;
+    Ok(course)
+}
+
+/// Returns a call without a round.
+fn blank(alloc: Global) -> Live {
+    Live {
+        start: 0,
+        records: List::new(alloc),
+        rounds: List::new(alloc),
+        reply: None,
+    }
+}
+
+/// Adds a round to a call, which leaves these records.
+pub(crate) fn with_round(
+    alloc: Global,
+    course: Course,
+    call: u32,
+    moved: bool,
+    records: List<Record>,
+) -> Result<Course, NoMemory>
+    requires within { call < length course.calls }
+    requires past { (l : Kept) → slice_get course.calls call ≡ Some l → l.start ≤ length course.commits }
+    requires few { length course.commits < 2 ^ 32 }
+    requires old { (l : Kept) → slice_get course.calls call ≡ Some l → PathsRise l.records }
+    requires new { PathsRise records }
+    ensures { IfOk result (λ next. (l : Kept) → slice_get course.calls call ≡ Some l → next ≡ again_state course call l (mark_of moved) records) }
+{
+    let mut course = course;
+    let old = course.calls.replace(call as usize, blank(alloc));
+    let mark = mark_of(moved);
+    let live = restarted(alloc, old, mark, records, course.commits.as_slice())?;
+    course.calls.set(call as usize, live);
+    Ok(course)
+}
+
+/// Returns the mark of a round that repairs or moves a call.
+fn mark_of(moved: bool) -> Mark
+    ensures { result ≡ mark_of moved }
+{
+    if moved { Mark::Moved } else { Mark::Plain }
+}
+
+/// Commits a call with these records and this reply. With `own` it does so in a round of its own.
+pub(crate) fn with_commit(
+    alloc: Global,
+    course: Course,
+    call: u32,
+    own: bool,
+    records: &[Record],
+    reply: Reply,
+) -> Result<Course, NoMemory>
+    requires within { call < length course.calls }
+    requires past { (l : Kept) → slice_get course.calls call ≡ Some l → l.start ≤ length course.commits }
+    requires few { length course.commits < 2 ^ 32 }
+    requires old { (l : Kept) → slice_get course.calls call ≡ Some l → PathsRise l.records }
+    requires new { PathsRise records.now }
+    requires rising { AreRising course.tables }
+    ensures { IfOk result (λ next. (l : Kept) → slice_get course.calls call ≡ Some l → next ≡ committed_state course call l own records.now reply (left_by records.now reply.end course.tables)) }
+{
+    let Course {
+        order,
+        commits,
+        calls,
+        tables,
+        low,
+        due,
+    } = course;
+    let left = settle(alloc, tables, records, &reply.end)?;
+    let Left { tables, changes } = left;
+    let (mut order, mut commits, mut calls) = (order, commits, calls);
+    let old = calls.replace(call as usize, blank(alloc));
+    let live = finished(alloc, own, old, records, commits.as_slice(), reply)?;
+    calls.set(call as usize, live);
+    order.push(call)?;
+    commits.push(changes)?;
+    Ok(Course {
+        order,
+        commits,
+        calls,
+        tables,
+        low,
+        due,
+    })
+}

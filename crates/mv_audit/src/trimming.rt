@@ -1,0 +1,69 @@
+//! Drops changes of old commits.
+
+ghost use Rattle.std.specs.Prelude.{◌≡◌, ◌≤◌, ℕ, None, Some, length, drop, slice_get};
+ghost use Rattle.mv_audit.specs.declared.course.Live.{Live as Kept};
+ghost use Rattle.mv_audit.specs.Courses.{IsTrimmed};
+
+use crate::course::{Course, Live};
+use mv_history::change::Change;
+use mv_values::list::List;
+use std::alloc::Global;
+
+/// Returns the start of a live call if it is less than this number.
+fn lesser(live: &Live, least: usize) -> usize
+    ensures within { result ≤ least }
+    ensures live { live.now.reply ≡ None → result ≤ live.now.start }
+{
+    match live.reply {
+        Some(_) => least,
+        None => {
+            if (live.start as usize) < least {
+                live.start as usize
+            } else {
+                least
+            }
+        }
+    }
+}
+
+/// Returns the least start of the live calls, or the number of commits if no call is live.
+fn oldest_start(calls: &[Live], made: usize) -> usize
+    ensures within { result ≤ made }
+    ensures least { (c : ℕ) (l : Kept) → slice_get calls.now c ≡ Some l → l.reply ≡ None → result ≤ l.start }
+{
+    let mut least = made;
+    for live in calls {
+        least = lesser(live, least);
+    }
+    least
+}
+
+/// Drops the changes of these commits.
+fn forget(alloc: Global, commits: &mut List<List<Change>>, from: usize, to: usize)
+    requires { to ≤ length commits.old }
+    ensures many { length commits.new ≡ length commits.old }
+    ensures later { drop to commits.new ≡ drop to commits.old }
+{
+    for at in from..to {
+        commits.set(at, List::new(alloc));
+    }
+}
+
+/// Drops the changes of commits that no live call needs, from time to time.
+pub(crate) fn trimmed(alloc: Global, course: Course) -> Course
+    ensures { IsTrimmed course result }
+{
+    let mut course = course;
+    let made = course.commits.len();
+    if made < course.due {
+        return course;
+    }
+    let least = oldest_start(course.calls.as_slice(), made);
+    if least < course.low {
+        return course;
+    }
+    forget(alloc, &mut course.commits, course.low, least);
+    course.low = least;
+    course.due = made.saturating_add(64 + course.calls.len() / 16);
+    course
+}
