@@ -5,18 +5,16 @@ use Rattle.std.proofs.lemmas.Bool.{cases_lt}
 use Rattle.std.specs.Option.{ForSome, unwrap_or}
 use Rattle.mv_edge.specs.declared.reading.TheConstants.{MOST}
 use Rattle.mv_catalog.specs.declared.resolved.Program.{Program}
-use Rattle.mv_accept.specs.declared.refusal.Refusal.{Refusal as ScriptRefusal}
-use Rattle.mv_accept.specs.Accepting.{most_bytes, Accepts, Refuses}
+use Rattle.mv_accept.specs.Accepting.{most_bytes}
 use Rattle.mv_top.specs.declared.refusal.Refusal.{Refusal}
 use Rattle.mv_top.specs.declared.refusal.NoText.{NoText}
 use Rattle.mv_top.specs.declared.refusal.NoText.TheVariants as no_text
 use Rattle.mv_top.specs.Refusing.{Causes, RefusesAs}
-use Rattle.mv_accept.proofs.Sizes.{accepted_are_few, too_many_are_told, too_many_are_refused}
 use Rattle.mv_values.specs.declared.calls.Options.{Options}
 use Rattle.mv_values.specs.Counts.{Rose}
 use Rattle.mv_tpccgen.specs.declared.load.Load.{Load}
 use Rattle.mv_words.specs.declared.command.Command.{Command}
-use Rattle.mv_words.specs.declared.command.Command.TheVariants.{Run, Replay, Serial, Graph, Tpcc}
+use Rattle.mv_words.specs.declared.command.Command.TheVariants.{Run, Replay, Serial, Graph, Tpcc, Audit, Why}
 use Rattle.mv_words.specs.declared.command.WordsFault.{WordsFault}
 use Rattle.mv_words.specs.declared.command.WordsFault.TheVariants as words_fault
 use Rattle.mv_words.specs.Words.{command_of, NamesCommand}
@@ -25,7 +23,8 @@ use Rattle.mv_top.specs.declared.status.Fault.TheVariants as fault
 use Rattle.mv_top.specs.declared.status.Status.{Status}
 use Rattle.mv_top.specs.declared.status.Status.TheVariants.{Done, Refused, Usage, NoMemory, ReadFault, WriteFault}
 use Rattle.mv_top.specs.Inputs.{IsReader, input_of, IsTaken}
-use Rattle.mv_top.specs.Answers.{IsTextFor, IsRefusal, HasCause, IsToldBy, IsFaultFor, IsAnswer, refused, done, IsAnswered, Puts, Wrote, WroteOr, StandFor, IsNoCommand, IsRefusedBy, by_script, by_program}
+use Rattle.mv_top.specs.Answers.{IsTextFor, IsRefusal, HasCause, IsToldBy, IsFaultFor, IsAnswer, refused, done, IsAnswered, Puts, Wrote, WroteOr, StandFor, IsNoCommand, IsRefusedBy, AcceptsScript}
+use Rattle.mv_top.proofs.Taking.{accepted_is_few, too_many_refused, too_many_told}
 
 -- the first bytes of an input, as many as are read, are taken of it
 front_is_taken : (all bytes : List ℕ) → bytes ≡ take MOST all → IsTaken all bytes
@@ -42,6 +41,8 @@ is_reader (Replay options) other = tt
 is_reader Serial other = tt
 is_reader Graph other = tt
 is_reader (Tpcc load script threads options) other = other load script threads options refl
+is_reader (Audit rounds) other = tt
+is_reader (Why options) other = tt
 
 -- what a reader reads is taken of its input
 pub taken_by_reader : (command : Command) (left : Option (List ℕ)) (bytes : List ℕ) → IsReader command → ForSome left (λ all. bytes ≡ take MOST all) → ForSome (input_of command left) (λ all. IsTaken all bytes)
@@ -50,36 +51,28 @@ taken_by_reader (Replay options) left bytes reads h = λ all is. front_is_taken 
 taken_by_reader Serial left bytes reads h = λ all is. front_is_taken all bytes (h all is)
 taken_by_reader Graph left bytes reads h = λ all is. front_is_taken all bytes (h all is)
 taken_by_reader (Tpcc load script threads options) left bytes reads h = absurd reads
+taken_by_reader (Audit rounds) left bytes reads h = λ all is. front_is_taken all bytes (h all is)
+taken_by_reader (Why options) left bytes reads h = λ all is. front_is_taken all bytes (h all is)
 
 -- the bytes of an accepted script were all taken
-pub all_taken : (all bytes : List ℕ) (program : Program) → IsTaken all bytes → Accepts all program → bytes ≡ all
-all_taken all bytes program (inl same) accepted = same
-all_taken all bytes program (inr many) accepted = absurd (let few : length all ≤ most_bytes = accepted_are_few all program accepted in let more = many.0 in omega (arith, few, more))
+pub all_taken : (command : Command) (all bytes : List ℕ) (program : Program) → IsTaken all bytes → AcceptsScript command all program → bytes ≡ all
+all_taken command all bytes program (inl same) accepted = same
+all_taken command all bytes program (inr many) accepted = absurd (let few : length all ≤ most_bytes = accepted_is_few command all program accepted in let more = many.0 in omega (arith, few, more))
 
-taken_is_all : (all bytes : List ℕ) (program : Program) → IsTaken all bytes → Accepts bytes program → bytes ≡ all
-taken_is_all all bytes program (inl same) accepted = same
-taken_is_all all bytes program (inr many) accepted = absurd (let few : length bytes ≤ most_bytes = accepted_are_few bytes program accepted in let more = many.1 in omega (arith, few, more))
-
-script_of_taken : (all bytes : List ℕ) (refusal : ScriptRefusal) → IsTaken all bytes → Refuses all refusal → Refuses bytes refusal
-script_of_taken all bytes refusal (inl same) cause = subst (λ (xs : List ℕ). Refuses xs refusal) (sym same) cause
-script_of_taken all bytes refusal (inr many) cause = subst (Refuses bytes) (sym (too_many_are_told all refusal many.0 cause)) (too_many_are_refused bytes many.1)
-
-script_of_all : (all bytes : List ℕ) (refusal : ScriptRefusal) → IsTaken all bytes → Refuses bytes refusal → Refuses all refusal
-script_of_all all bytes refusal (inl same) cause = subst (λ (xs : List ℕ). Refuses xs refusal) same cause
-script_of_all all bytes refusal (inr many) cause = subst (Refuses all) (sym (too_many_are_told bytes refusal many.1 cause)) (too_many_are_refused all many.0)
+taken_is_all : (command : Command) (all bytes : List ℕ) (program : Program) → IsTaken all bytes → AcceptsScript command bytes program → bytes ≡ all
+taken_is_all command all bytes program (inl same) accepted = same
+taken_is_all command all bytes program (inr many) accepted = absurd (let few : length bytes ≤ most_bytes = accepted_is_few command bytes program accepted in let more = many.1 in omega (arith, few, more))
 
 pub cause_of_taken : (command : Command) (all bytes : List ℕ) (refusal : Refusal) → IsTaken all bytes → IsRefusedBy command all refusal → IsRefusedBy command bytes refusal
-cause_of_taken command all bytes refusal t (by_script r cause) = by_script r (script_of_taken all bytes r t cause)
-cause_of_taken command all bytes refusal t (by_program p r accepted why) =
-    subst (λ (xs : List ℕ). IsRefusedBy command xs refusal) (sym (all_taken all bytes p t accepted)) (by_program p r accepted why)
+cause_of_taken command all bytes refusal (inl same) cause = subst (λ (xs : List ℕ). IsRefusedBy command xs refusal) (sym same) cause
+cause_of_taken command all bytes refusal (inr many) cause = subst (IsRefusedBy command bytes) (sym (too_many_told command all refusal many.0 cause)) (too_many_refused command bytes many.1)
 
 cause_of_all : (command : Command) (all bytes : List ℕ) (refusal : Refusal) → IsTaken all bytes → IsRefusedBy command bytes refusal → IsRefusedBy command all refusal
-cause_of_all command all bytes refusal t (by_script r cause) = by_script r (script_of_all all bytes r t cause)
-cause_of_all command all bytes refusal t (by_program p r accepted why) =
-    subst (λ (xs : List ℕ). IsRefusedBy command xs refusal) (taken_is_all all bytes p t accepted) (by_program p r accepted why)
+cause_of_all command all bytes refusal (inl same) cause = subst (λ (xs : List ℕ). IsRefusedBy command xs refusal) same cause
+cause_of_all command all bytes refusal (inr many) cause = subst (IsRefusedBy command all) (sym (too_many_told command bytes refusal many.1 cause)) (too_many_refused command all many.0)
 
 text_of_all : (command : Command) (all bytes answer : List ℕ) → IsTaken all bytes → IsTextFor command bytes answer → IsTextFor command all answer
-text_of_all command all bytes answer t text = subst (λ (xs : List ℕ). IsTextFor command xs answer) (taken_is_all all bytes text.0 t text.1) text
+text_of_all command all bytes answer t text = subst (λ (xs : List ℕ). IsTextFor command xs answer) (taken_is_all command all bytes text.0 t text.1) text
 
 refusal_of_all : (command : Command) (all bytes : List ℕ) (number : ℕ) (what : List ℕ) → IsTaken all bytes → IsRefusal command bytes number what → IsRefusal command all number what
 refusal_of_all command all bytes number what t r = (r.0, cause_of_all command all bytes r.0 t r.1, r.2, r.3)

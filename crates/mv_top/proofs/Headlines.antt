@@ -3,6 +3,7 @@ use Rattle.std.proofs.Common.{◌≡◌, ◌≤◌, ◌<◌, ℕ, zero, suc, Lis
 use Rattle.std.specs.Prelude.{slice_get, slice_index}
 use Rattle.std.specs.Option.{ForSome}
 use Rattle.std.proofs.lemmas.Option.{same_Some, slice_get-get_or, slice_get_within}
+use Rattle.mv_edge.specs.Edge.{Writes}
 use Rattle.mv_values.specs.declared.calls.Options.{Options}
 use Rattle.mv_values.specs.Tables.{Tables}
 use Rattle.mv_catalog.specs.declared.resolved.Program.{Program}
@@ -24,7 +25,7 @@ use Rattle.mv_top.specs.Inputs.{input_of}
 use Rattle.mv_top.specs.Answers.{IsTextFor, IsAnswer, usage, refused, done, StandFor, Wrote}
 use Rattle.mv_top.proofs.Answering.{same_command}
 use Rattle.mv_top.proofs.Texts.{text_shown}
-use Rattle.mv_top.specs.Headline.{IsSerializableText, IsSerializableFor, WroteSerializable, IsSerializable as IsHeadline}
+use Rattle.mv_top.specs.Headline.{IsSerializableText, IsSerializableFor, IsSerializable as IsHeadline}
 
 -- Tables
 
@@ -84,23 +85,23 @@ run_for threads options script bytes t = let run = t.2.0 in (t.0, t.1, text_of_l
 pub replay_for : (options : Options) (script bytes : List ℕ) → IsTextFor (Replay options) script bytes → IsSerializableFor script bytes
 replay_for options script bytes t = let it = t.2 in (t.0, t.1, text_of_lawful t.0 options it.events bytes it.is.lawful it.text_is)
 
--- the answer of a command, if all its texts for a script are such texts
-answer_for : (words : List (List ℕ)) (left : Option (List ℕ)) (command : Command) (status : Status) (answer : List ℕ) → input_of command left ≡ left → ((script : List ℕ) → IsTextFor command script answer → IsSerializableFor script answer)
-    → StandFor words command → status ≡ Done → IsAnswer words left status answer → ForSome left (λ script. IsSerializableFor script answer)
-answer_for words left command status answer input texts stands is (usage none) = cc
-answer_for words left command status answer input texts stands is (refused other number what said why) = cc
-answer_for words left command status answer input texts stands is (done other text said found) =
+-- the answer of a command, if all its texts for an input are such texts
+answer_for : (IsSuch : List ℕ → List ℕ → Type 0) (words : List (List ℕ)) (left : Option (List ℕ)) (command : Command) (status : Status) (answer : List ℕ) → input_of command left ≡ left
+    → ((script : List ℕ) → IsTextFor command script answer → IsSuch script answer) → StandFor words command → status ≡ Done → IsAnswer words left status answer → ForSome left (λ script. IsSuch script answer)
+answer_for IsSuch words left command status answer input texts stands is (usage none) = cc
+answer_for IsSuch words left command status answer input texts stands is (refused other number what said why) = cc
+answer_for IsSuch words left command status answer input texts stands is (done other text said found) =
     let same : other ≡ command = same_command words other command said stands in
     λ script at. texts script (subst (λ (k : Command). IsTextFor k script answer) same (found script (ap (λ (k : Command). input_of k left) same ∙ (input ∙ at))))
 
-wrote_for : (words : List (List ℕ)) (left old new : Option (List ℕ)) (command : Command) → input_of command left ≡ left → ((script answer : List ℕ) → IsTextFor command script answer → IsSerializableFor script answer)
-    → (status : Status) → Wrote words left old new status → WroteSerializable command words left old new status
-wrote_for words left old new command input texts status wrote stands is =
+pub wrote_for : (IsSuch : List ℕ → List ℕ → Type 0) (words : List (List ℕ)) (left old new : Option (List ℕ)) (command : Command) → input_of command left ≡ left → ((script answer : List ℕ) → IsTextFor command script answer → IsSuch script answer)
+    → (status : Status) → Wrote words left old new status → StandFor words command → status ≡ Done → ForSome left (λ script. (answer : List ℕ) × IsSuch script answer × Writes old new answer)
+wrote_for IsSuch words left old new command input texts status wrote stands is =
     let w : Wrote words left old new Done = subst (Wrote words left old new) is wrote in
-    λ script at. (w.0, answer_for words left command Done w.0 input (λ s. texts s w.0) stands refl w.1 script at, w.2)
+    λ script at. (w.0, answer_for IsSuch words left command Done w.0 input (λ s. texts s w.0) stands refl w.1 script at, w.2)
 
 pub wrote_serializable : (words : List (List ℕ)) (left old new : Option (List ℕ)) (status : Status) → Wrote words left old new status → IsHeadline words left old new status
 wrote_serializable words left old new status wrote = (
-  λ threads options. wrote_for words left old new (Run threads options) refl (run_for threads options) status wrote,
-  λ options. wrote_for words left old new (Replay options) refl (replay_for options) status wrote,
+  λ threads options. wrote_for IsSerializableFor words left old new (Run threads options) refl (run_for threads options) status wrote,
+  λ options. wrote_for IsSerializableFor words left old new (Replay options) refl (replay_for options) status wrote,
 )

@@ -17,11 +17,13 @@ use Rattle.mv_top.specs.declared.refusal.Refusal.TheVariants as why
 use Rattle.mv_top.specs.declared.refusal.NoText.{NoText}
 use Rattle.mv_top.specs.declared.refusal.NoText.TheVariants.{Refused, NoMemory}
 use Rattle.mv_words.specs.declared.command.Command.{Command}
-use Rattle.mv_words.specs.declared.command.Command.TheVariants.{Run, Replay, Serial, Graph, Tpcc}
+use Rattle.mv_words.specs.declared.command.Command.TheVariants.{Run, Replay, Serial, Graph, Tpcc, Audit, Why}
 use Rattle.mv_report.specs.History.{work_of}
 use Rattle.mv_top.specs.Journals.{journal_lines, refusal_of, HasLawfulJournal, RefusesJournal, line, unlawful}
-use Rattle.mv_top.specs.Refusing.{Causes, RefusesAs, of_accept}
-use Rattle.mv_top.specs.Answers.{IsTextOf, AcceptsProgram, RefusesProgram, IsRefusedBy, by_script, by_program}
+use Rattle.mv_top.specs.Refusing.{Causes, RefusesAs, IsOfScript, of_accept}
+use Rattle.mv_top.specs.Inputs.{script_in}
+use Rattle.mv_top.specs.Answers.{IsTextOf, AcceptsProgram, RefusesProgram, IsRefusedBy, by_input, by_script, by_program}
+use Rattle.mv_top.proofs.Taking.{one_script, not_refused, accepted_script, accepts_script}
 
 -- a lawful journal isn't refused
 lawful_is_taken : (options : Options) (bytes : List ℕ) (p : Program) (es : List Event) (r : Refusal) → HasLawfulJournal options bytes p es → RefusesJournal options bytes p r → ⊥
@@ -45,6 +47,8 @@ text_is_taken (Replay options) bytes answer p r t bad = lawful_is_taken options 
 text_is_taken Serial bytes answer p r t bad = bad
 text_is_taken Graph bytes answer p r t bad = bad
 text_is_taken (Tpcc load script threads options) bytes answer p r t bad = bad
+text_is_taken (Audit rounds) bytes answer p r t bad = bad
+text_is_taken (Why options) bytes answer p r t bad = lawful_is_taken options bytes p t.events r t.is bad
 
 accepted_is_not_refused : (command : Command) (bytes : List ℕ) (p : Program) (r : Refusal) → AcceptsProgram command bytes p → RefusesProgram command bytes p r → ⊥
 accepted_is_not_refused (Run threads options) bytes p r t bad = bad
@@ -52,6 +56,8 @@ accepted_is_not_refused (Replay options) bytes p r t bad = lawful_is_taken optio
 accepted_is_not_refused Serial bytes p r t bad = bad
 accepted_is_not_refused Graph bytes p r t bad = bad
 accepted_is_not_refused (Tpcc load script threads options) bytes p r t bad = bad
+accepted_is_not_refused (Audit rounds) bytes p r t bad = bad
+accepted_is_not_refused (Why options) bytes p r t bad = lawful_is_taken options bytes p t.0 r t.1 bad
 
 one_refusal : (command : Command) (bytes : List ℕ) (p : Program) (r q : Refusal) → RefusesProgram command bytes p r → RefusesProgram command bytes p q → r ≡ q
 one_refusal (Run threads options) bytes p r q a b = absurd a
@@ -59,6 +65,8 @@ one_refusal (Replay options) bytes p r q a b = same_refusal options bytes p r q 
 one_refusal Serial bytes p r q a b = absurd a
 one_refusal Graph bytes p r q a b = absurd a
 one_refusal (Tpcc load script threads options) bytes p r q a b = absurd a
+one_refusal (Audit rounds) bytes p r q a b = absurd a
+one_refusal (Why options) bytes p r q a b = same_refusal options bytes p r q a b
 
 -- a command that takes the program has a text, unless memory ran out
 pub only_of : (command : Command) (bytes : List ℕ) (p : Program) (result : Result (List ℕ) NoText) → IfErr result (Causes (RefusesProgram command bytes p))
@@ -86,31 +94,38 @@ text_only command bytes p q result text only same t =
     match_of result (IsTextOf command bytes q) (λ f. f ≡ NoMemory) (subst (λ (x : Program). IfOk result (IsTextOf command bytes x)) same text)
     (only (subst (λ (x : Program). AcceptsProgram command bytes x) (sym same) t))
 
-pub text_refused : (command : Command) (bytes : List ℕ) (p : Program) (result : Result (List ℕ) NoText) → Accepts bytes p → IfErr result (Causes (RefusesProgram command bytes p)) → IfErr result (Causes (IsRefusedBy command bytes))
-text_refused command bytes p (Ok answer) accepted why = tt
-text_refused command bytes p (Err (Refused r)) accepted why = by_program p r accepted why
-text_refused command bytes p (Err NoMemory) accepted why = tt
+pub text_refused : (command : Command) (bytes script : List ℕ) (p : Program) (result : Result (List ℕ) NoText) → script_in command bytes ≡ Ok script → Accepts script p → IfErr result (Causes (RefusesProgram command bytes p))
+    → IfErr result (Causes (IsRefusedBy command bytes))
+text_refused command bytes script p (Ok answer) is accepted why = tt
+text_refused command bytes script p (Err (Refused r)) is accepted why = by_program p r (accepts_script command bytes script p is accepted) why
+text_refused command bytes script p (Err NoMemory) is accepted why = tt
 
-pub text_told : (command : Command) (bytes : List ℕ) (p : Program) (r : Refusal) → ((r : ScriptRefusal) → Refuses bytes r → ⊥) → ((q : Program) → Accepts bytes q → p ≡ q) → IsRefusedBy command bytes r
-    → RefusesProgram command bytes p r
-text_told command bytes p r never same (by_script s cause) = absurd (never s cause)
-text_told command bytes p r never same (by_program q s accepted why) = subst (λ (x : Program). RefusesProgram command bytes x s) (sym (same q accepted)) why
-
-pub script_told : (command : Command) (bytes : List ℕ) (it : ScriptRefusal) → ((r : ScriptRefusal) → Refuses bytes r → it ≡ r) → ((q : Program) → Accepts bytes q → ⊥) → (r : Refusal) → IsRefusedBy command bytes r → why.Script it ≡ r
-script_told command bytes it same never r (by_script s cause) = ap (λ x. why.Script x) (same s cause)
-script_told command bytes it same never r (by_program q s accepted cause) = absurd (never q accepted)
+pub text_told : (command : Command) (bytes script : List ℕ) (p : Program) (r : Refusal) → script_in command bytes ≡ Ok script → ((s : ScriptRefusal) → Refuses script s → ⊥) → ((q : Program) → Accepts script q → p ≡ q)
+    → IsRefusedBy command bytes r → RefusesProgram command bytes p r
+text_told command bytes script p r is never same (by_input q none) = absurd (not_refused command bytes script q is none)
+text_told command bytes script p r is never same (by_script other s was cause) = absurd (never s (subst (λ (xs : List ℕ). Refuses xs s) (one_script command bytes other script was is) cause))
+text_told command bytes script p r is never same (by_program q s accepted why) =
+    subst (λ (x : Program). RefusesProgram command bytes x s) (sym (same q (accepted_script command bytes script q is accepted))) why
 
 -- a script that isn't accepted
 
 pub not_accepted_only : (f : NotAccepted) → f ≡ accept.NoMemory → of_accept f ≡ NoMemory
 not_accepted_only f is = ap of_accept is
 
-pub not_accepted_refused : (command : Command) (bytes : List ℕ) (f : NotAccepted) → HasCause (Refuses bytes) f → Causes (IsRefusedBy command bytes) (of_accept f)
-not_accepted_refused command bytes (accept.Refused r) cause = by_script r cause
-not_accepted_refused command bytes accept.NoMemory cause = tt
+pub not_accepted_refused : (script : List ℕ) (f : NotAccepted) → HasCause (Refuses script) f → Causes (IsOfScript script) (of_accept f)
+not_accepted_refused script (accept.Refused r) cause = (r, cause, refl)
+not_accepted_refused script accept.NoMemory cause = tt
 
-pub not_accepted_told : (command : Command) (bytes : List ℕ) (f : NotAccepted) → ((r : ScriptRefusal) → Refuses bytes r → (f ≡ accept.Refused r) ⊎ (f ≡ accept.NoMemory)) → ((q : Program) → Accepts bytes q → f ≡ accept.NoMemory)
-    → (r : Refusal) → IsRefusedBy command bytes r → RefusesAs r (of_accept f)
-not_accepted_told command bytes (accept.Refused it) told only r cause =
-    script_told command bytes it (λ s because. elim (told s because) [ inl e ↦ cc | inr e ↦ cc ]) (λ q accepted. (let e = only q accepted in cc)) r cause
-not_accepted_told command bytes accept.NoMemory told only r cause = tt
+pub not_accepted_told : (f : NotAccepted) (r : ScriptRefusal) → (f ≡ accept.Refused r) ⊎ (f ≡ accept.NoMemory) → RefusesAs (why.Script r) (of_accept f)
+not_accepted_told f r (inl is) = subst (λ (g : NotAccepted). RefusesAs (why.Script r) (of_accept g)) (sym is) refl
+not_accepted_told f r (inr is) = subst (λ (g : NotAccepted). RefusesAs (why.Script r) (of_accept g)) (sym is) tt
+
+pub script_refused : (command : Command) (bytes script : List ℕ) (f : NoText) → script_in command bytes ≡ Ok script → Causes (IsOfScript script) f → Causes (IsRefusedBy command bytes) f
+script_refused command bytes script (Refused r) is cause = subst (IsRefusedBy command bytes) (sym cause.2) (by_script script cause.0 is cause.1)
+script_refused command bytes script NoMemory is cause = tt
+
+pub script_told : (command : Command) (bytes script : List ℕ) (f : NoText) (r : Refusal) → script_in command bytes ≡ Ok script → ((s : ScriptRefusal) → Refuses script s → RefusesAs (why.Script s) f)
+    → ((q : Program) → Accepts script q → f ≡ NoMemory) → IsRefusedBy command bytes r → RefusesAs r f
+script_told command bytes script f r is told only (by_input q none) = absurd (not_refused command bytes script q is none)
+script_told command bytes script f r is told only (by_script other s was cause) = told s (subst (λ (xs : List ℕ). Refuses xs s) (one_script command bytes other script was is) cause)
+script_told command bytes script f r is told only (by_program q s accepted why) = subst (RefusesAs s) (sym (only q (accepted_script command bytes script q is accepted))) tt

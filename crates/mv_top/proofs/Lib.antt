@@ -1,6 +1,8 @@
 pub mod Numbers
 pub mod Serials
 pub mod Scripts
+pub mod Parting
+pub mod Taking
 pub mod Judging
 pub mod Driving
 pub mod Answering
@@ -8,3 +10,5 @@ pub mod Texts
 pub mod Summaries
 pub mod Opening
 pub mod Headlines
+pub mod Auditing
+pub mod Whys

@@ -198,7 +198,7 @@ in_range n (C c) few h = omega (arith, few, h)
 in_range n (X c) few h = omega (arith, few, h)
 in_range n G few h = tt
 
-is_plain : (p : Program) (options : Options) (journal : List Event) → length p.resolved.calls ≤ most_calls → Lawful (work_of p options) journal → IsPlain (outcome_of (work_of p options) journal)
+pub is_plain : (p : Program) (options : Options) (journal : List Event) → length p.resolved.calls ≤ most_calls → Lawful (work_of p options) journal → IsPlain (outcome_of (work_of p options) journal)
 is_plain p options journal few lawful = record {
   lines = All-map (λ (reply : Reply). All IsPrinted reply.lines) (reply_in w order) (first_numbers w.count) (λ k d lt. by_place _ (position (λ d. d == _) order));
   calls = All-weaker (IsOfCalls w.count) IsInRange (λ e. in_range w.count e few) journal (lawful_names_calls w journal lawful);

@@ -1,5 +1,5 @@
 -- The answer to a command and its input, and what is written of it.
-use Rattle.std.specs.Prelude.{◌≡◌, ◌≤◌, ◌⊎◌, ℕ, true, false, List, Option, Some, None, codes}
+use Rattle.std.specs.Prelude.{◌≡◌, ◌≤◌, ◌⊎◌, ℕ, true, false, List, Option, Some, None, Ok, Err, MatchResult, codes}
 use Rattle.std.specs.Option.{ForSome}
 use Rattle.mv_edge.specs.Edge.{Writes, WritesFront}
 use Rattle.mv_values.specs.declared.calls.Options.{Options}
@@ -20,11 +20,13 @@ use Rattle.mv_top.specs.Serial.{serial}
 use Rattle.mv_top.specs.Graphs.{graphs}
 use Rattle.mv_top.specs.Tpcc.{IsSummary}
 use Rattle.mv_top.specs.Print.{IsPrint}
-use Rattle.mv_top.specs.Inputs.{IsReader, input_of}
+use Rattle.mv_top.specs.Audits.{verdict_text}
+use Rattle.mv_top.specs.Whys.{IsWhyText}
+use Rattle.mv_top.specs.Inputs.{IsReader, input_of, script_in}
 pub use Rattle.mv_words.specs.Words.{words_of}
 use Rattle.mv_words.specs.Words.{command_of}
 use Rattle.mv_words.specs.declared.command.Command.{Command}
-use Rattle.mv_words.specs.declared.command.Command.TheVariants.{Run, Replay, Serial, Graph, Tpcc}
+use Rattle.mv_words.specs.declared.command.Command.TheVariants.{Run, Replay, Serial, Graph, Tpcc, Audit, Why}
 use Rattle.mv_top.specs.declared.status.Status.{Status}
 use Rattle.mv_top.specs.declared.status.Status.TheVariants.{Done, Refused, Usage, NoMemory, ReadFault, WriteFault}
 use Rattle.mv_top.specs.declared.status.Fault.{Fault}
@@ -36,7 +38,8 @@ IsTextOfWorkers threads options program answer = IsRunText program options answe
 
 -- for the program of these bytes the command may write this text: that of a run, whose workers may take turns in any way;
 -- that of the script's own journal; of the calls alone in call order; of the graphs of the procedures; the print of the
--- script; or the summary of a run
+-- script; the summary of a run; the verdict on a report; or why the repairs of the script's own journal executed what
+-- they did
 abbrev pub IsTextOf : Command → List ℕ → Program → List ℕ → Type 0
 IsTextOf (Run threads options) bytes program answer = IsTextOfWorkers threads options program answer
 IsTextOf (Replay options) bytes program answer = IsJournalText options bytes program answer
@@ -44,36 +47,47 @@ IsTextOf Serial bytes program answer = answer ≡ serial program
 IsTextOf Graph bytes program answer = answer ≡ graphs program
 IsTextOf (Tpcc load true threads options) bytes program answer = IsPrint bytes answer
 IsTextOf (Tpcc load false threads options) bytes program answer = IsSummary load program options answer
+IsTextOf (Audit rounds) bytes program answer = answer ≡ verdict_text rounds bytes program
+IsTextOf (Why options) bytes program answer = IsWhyText options bytes program answer
 
--- the bytes are accepted, and the command may write this text for their program
+-- the script that the command takes of these bytes is accepted as this program
+abbrev pub AcceptsScript : Command → List ℕ → Program → Type 0
+AcceptsScript command bytes program = MatchResult (script_in command bytes) (λ script. Accepts script program) (λ refusal. ⊥)
+
+-- the script is accepted, and the command may write this text for its program
 abbrev pub IsTextFor : Command → List ℕ → List ℕ → Type 0
-IsTextFor command bytes answer = (program : Program) × Accepts bytes program × IsTextOf command bytes program answer
+IsTextFor command bytes answer = (program : Program) × AcceptsScript command bytes program × IsTextOf command bytes program answer
 
--- the command has a text for an accepted program: `replay` if its journal is lawful, the others always
+-- the command has a text for an accepted program: `replay` and `why` if its journal is lawful, the others always
 abbrev pub AcceptsProgram : Command → List ℕ → Program → Type 0
 AcceptsProgram (Run threads options) bytes program = Unit {0}
 AcceptsProgram (Replay options) bytes program = (events : List Event) × HasLawfulJournal options bytes program events
 AcceptsProgram Serial bytes program = Unit {0}
 AcceptsProgram Graph bytes program = Unit {0}
 AcceptsProgram (Tpcc load script threads options) bytes program = Unit {0}
+AcceptsProgram (Audit rounds) bytes program = Unit {0}
+AcceptsProgram (Why options) bytes program = (events : List Event) × HasLawfulJournal options bytes program events
 
 -- the command has a text for the program of these bytes
 abbrev pub TakesBytes : Command → List ℕ → Program → Type 0
-TakesBytes command bytes program = Accepts bytes program × AcceptsProgram command bytes program
+TakesBytes command bytes program = AcceptsScript command bytes program × AcceptsProgram command bytes program
 
--- why the command refuses an accepted program: `replay` for its journal, the others for nothing
+-- why the command refuses an accepted program: `replay` and `why` for its journal, the others for nothing
 abbrev pub RefusesProgram : Command → List ℕ → Program → Refusal → Type 0
 RefusesProgram (Run threads options) bytes program refusal = ⊥
 RefusesProgram (Replay options) bytes program refusal = RefusesJournal options bytes program refusal
 RefusesProgram Serial bytes program refusal = ⊥
 RefusesProgram Graph bytes program refusal = ⊥
 RefusesProgram (Tpcc load script threads options) bytes program refusal = ⊥
+RefusesProgram (Audit rounds) bytes program refusal = ⊥
+RefusesProgram (Why options) bytes program refusal = RefusesJournal options bytes program refusal
 
--- the command refuses the bytes with this refusal: that of the script, which is the same for every command, or that of
--- an accepted program
+-- the command refuses the bytes with this refusal: that of the input, if no script is taken of it; that of the script,
+-- which is the same for every command; or that of an accepted program
 pub data IsRefusedBy (command : Command) (bytes : List ℕ) : Refusal → Type 0 where
-  by_script : (refusal : ScriptRefusal) → Refuses bytes refusal → IsRefusedBy command bytes (Script refusal)
-  by_program : (program : Program) (refusal : Refusal) → Accepts bytes program → RefusesProgram command bytes program refusal → IsRefusedBy command bytes refusal
+  by_input : (refusal : Refusal) → script_in command bytes ≡ Err refusal → IsRefusedBy command bytes refusal
+  by_script : (script : List ℕ) (refusal : ScriptRefusal) → script_in command bytes ≡ Ok script → Refuses script refusal → IsRefusedBy command bytes (Script refusal)
+  by_program : (program : Program) (refusal : Refusal) → AcceptsScript command bytes program → RefusesProgram command bytes program refusal → IsRefusedBy command bytes refusal
 
 -- the number and the line of a refusal with which the command refuses these bytes
 abbrev pub IsRefusal : Command → List ℕ → ℕ → List ℕ → Type 0

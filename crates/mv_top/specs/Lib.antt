@@ -2,6 +2,9 @@ pub mod History
 pub mod Serial
 pub mod Graphs
 pub mod Refusals
+pub mod Parts
+pub mod Audits
+pub mod Whys
 pub mod Journals
 pub mod Refusing
 pub mod Inputs

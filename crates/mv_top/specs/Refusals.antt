@@ -4,7 +4,7 @@ use Rattle.mv_accept.specs.Refusals.{number_of as script_number, line_of as scri
 use Rattle.mv_lawful.specs.declared.fault.Fault.{Fault}
 use Rattle.mv_lawful.specs.declared.fault.Fault.TheVariants as fault
 use Rattle.mv_top.specs.declared.refusal.Refusal.{Refusal}
-use Rattle.mv_top.specs.declared.refusal.Refusal.TheVariants.{Script, Line, Event, Open}
+use Rattle.mv_top.specs.declared.refusal.Refusal.TheVariants.{Script, Head, Line, Event, Open}
 
 -- the number of the refusal of an event
 abbrev pub event_number : Fault → ℕ
@@ -16,6 +16,7 @@ event_number fault.Stale = 20
 
 abbrev pub number_of : Refusal → ℕ
 number_of (Script refusal) = script_number refusal
+number_of Head = 26
 number_of (Line n) = 15
 number_of (Event n fault) = event_number fault
 number_of (Open call) = 21
@@ -26,6 +27,7 @@ journal_line number n = codes "refused " ++ decimal number ++ codes " journal li
 
 abbrev pub line_of : Refusal → List ℕ
 line_of (Script refusal) = script_line refusal
+line_of Head = codes "refused 26 audit head"
 line_of (Line n) = journal_line 15 n
 line_of (Event n fault) = journal_line (event_number fault) n
 line_of (Open call) = codes "refused 21 call " ++ decimal call

@@ -2,6 +2,8 @@
 use Rattle.std.specs.Prelude.{◌≡◌, ℕ, List, Some}
 use Rattle.mv_values.specs.declared.calls.Options.{Options}
 use Rattle.mv_catalog.specs.declared.resolved.Program.{Program}
+use Rattle.mv_accept.specs.declared.refusal.Refusal.{Refusal as ScriptRefusal}
+use Rattle.mv_accept.specs.Accepting.{Refuses}
 use Rattle.mv_accept.specs.declared.accept.NotAccepted.{NotAccepted}
 use Rattle.mv_accept.specs.declared.accept.NotAccepted.TheVariants as accept
 use Rattle.mv_journal.specs.declared.event.Event.{Event}
@@ -27,6 +29,10 @@ Causes Cause NoMemory = Unit {0}
 abbrev pub RefusesAs : Refusal → NoText → Type 0
 RefusesAs refusal (Refused told) = told ≡ refusal
 RefusesAs refusal NoMemory = Unit {0}
+
+-- it is the refusal of this script
+abbrev pub IsOfScript : List ℕ → Refusal → Type 0
+IsOfScript script refusal = (it : ScriptRefusal) × Refuses script it × (refusal ≡ why.Script it)
 
 abbrev pub of_accept : NotAccepted → NoText
 of_accept (accept.Refused refusal) = Refused (why.Script refusal)

@@ -1,24 +1,28 @@
 //! The answer to a command and its input.
 
 ghost use Rattle.std.specs.Prelude.{◌≡◌, ◌<◌, ◌≤◌, ◌^◌, length, IfOk, IfErr, MatchResult};
-ghost use Rattle.mv_accept.specs.Accepting.{most_calls, Accepts};
+ghost use Rattle.mv_accept.specs.Accepting.{most_calls, Accepts, Refuses};
+ghost use Rattle.mv_accept.specs.declared.refusal.Refusal.{Refusal as ScriptWhy};
 ghost use Rattle.mv_record.specs.Databases.{IsProgram};
 ghost use Rattle.mv_catalog.specs.declared.resolved.Program.{Program as Whole};
 ghost use Rattle.mv_values.specs.declared.calls.Options.{Options as Given};
-ghost use Rattle.mv_words.specs.declared.command.Command.{Command as Task};
 ghost use Rattle.mv_words.specs.declared.command.Command.TheVariants as command;
 ghost use Rattle.mv_top.specs.declared.refusal.Refusal.{Refusal as Why};
-ghost use Rattle.mv_top.specs.Answers.{IsTextFor, IsTextOf, AcceptsProgram, TakesBytes, IsRefusedBy, RefusesProgram, HasCause, IsToldBy, IsFaultFor};
-ghost use Rattle.mv_top.specs.Refusing.{Causes, RefusesAs};
+ghost use Rattle.mv_top.specs.declared.refusal.Refusal.TheVariants as why;
+ghost use Rattle.mv_top.specs.Answers.{IsTextFor, IsTextOf, AcceptsScript, AcceptsProgram, TakesBytes, IsRefusedBy, RefusesProgram, HasCause, IsToldBy, IsFaultFor};
+ghost use Rattle.mv_top.specs.Refusing.{Causes, RefusesAs, IsOfScript};
 ghost use Rattle.mv_top.specs.Headline.{IsSerializableFor};
 
+use crate::audit::verdict_text;
 use crate::graphs::graph_text;
 use crate::journals::journal_text;
+use crate::parts::script_in;
 use crate::print::print_text;
 use crate::refusal::{NoText, Refusal};
 use crate::serial::serial_text;
 use crate::status::Fault;
 use crate::tpcc::summary_text;
+use crate::why::why_text;
 use crate::workers::{Crew, run_text};
 use mv_accept::accept::{NotAccepted, accept};
 use mv_catalog::resolved::Program;
@@ -40,7 +44,7 @@ pub fn answer<R: Threads + Wait + Sync, P: Pace>(
     pace: &P,
 ) -> Result<List<u8>, Fault>
     ensures found { IfOk result (IsTextFor command.now bytes.now) }
-    // A command gets its text for an accepted script, and `replay` for one with a lawful journal.
+    // A command gets its text for an accepted script, `replay` and `why` for one with a lawful journal.
     ensures only { (program : Whole) → TakesBytes command.now bytes.now program → MatchResult result (IsTextOf command.now bytes.now program) (λ fault. fault ≡ Fault.NoMemory) }
     ensures refused { IfErr result (HasCause command.now bytes.now) }
     // A refusal that has its cause in the command and the bytes is returned, unless memory runs out.
@@ -85,7 +89,8 @@ fn text_for<R: Threads + Wait + Sync, P: Pace>(
     ensures refused { IfErr result (Causes (IsRefusedBy command.now bytes.now)) }
     ensures told { (refusal : Why) → IsRefusedBy command.now bytes.now refusal → MatchResult result (λ answer. ⊥) (RefusesAs refusal) }
 {
-    let program = program_of(alloc, bytes)?;
+    let script = script_in(command, bytes)?;
+    let program = program_of(alloc, script)?;
     text_of(rt, alloc, command, bytes, program, pace)
 }
 
@@ -100,17 +105,17 @@ fn replay_text(alloc: Global, options: Options, bytes: &[u8]) -> Result<List<u8>
     journal_text(alloc, options, bytes, program)
 }
 
-/// Returns the program of these bytes, or why there is none: the same for every command.
-fn program_of(alloc: Global, bytes: &[u8]) -> Result<Program, NoText>
-    ensures found { IfOk result (Accepts bytes.now) }
-    ensures only { (program : Whole) → Accepts bytes.now program → MatchResult result (λ p. p ≡ program) (λ f. f ≡ NoText.NoMemory) }
-    ensures refused { (command : Task) → IfErr result (Causes (IsRefusedBy command bytes.now)) }
-    ensures told { (command : Task) (refusal : Why) → IsRefusedBy command bytes.now refusal → MatchResult result (λ p. RefusesProgram command bytes.now p refusal) (RefusesAs refusal) }
+/// Returns the program of a script, or why there is none: the same for every command.
+fn program_of(alloc: Global, script: &[u8]) -> Result<Program, NoText>
+    ensures found { IfOk result (Accepts script.now) }
+    ensures only { (program : Whole) → Accepts script.now program → MatchResult result (λ p. p ≡ program) (λ f. f ≡ NoText.NoMemory) }
+    ensures refused { IfErr result (Causes (IsOfScript script.now)) }
+    ensures told { (refusal : ScriptWhy) → Refuses script.now refusal → MatchResult result (λ p. ⊥) (RefusesAs (why.Script refusal)) }
     ensures whole { IfOk result IsProgram }
     ensures few { IfOk result (λ p. length p.resolved.calls ≤ most_calls) }
-    ensures size { IfOk result (λ p. length bytes.now < 2 ^ 32) }
+    ensures size { IfOk result (λ p. length script.now < 2 ^ 32) }
 {
-    Ok(accept(alloc, bytes)?)
+    Ok(accept(alloc, script)?)
 }
 
 impl From<NotAccepted> for NoText {
@@ -136,10 +141,10 @@ fn text_of<R: Threads + Wait + Sync, P: Pace>(
     program: Program,
     pace: &P,
 ) -> Result<List<u8>, NoText>
-    requires accepted { Accepts bytes.now program }
+    requires accepted { AcceptsScript command.now bytes.now program }
     requires whole { IsProgram program }
     requires few { length program.resolved.calls ≤ most_calls }
-    requires size { length bytes.now < 2 ^ 32 }
+    requires size { length bytes.now < 2 ^ 31 }
     ensures found { IfOk result (IsTextOf command.now bytes.now program) }
     ensures only { AcceptsProgram command.now bytes.now program → IfErr result (λ f. f ≡ NoText.NoMemory) }
     ensures refused { IfErr result (Causes (RefusesProgram command.now bytes.now program)) }
@@ -172,6 +177,8 @@ fn text_of<R: Threads + Wait + Sync, P: Pace>(
             };
             Ok(summary_text(rt, alloc, load, crew, program, pace)?)
         }
+        Command::Why { options } => why_text(alloc, *options, bytes, program),
+        Command::Audit { rounds } => Ok(verdict_text(alloc, *rounds, bytes, &program)?),
     }
 }
 

@@ -40,7 +40,7 @@ fn block_in<'b>(bytes: &'b [u8], journal: &Option<CopyInfo>) -> &'b [u8]
 }
 
 /// Returns the events of a program's journal.
-fn events_of(
+pub(crate) fn events_of(
     alloc: Global,
     options: Options,
     bytes: &[u8],

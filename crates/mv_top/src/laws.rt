@@ -1,5 +1,6 @@
 //! What the text of a run tells.
 
+ghost use Rattle.mv_top.specs.Audits.{YesIsExact, RunsGetYes};
 ghost use Rattle.mv_top.specs.History.{TextFixesJournal, TextHasItsJournal};
 
 /// A text fixes its journal: two lawful journals with the same text have the same begins, repairs, moves and commits, in
@@ -12,4 +13,11 @@ pub fn text_fixes_journal()
 /// with `table` or is `end`, are those of the events of the lawful journal, without statements and collections.
 pub fn text_has_its_journal()
     ensures { TextHasItsJournal }
+{}
+
+/// The auditor says yes exactly to the texts of lawful journals with its number of rounds. So it does to the text of each
+/// run, by any number of workers and with any horizon.
+pub fn yes_is_exact()
+    ensures exact { YesIsExact }
+    ensures runs { RunsGetYes }
 {}

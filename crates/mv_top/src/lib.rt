@@ -2,10 +2,12 @@
 #![tactic(auto)]
 
 pub mod answer;
+mod audit;
 mod graphs;
 mod input;
 mod journals;
 pub mod laws;
+mod parts;
 mod print;
 pub mod refusal;
 pub mod script;
@@ -13,4 +15,5 @@ mod serial;
 pub mod status;
 pub mod top;
 mod tpcc;
+mod why;
 mod workers;

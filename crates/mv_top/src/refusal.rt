@@ -14,6 +14,8 @@ use std::alloc::Global;
 pub enum Refusal {
     /// The script isn't accepted.
     Script(ScriptRefusal),
+    /// The input of `audit` doesn't begin with a head, or has fewer bytes after it than the head tells.
+    Head,
     /// This line of the journal isn't an event, and all lines before it are.
     Line { n: u32 },
     /// The event on this line of the journal is refused, and all events before it are allowed.
@@ -40,13 +42,25 @@ impl From<NoMemory> for NoText {
     }
 }
 
+impl From<Refusal> for NoText {
+    ghost use Rattle.std.specs.Prelude.{◌≡◌};
+    ghost use Rattle.mv_top.specs.declared.refusal.NoText.TheVariants as failure;
+
+    ghost from_gives = { λ refusal e. e ≡ failure.Refused refusal };
+
+    fn from(refusal: Refusal) -> NoText {
+        NoText::Refused(refusal)
+    }
+}
+
 impl Refusal {
-    /// Returns the number of the refusal, from 1 to 21.
+    /// Returns the number of the refusal: 1 to 21, or 26.
     pub fn number(&self) -> u32
         ensures { result ≡ number_of self.now }
     {
         match self {
             Refusal::Script(refusal) => refusal.number(),
+            Refusal::Head => 26,
             Refusal::Line { .. } => 15,
             Refusal::Event { fault, .. } => event_number(*fault),
             Refusal::Open { .. } => 21,
@@ -62,6 +76,7 @@ impl Refusal {
     {
         match self {
             Refusal::Script(refusal) => refusal.line(alloc),
+            Refusal::Head => Ok(Txt::of(alloc, b"refused 26 audit head")?),
             Refusal::Line { n } => journal_line(alloc, 15, *n),
             Refusal::Event { n, fault } => journal_line(alloc, event_number(*fault), *n),
             Refusal::Open { call } => open_line(alloc, *call),

@@ -11,6 +11,8 @@ ghost use Rattle.mv_top.specs.Refusals.{line_of};
 ghost use Rattle.mv_top.specs.Inputs.{IsReader, input_of};
 ghost use Rattle.mv_top.specs.Answers.{IsAnswered, Puts, Wrote, WroteOr, StandFor, TakesBytes, IsNoCommand, IsNoReader, IsTextOf, IsRefusedBy, words_of, usage_line};
 ghost use Rattle.mv_top.specs.Headline.{IsSerializable};
+ghost use Rattle.mv_top.specs.Audits.{IsAudited};
+ghost use Rattle.mv_top.specs.Whys.{IsExplained};
 
 use crate::answer::answer;
 use crate::input::take_input;
@@ -45,6 +47,10 @@ pub fn top<R: Threads + Wait + Sync, S: Source, K: Sink, P: Pace>(
     // The headline: `run` with any number of workers, and `replay`, have written a text by which the calls are
     // serializable.
     ensures serializable { IsSerializable (words_of words.now) (S.left source.old) (K.written sink.old) (K.written sink.new) result }
+    // AUDIT: `audit` has written the line of the verdict on the report of its input.
+    ensures audited { IsAudited (words_of words.now) (S.left source.old) (K.written sink.old) (K.written sink.new) result }
+    // CAUSES: `why` has written the records that each repair of the script's own journal executed, with their causes.
+    ensures explained { IsExplained (words_of words.now) (S.left source.old) (K.written sink.old) (K.written sink.new) result }
     // Words that name no command get the usage line, unless the sink fails or memory runs out. Neither for them nor for
     // `tpcc` is the source read.
     ensures words { IsNoCommand (words_of words.now) → (result ≡ Status.Usage) ⊎ ((result ≡ Status.WriteFault) ⊎ (result ≡ Status.NoMemory)) }
@@ -58,7 +64,7 @@ pub fn top<R: Threads + Wait + Sync, S: Source, K: Sink, P: Pace>(
     ensures read { (result ≡ Status.ReadFault → ⊥) → S.faults source.new ≡ S.faults source.old }
     ensures writing { result ≡ Status.WriteFault → Rose (K.faults sink.old) (K.faults sink.new) }
     ensures written { (result ≡ Status.WriteFault → ⊥) → K.faults sink.new ≡ K.faults sink.old }
-    // An accepted script, for `replay` one with a lawful journal, gets a text of the command, unless the source or the
+    // An accepted script, for `replay` and `why` one with a lawful journal, for `audit` one after a head, gets a text of the command, unless the source or the
     // sink fails or memory runs out.
     ensures complete { (command : Task) (all : Seq ℕ) (program : Program) → StandFor (words_of words.now) command → input_of command (S.left source.old) ≡ Some all → TakesBytes command all program
         → (Rose (S.faults source.old) (S.faults source.new) → ⊥) → (Rose (K.faults sink.old) (K.faults sink.new) → ⊥)

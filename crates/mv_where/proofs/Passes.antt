@@ -4,13 +4,13 @@ use Rattle.std.specs.Result.{is_err}
 use Rattle.mv_edge.specs.Edge.{Reads, IsAtEnd, Writes}
 
 -- what was read before the end and was written is all that was left
-pub writes_all : (a b before after : Option (List ℕ)) (text : List ℕ) → Reads a b text → Writes before after text → IsAtEnd b
-    → (all : List ℕ) → a ≡ Some all → Writes before after all
-writes_all a b before after text r w e all is =
+pub writes_all : (a b before after : Option (List ℕ)) (front text : List ℕ) → Reads a b text → Writes before after (front ++ text) → IsAtEnd b
+    → (all : List ℕ) → a ≡ Some all → Writes before after (front ++ all)
+writes_all a b before after front text r w e all is =
     let r' : Reads (Some all) b text = subst (λ o. Reads o b text) is r in
     let nil : r'.0 ≡ [] = subst IsAtEnd r'.1 e in
     let full : all ≡ text = r'.2 ∙ (ap (λ zs. text ++ zs) nil ∙ append-nil text) in
-    subst (Writes before after) (sym full) w
+    subst (λ zs. Writes before after (front ++ zs)) (sym full) w
 
 -- what is true where a test fails
 abbrev pub OrNot : Type 0 → Bool → Type 0

@@ -446,4 +446,8 @@ pub(crate) const REFUSALS: &[(u32, &str)] = &[
     ),
     (20, "this call is stale: it moves by M first"),
     (21, "at the end of the journal this call hasn't committed"),
+    (
+        26,
+        "the input of audit is the number of the script's bytes, in 1 to 8 digits, an LF, the script and a report: ./audit makes it of two files",
+    ),
 ];

@@ -4,9 +4,13 @@ ghost use Rattle.std.specs.Prelude.{◌≡◌, [], IsFalse, IfOk};
 ghost use Rattle.mv_where.specs.Refusal.{is_refusal};
 
 use crate::blocks::{block_of, call_of, journal_of, rows_end, rows_start, values_row};
+use crate::causes::with_statements;
+use crate::head::script_in;
+use crate::outline::Outline;
 use crate::place::{column, first_line, line_around, line_number};
 use crate::records::{field_at, record_at};
 use crate::refusal::{Target, is_refusal, number_in, refusal_in};
+use crate::verdict::{line_start, report_start, sentence};
 use itoa::Buffer;
 use mv_lex::lexer::{LexFault, lex};
 use mv_lex::token::{Kind, Token};
@@ -25,19 +29,21 @@ const AROUND: usize = 200;
 const NOTED: u32 = 5;
 
 /// Returns the places in a script that the refusal in a text names, each with its line and a caret, and what the refusal
-/// means there. Returns an empty text if the text isn't a refusal or names no place. `name` is the name of the script's
-/// file.
-pub fn answer(alloc: Global, name: &[u8], script: &[u8], text: &[u8]) -> Result<List<u8>, NoMemory>
+/// means there. Returns an empty text if the text isn't a refusal or names no place. `name` is the name of the file, which
+/// has the script alone or in an input of `audit`.
+pub fn answer(alloc: Global, name: &[u8], file: &[u8], text: &[u8]) -> Result<List<u8>, NoMemory>
     ensures { IsFalse (is_refusal text.now) → IfOk result (λ places. places ≡ []) }
 {
     if !is_refusal(text) {
         return Ok(List::new(alloc));
     }
+    let (script, before) = script_in(file);
     let tokens = tokens_of(alloc, script)?;
     let mut places = Places {
         alloc,
         name,
         script,
+        before,
         tokens: tokens.as_slice(),
         text: List::new(alloc),
     };
@@ -45,6 +51,43 @@ pub fn answer(alloc: Global, name: &[u8], script: &[u8], text: &[u8]) -> Result<
         places.tell(line)?;
     }
     Ok(places.text)
+}
+
+/// Returns the line of a report with a number, from 1, and what is said of it. The file has the report alone or in an
+/// input of `audit`.
+pub fn line_at<'a>(
+    alloc: Global,
+    name: &'a [u8],
+    file: &'a [u8],
+    number: u32,
+) -> Result<List<u8>, NoMemory> {
+    let start = report_start(file);
+    let report = &file[start..];
+    let at = line_start(report, number);
+    let mut places = Places {
+        alloc,
+        name,
+        script: file,
+        before: 0,
+        tokens: &[],
+        text: List::new(alloc),
+    };
+    places.show(start.saturating_add(at))?;
+    places.add_line(sentence(report, at))?;
+    Ok(places.text)
+}
+
+/// Returns a text of `why` with the statements of a script that its paths lead to.
+pub fn causes_in<'a>(
+    alloc: Global,
+    name: &'a [u8],
+    file: &'a [u8],
+    text: &[u8],
+) -> Result<List<u8>, NoMemory> {
+    let (script, before) = script_in(file);
+    let tokens = tokens_of(alloc, script)?;
+    let outline = Outline::of(alloc, script, tokens.as_slice())?;
+    with_statements(alloc, name, script, before, outline, text)
 }
 
 /// Returns the tokens of a script, or none if it isn't one.
@@ -65,6 +108,8 @@ pub(crate) struct Places<'a> {
     pub(crate) alloc: Global,
     name: &'a [u8],
     pub(crate) script: &'a [u8],
+    /// How many lines of the file are before the script.
+    before: usize,
     pub(crate) tokens: &'a [Token],
     pub(crate) text: List<u8>,
 }
@@ -78,6 +123,7 @@ impl Places<'_> {
         match refusal.target {
             Target::All if self.script.len() > MOST => return self.say(refusal),
             Target::All => {}
+            Target::Head => return self.say(refusal),
             Target::Byte(at) => self.show(at as usize)?,
             Target::Token(number) => self.show_token(number)?,
             Target::Row { table, row, column } => self.show_row(table.as_bytes(), row, column)?,
@@ -194,9 +240,9 @@ impl Places<'_> {
         Ok(())
     }
 
-    /// Returns the line number of a place, or that of the last line if the place is past the end.
+    /// Returns the line number in the file of a place, or that of the last line if the place is past the end.
     pub(crate) fn line_of(&self, at: usize) -> usize {
-        line_number(self.script, at.min(self.script.len()))
+        line_number(self.script, at.min(self.script.len())).saturating_add(self.before)
     }
 
     /// Adds the file's name and the line of a place.

@@ -8,6 +8,8 @@ ghost use Rattle.mv_where.specs.Refusal.{is_refusal};
 pub enum Target<'a> {
     /// The script is too long to be looked at.
     All,
+    /// What comes before the script in an input of `audit`.
+    Head,
     Byte(u32),
     Token(u32),
     /// A row of VALUES or a record of a copy of this table, and where it is a field's fault its column.
@@ -53,6 +55,7 @@ pub(crate) fn refusal_in(line: &str) -> Option<Refusal<'_>> {
 fn target_of(number: u32, what: &str) -> Option<Target<'_>> {
     match number {
         1 => Some(Target::All),
+        26 => Some(Target::Head),
         2 => Some(Target::Byte(number_in(what.strip_prefix("byte ")?)?)),
         3 => Some(Target::Byte(number_in(what.strip_prefix("token at ")?)?)),
         11 | 12 | 13 => row_of(what),

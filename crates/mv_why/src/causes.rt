@@ -26,7 +26,7 @@ fn add(causes: &mut List<Cause>, number: usize, reason: Option<Reason>) -> Resul
 }
 
 /// Walks along the two runs.
-fn causes_along(alloc: Global, runs: &Runs<'_>) -> Result<List<Cause>, NoMemory>
+pub(crate) fn causes_along(alloc: Global, runs: &Runs<'_>) -> Result<List<Cause>, NoMemory>
     requires { AreSound runs.now }
     ensures { IfOk result (λ causes. causes ≡ causes_of runs.now.old.records runs.now.fresh.records runs.now.since.now) }
 {

@@ -5,6 +5,7 @@ pub mod cause;
 pub mod causes;
 mod hits;
 pub mod laws;
+pub mod lines;
 mod paths;
 mod points;
 mod reasons;

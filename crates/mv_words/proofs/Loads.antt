@@ -7,10 +7,10 @@ use Rattle.std.proofs.lemmas.Bool.{ltb-false}
 use Rattle.mv_journal.specs.Reading.{number_in}
 use Rattle.mv_tpccgen.specs.Loads.{IsLoad}
 use Rattle.mv_words.specs.declared.command.Command.{Command}
-use Rattle.mv_words.specs.declared.command.Command.TheVariants.{Run, Replay, Serial, Graph}
+use Rattle.mv_words.specs.declared.command.Command.TheVariants.{Run, Replay, Serial, Graph, Audit, Why}
 use Rattle.mv_words.specs.declared.command.WordsFault.{WordsFault}
 use Rattle.mv_words.specs.declared.reading.Given.{Given}
-use Rattle.mv_words.specs.Words.{within, number, nothing, once, given, is_equals, is_joined, with_script, given_by, gives_load, is_nothing, load_of, options_of, run_with, replay_with, tpcc_with, command_with, command_of, NamesCommand, HasLoad}
+use Rattle.mv_words.specs.Words.{within, number, nothing, once, given, is_equals, is_joined, with_script, given_by, gives_load, is_nothing, load_of, options_of, run_with, replay_with, tpcc_with, audit_with, why_with, rounds_of, command_with, command_of, NamesCommand, HasLoad}
 
 -- What holds of a value, whichever way it came
 
@@ -91,8 +91,10 @@ command_fits name g fit =
     choose HasLoad (bytes_eq name (codes "run")) (run_with g) _ (choose HasLoad (gives_load g) None (Some (Run (unwrap_or g.threads 1) (options_of g))) tt tt)
     (choose HasLoad (bytes_eq name (codes "replay")) (replay_with g) _ (choose HasLoad (gives_load g || is_some g.threads) None (Some (Replay (options_of g))) tt tt)
     (choose HasLoad (bytes_eq name (codes "tpcc")) (Some (tpcc_with g)) _ (load_is g fit)
+    (choose HasLoad (bytes_eq name (codes "audit")) (audit_with g) _ (choose HasLoad (gives_load g || (is_some g.threads || is_some g.horizon)) None (Some (Audit (rounds_of g))) tt tt)
+    (choose HasLoad (bytes_eq name (codes "why")) (why_with g) _ (choose HasLoad (gives_load g || is_some g.threads) None (Some (Why (options_of g))) tt tt)
     (choose HasLoad (bytes_eq name (codes "serial")) _ _ (choose HasLoad (is_nothing g) (Some Serial) None tt tt)
-    (choose HasLoad (bytes_eq name (codes "graph")) _ None (choose HasLoad (is_nothing g) (Some Graph) None tt tt) tt))))
+    (choose HasLoad (bytes_eq name (codes "graph")) _ None (choose HasLoad (is_nothing g) (Some Graph) None tt tt) tt))))))
 
 words_fit : (words : List (List ℕ)) → IfSome (command_of words) HasLoad
 words_fit [] = tt

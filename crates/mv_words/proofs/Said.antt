@@ -176,9 +176,9 @@ refused_first _ (stands word plain) words unmet x =
     ap (cond (is_escape word || has_escape words) None) (refused_plain word words unmet (walk_fault app.top all (walked [] all start word) words) (rest_of (word ∷ words)) x plain)
     ∙ nothing_either (is_escape word || has_escape words)
 
-no_command : (word : Text) → bytes_eq word (codes "run") ≡ false → bytes_eq word (codes "replay") ≡ false → bytes_eq word (codes "tpcc") ≡ false → bytes_eq word (codes "serial") ≡ false → bytes_eq word (codes "graph") ≡ false
+no_command : (word : Text) → bytes_eq word (codes "run") ≡ false → bytes_eq word (codes "replay") ≡ false → bytes_eq word (codes "tpcc") ≡ false → bytes_eq word (codes "audit") ≡ false → bytes_eq word (codes "why") ≡ false → bytes_eq word (codes "serial") ≡ false → bytes_eq word (codes "graph") ≡ false
     → (g : Given) → command_with word g ≡ None
-no_command word run replay tpcc serial graph g = rw (run, replay, tpcc, serial, graph) refl
+no_command word run replay tpcc audit why serial graph g = rw (run, replay, tpcc, audit, why, serial, graph) refl
 
 -- ---- all words
 
@@ -194,6 +194,8 @@ said (word ∷ words) =
     pick (λ name. Said (name ∷ words)) word (codes "serial") (command_said (codes "serial") words refl refl refl) (λ serial.
     pick (λ name. Said (name ∷ words)) word (codes "graph") (command_said (codes "graph") words refl refl refl) (λ graph.
     pick (λ name. Said (name ∷ words)) word (codes "tpcc") (command_said (codes "tpcc") words refl refl refl) (λ tpcc.
-    let unmet : find (answers_to word) all ≡ None = rw (differs word _ run, differs word _ replay, differs word _ serial, differs word _ graph, differs word _ tpcc) refl in
+    pick (λ name. Said (name ∷ words)) word (codes "audit") (command_said (codes "audit") words refl refl refl) (λ audit.
+    pick (λ name. Said (name ∷ words)) word (codes "why") (command_said (codes "why") words refl refl refl) (λ why.
+    let unmet : find (answers_to word) all ≡ None = rw (differs word _ run, differs word _ replay, differs word _ serial, differs word _ graph, differs word _ tpcc, differs word _ audit, differs word _ why) refl in
     refused_first word (form word) words unmet (command_in (subcommand_of program (word ∷ words)))
-    ∙ sym (nothing_then (command_with word) (given_by nothing words) (no_command word run replay tpcc serial graph)))))))
+    ∙ sym (nothing_then (command_with word) (given_by nothing words) (no_command word run replay tpcc audit why serial graph)))))))))

@@ -25,7 +25,7 @@ abbrev pub command : Text → Shape
 command name = record (new_shape name) { rules = options }
 
 abbrev pub commands : List Shape
-commands = command (codes "run") ∷ command (codes "replay") ∷ command (codes "serial") ∷ command (codes "graph") ∷ command (codes "tpcc") ∷ []
+commands = command (codes "run") ∷ command (codes "replay") ∷ command (codes "serial") ∷ command (codes "graph") ∷ command (codes "tpcc") ∷ command (codes "audit") ∷ command (codes "why") ∷ []
 
 abbrev pub program : App
 program = record {

@@ -10,7 +10,7 @@ use Rattle.mv_journal.specs.Reading.{number_in}
 use Rattle.mv_tpccgen.specs.declared.load.Load.{Load}
 use Rattle.mv_tpccgen.specs.Loads.{IsLoad}
 use Rattle.mv_words.specs.declared.command.Command.{Command}
-use Rattle.mv_words.specs.declared.command.Command.TheVariants.{Run, Replay, Serial, Graph, Tpcc}
+use Rattle.mv_words.specs.declared.command.Command.TheVariants.{Run, Replay, Serial, Graph, Tpcc, Audit, Why}
 use Rattle.mv_words.specs.declared.command.WordsFault.{WordsFault}
 use Rattle.mv_words.specs.declared.command.WordsFault.TheVariants.{Usage, NoMemory}
 use Rattle.mv_words.specs.declared.reading.Given.{Given}
@@ -80,9 +80,13 @@ is_nothing g = not (gives_load g) && (is_none g.threads && (is_none g.rounds && 
 abbrev pub usual : Options
 usual = record { rounds = 3; horizon = None }
 
--- the rounds and the horizon: those that are given, and else the usual ones
+-- the rounds: those that are given, and else the usual ones
+abbrev pub rounds_of : Given → ℕ
+rounds_of g = unwrap_or g.rounds usual.rounds
+
+-- the rounds and the horizon; no horizon is usual
 abbrev pub options_of : Given → Options
-options_of g = record { rounds = unwrap_or g.rounds usual.rounds; horizon = g.horizon }
+options_of g = record { rounds = rounds_of g; horizon = g.horizon }
 
 -- the workload: one warehouse, 1000 calls and seed 1, where they aren't given
 abbrev pub load_of : Given → Load
@@ -100,14 +104,24 @@ replay_with g = if gives_load g || is_some g.threads then None else Some (Replay
 abbrev pub tpcc_with : Given → Command
 tpcc_with g = Tpcc (load_of g) g.script (unwrap_or g.threads 1) (options_of g)
 
+-- `audit` with these options; it runs nothing that has workers or a horizon
+abbrev pub audit_with : Given → Option Command
+audit_with g = if gives_load g || (is_some g.threads || is_some g.horizon) then None else Some (Audit (rounds_of g))
+
+-- `why` with these options; they are those of `replay`
+abbrev pub why_with : Given → Option Command
+why_with g = if gives_load g || is_some g.threads then None else Some (Why (options_of g))
+
 -- the command with a name and options, if it has them
 abbrev pub command_with : List ℕ → Given → Option Command
 command_with name g =
     if bytes_eq name (codes "run") then run_with g
     else (if bytes_eq name (codes "replay") then replay_with g
     else (if bytes_eq name (codes "tpcc") then Some (tpcc_with g)
+    else (if bytes_eq name (codes "audit") then audit_with g
+    else (if bytes_eq name (codes "why") then why_with g
     else (if bytes_eq name (codes "serial") then (if is_nothing g then Some Serial else None)
-    else (if bytes_eq name (codes "graph") then (if is_nothing g then Some Graph else None) else None))))
+    else (if bytes_eq name (codes "graph") then (if is_nothing g then Some Graph else None) else None))))))
 
 -- the command that the words say
 abbrev pub command_of : List (List ℕ) → Option Command
@@ -127,3 +141,5 @@ HasLoad (Replay options) = Unit {0}
 HasLoad Serial = Unit {0}
 HasLoad Graph = Unit {0}
 HasLoad (Tpcc load script threads options) = IsLoad load
+HasLoad (Audit rounds) = Unit {0}
+HasLoad (Why options) = Unit {0}

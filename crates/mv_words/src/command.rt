@@ -31,6 +31,15 @@ pub enum Command {
         threads: u32,
         options: Options,
     },
+    /// Says whether a report is the text of a lawful run of a script with this many rounds.
+    Audit {
+        rounds: u32,
+    },
+    /// Makes the events of the script's own journal, and writes for each repair which statements it executes again, and
+    /// why.
+    Why {
+        options: Options,
+    },
 }
 
 /// Why words give no command: they are none of the program's, or memory ran out.

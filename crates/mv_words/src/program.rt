@@ -19,7 +19,9 @@ pub(crate) fn program<'a>(alloc: Global) -> Result<Command<'a>, AllocError>
         .subcommand(command(alloc, "replay")?)?
         .subcommand(command(alloc, "serial")?)?
         .subcommand(command(alloc, "graph")?)?
-        .subcommand(command(alloc, "tpcc")?)
+        .subcommand(command(alloc, "tpcc")?)?
+        .subcommand(command(alloc, "audit")?)?
+        .subcommand(command(alloc, "why")?)
 }
 
 /// Returns a command with all options.

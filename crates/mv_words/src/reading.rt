@@ -4,7 +4,7 @@ ghost use Rattle.std.specs.Prelude.{◌≡◌, ◌≢◌, IfOk, map};
 ghost use Rattle.clap.specs.Words.{count_of, found_of, rows_of, subcommand_rows_of};
 ghost use Rattle.clap.specs.declared.error.kind.ErrorKind.TheVariants.{OutOfMemory};
 ghost use Rattle.mv_words.specs.declared.command.WordsFault.TheVariants.{Usage, NoMemory};
-ghost use Rattle.mv_words.specs.Words.{NamesCommand, HasLoad, number, gives_load, is_nothing, usual, options_of, load_of, run_with, replay_with, tpcc_with, command_with, command_of, words_of};
+ghost use Rattle.mv_words.specs.Words.{NamesCommand, HasLoad, number, gives_load, is_nothing, usual, rounds_of, options_of, load_of, run_with, replay_with, tpcc_with, audit_with, why_with, command_with, command_of, words_of};
 ghost use Rattle.mv_words.specs.Program.{command_in, flag_by, given_in, has_escape, number_by, values_of};
 
 use crate::command::{Command, WordsFault};
@@ -33,8 +33,8 @@ fn usual() -> Options
 /// most once, as `--name=value` or as `--name value`. `--script` has no value. A value is 1 to 10 decimal digits. `run`
 /// takes `--threads`, 1 to 64, `--rounds`, 0 to 100, and `--horizon`, 1 to 4294967295. `replay` takes `--rounds` and
 /// `--horizon`. `tpcc` takes the options of `run`, `--warehouses`, 1 to 16, `--calls`, 0 to 40000, `--seed`, 0 to
-/// 4294967295, and `--script`. The other commands take none. Fails with `Usage` for all other words, and with `NoMemory`
-/// when memory runs out.
+/// 4294967295, and `--script`. `audit` takes `--rounds`. `why` takes the options of `replay`. The other commands take none. Fails with `Usage` for all other
+/// words, and with `NoMemory` when memory runs out.
 pub fn read_words(alloc: Global, words: &[String]) -> Result<Command, WordsFault>
     ensures said { NamesCommand (command_of (words_of words.now)) result }
     ensures load { IfOk result HasLoad }
@@ -132,6 +132,8 @@ fn command_with(name: &str, given: Given) -> Option<Command>
         "run" => given.run(),
         "replay" => given.replay(),
         "tpcc" => Some(given.tpcc()),
+        "audit" => given.audit(),
+        "why" => given.why(),
         "serial" if given.is_nothing() => Some(Command::Serial),
         "graph" if given.is_nothing() => Some(Command::Graph),
         _ => None,
@@ -188,6 +190,30 @@ impl Given {
         }
     }
 
+    /// Returns `audit` with these options, if it has them.
+    fn audit(&self) -> Option<Command>
+        ensures { result ≡ audit_with self.now }
+    {
+        if self.gives_load() || self.threads.is_some() || self.horizon.is_some() {
+            return None;
+        }
+        Some(Command::Audit {
+            rounds: self.rounds(),
+        })
+    }
+
+    /// Returns `why` with these options, if it has them.
+    fn why(&self) -> Option<Command>
+        ensures { result ≡ why_with self.now }
+    {
+        if self.gives_load() || self.threads.is_some() {
+            return None;
+        }
+        Some(Command::Why {
+            options: self.options(),
+        })
+    }
+
     /// Whether an option of a workload is among them.
     fn gives_load(&self) -> bool
         ensures { result ≡ gives_load self.now }
@@ -204,12 +230,19 @@ impl Given {
             && self.horizon.is_none()
     }
 
-    /// Returns the rounds and the horizon: those that are given, and else the usual ones.
+    /// Returns the rounds: those that are given, and else the usual ones.
+    fn rounds(&self) -> u32
+        ensures { result ≡ rounds_of self.now }
+    {
+        self.rounds.unwrap_or(usual().rounds)
+    }
+
+    /// Returns the rounds and the horizon. No horizon is usual.
     fn options(&self) -> Options
         ensures { result ≡ options_of self.now }
     {
         Options {
-            rounds: self.rounds.unwrap_or(usual().rounds),
+            rounds: self.rounds(),
             horizon: self.horizon,
         }
     }

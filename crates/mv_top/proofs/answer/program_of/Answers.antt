@@ -1,10 +1,9 @@
 use Rattle.std.proofs.lemmas.Result.{err_from_is_err_and}
-use Rattle.mv_top.proofs.Judging.{text_told, not_accepted_only, not_accepted_refused, not_accepted_told}
+use Rattle.mv_top.proofs.Judging.{not_accepted_only, not_accepted_refused, not_accepted_told}
 use Rattle.mv_top.proofs.answer.program_of.Goals as goal
 
 pub returns-clause-told : goal.returns-clause-told
-returns-clause-told c =
-    λ command refusal cause. text_told command c.args.bytes.now c.in_ok-accept.field-0 refusal (λ r because. c.in_ok-accept.ensures.exact.told r because) (λ q accepted. c.in_ok-accept.ensures.exact.only q accepted) cause
+returns-clause-told c = λ refusal cause. c.in_ok-accept.ensures.exact.told refusal cause
 
 pub returns-in_err-accept-clause-only : goal.returns-in_err-accept-clause-only
 returns-in_err-accept-clause-only c =
@@ -14,9 +13,9 @@ returns-in_err-accept-clause-only c =
 pub returns-in_err-accept-clause-refused : goal.returns-in_err-accept-clause-refused
 returns-in_err-accept-clause-refused c =
     let p = err_from_is_err_and c.from_residual.result c.from_residual.ensures.1 in
-    λ command. rw (p.1, p.2) (not_accepted_refused command c.args.bytes.now c.in_err-accept.field-0.0 c.in_err-accept.ensures.exact.refused)
+    rw (p.1, p.2) (not_accepted_refused c.args.script.now c.in_err-accept.field-0.0 c.in_err-accept.ensures.exact.refused)
 
 pub returns-in_err-accept-clause-told : goal.returns-in_err-accept-clause-told
 returns-in_err-accept-clause-told c =
     let p = err_from_is_err_and c.from_residual.result c.from_residual.ensures.1 in
-    λ command refusal cause. rw (p.1, p.2) (not_accepted_told command c.args.bytes.now c.in_err-accept.field-0.0 c.in_err-accept.ensures.exact.told c.in_err-accept.ensures.exact.only refusal cause)
+    λ refusal cause. rw (p.1, p.2) (not_accepted_told c.in_err-accept.field-0.0 refusal (c.in_err-accept.ensures.exact.told refusal cause))

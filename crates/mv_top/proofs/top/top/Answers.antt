@@ -8,6 +8,8 @@ use Rattle.mv_top.specs.Inputs.{input_of, IsTaken}
 use Rattle.mv_top.specs.Answers.{IsAnswered, IsTextOf, TakesBytes, IsRefusedBy, Puts, usage, words_of, usage_line}
 use Rattle.mv_top.proofs.Answering.{wrote_by, put_by, answer_of_input, all_taken, cause_of_taken, same_command, no_command}
 use Rattle.mv_top.proofs.Headlines.{wrote_serializable}
+use Rattle.mv_top.proofs.Auditing.{wrote_audit}
+use Rattle.mv_top.proofs.Whys.{wrote_why}
 use Rattle.mv_top.proofs.top.top.Goals as goal
 
 pub returns-in-Err-Usage-clause-wrote : goal.returns-in-Err-Usage-clause-wrote
@@ -32,7 +34,7 @@ returns-in-Ok-answered-clause-complete g c =
     let bytes : List ℕ = c.as_slice.result.now in
     let taken : ForSome (input_of command (g.S.Source.left c.args.source.now)) (λ xs. IsTaken xs c.in-Ok-take_input.bytes)
     = subst (λ (k : Command). ForSome (input_of k (g.S.Source.left c.args.source.now)) (λ xs. IsTaken xs c.in-Ok-take_input.bytes)) same c.in-Ok-take_input.ensures.taken in
-    let read : bytes ≡ all = c.as_slice.ensures ∙ all_taken all c.in-Ok-take_input.bytes program (taken all input) takes.0 in
+    let read : bytes ≡ all = c.as_slice.ensures ∙ all_taken command all c.in-Ok-take_input.bytes program (taken all input) takes.0 in
     let here : TakesBytes c.in-Ok.command bytes program = subst (λ (k : Command). TakesBytes k bytes program) (sym same) (subst (λ (xs : List ℕ). TakesBytes command xs program) (sym read) takes) in
     let told = c.in-Ok-answered.ensures.only program here in
     put_by (g.K.Sink.written c.args.sink.now) (g.K.Sink.written c.put-in-Ok-answered.new.sink) (g.K.Sink.faults c.args.sink.now) (g.K.Sink.faults c.put-in-Ok-answered.new.sink)
@@ -65,3 +67,19 @@ returns-in-Err-Usage-clause-serializable g c =
 pub returns-in-Ok-answered-clause-serializable : goal.returns-in-Ok-answered-clause-serializable
 returns-in-Ok-answered-clause-serializable g c =
     wrote_serializable (words_of c.args.words.now) (g.S.Source.left c.args.source.now) (g.K.Sink.written c.args.sink.now) (g.K.Sink.written c.put-in-Ok-answered.new.sink) c.put-in-Ok-answered.result (returns-in-Ok-answered-clause-wrote g c)
+
+pub returns-in-Err-Usage-clause-audited : goal.returns-in-Err-Usage-clause-audited
+returns-in-Err-Usage-clause-audited g c =
+    wrote_audit (words_of c.args.words.now) (g.S.Source.left c.args.source.now) (g.K.Sink.written c.args.sink.now) (g.K.Sink.written c.put.new.sink) c.put.result (returns-in-Err-Usage-clause-wrote g c)
+
+pub returns-in-Ok-answered-clause-audited : goal.returns-in-Ok-answered-clause-audited
+returns-in-Ok-answered-clause-audited g c =
+    wrote_audit (words_of c.args.words.now) (g.S.Source.left c.args.source.now) (g.K.Sink.written c.args.sink.now) (g.K.Sink.written c.put-in-Ok-answered.new.sink) c.put-in-Ok-answered.result (returns-in-Ok-answered-clause-wrote g c)
+
+pub returns-in-Err-Usage-clause-explained : goal.returns-in-Err-Usage-clause-explained
+returns-in-Err-Usage-clause-explained g c =
+    wrote_why (words_of c.args.words.now) (g.S.Source.left c.args.source.now) (g.K.Sink.written c.args.sink.now) (g.K.Sink.written c.put.new.sink) c.put.result (returns-in-Err-Usage-clause-wrote g c)
+
+pub returns-in-Ok-answered-clause-explained : goal.returns-in-Ok-answered-clause-explained
+returns-in-Ok-answered-clause-explained g c =
+    wrote_why (words_of c.args.words.now) (g.S.Source.left c.args.source.now) (g.K.Sink.written c.args.sink.now) (g.K.Sink.written c.put-in-Ok-answered.new.sink) c.put-in-Ok-answered.result (returns-in-Ok-answered-clause-wrote g c)
