@@ -264,6 +264,14 @@ def bank(accounts, transfers):
     return [BANK, *block("acc", ((number, 1000) for number in range(accounts + 1)))], calls
 
 
+def pairs(accounts, transfers, fee):
+    """Transfers from each second account to the next one, in turn, with or without the fee of account 0. Without it, calls
+    that are near to each other have no row in common."""
+    procedure = BANK if fee else BANK.replace("  UPDATE acc SET bal = bal + 1 WHERE id = 0;\n", "")
+    call = lambda number: f"CALL transfer({2 * number % accounts + 1}, {2 * number % accounts + 2}, 1);\n"
+    return [procedure, *block("acc", ((number, 1000) for number in range(accounts + 1)))], map(call, range(transfers))
+
+
 # Many short calls.
 
 

@@ -236,16 +236,21 @@ class Worked(NamedTuple):
 
 
 def workers(bench):
-    count = bench.size(4000)
+    count = bench.size(20000)
     commands = [by_workers(number) for number in ([1, 4, 64] if bench.quick else [1, 2, 4, 8, 64])]
     if bench.knows("run", "--horizon", "16"):
         commands += [by_workers(64, horizon=16), by_workers(4, horizon=1)]
-    warehouses = [1, 4] if bench.quick else [1, 4, 16]
-    rows = [row for number in warehouses for row in worker_rows(bench, number, count, commands, bench.rounds)]
-    show(title_of_workers(count), WORKERS, rows)
-    count = bench.size(20000)
-    commands = [by_workers(number) for number in (1, 4, 64)]
-    show(title_of_workers(count), WORKERS, worker_rows(bench, 4, count, commands, bench.more_rounds))
+    rows = []
+    for number in [1, 4] if bench.quick else [1, 4, 16]:
+        case = str(number), bench.load(number, count), bench.load(number, 0)
+        rows += worker_rows(bench, case, count, commands, bench.more_rounds)
+    show(title_of_workers(count, "calls of TPC-C"), ["words", "warehouses", *WORKERS], rows)
+    rows = []
+    for name, fee in ("own rows", False), ("a fee row", True):
+        opening, calls = inputs.pairs(10000, count, fee)
+        case = name, bench.write(name, opening, calls), bench.write(f"{name} opening", opening)
+        rows += worker_rows(bench, case, count, [by_workers(number) for number in (1, 2, 4, 8)], bench.more_rounds)
+    show(title_of_workers(count, "transfers"), ["words", "bank", *WORKERS], rows)
 
 
 def by_workers(threads, horizon=None):
@@ -254,13 +259,11 @@ def by_workers(threads, horizon=None):
     return words if horizon is None else (*words, "--horizon", str(horizon))
 
 
-def title_of_workers(count):
-    return f"{rate(count)} calls of TPC-C by several workers; sleeps, forced and again for each 100 statements"
+def title_of_workers(count, what):
+    return f"{rate(count)} {what} by several workers; sleeps, forced and again for each 100 statements"
 
 
 WORKERS = [
-    "words",
-    "warehouses",
     "clock",
     "calls/s",
     "rate of one",
@@ -277,15 +280,15 @@ WORKERS = [
 ]
 
 
-def worker_rows(bench, warehouses, count, commands, rounds):
-    empty, load = bench.load(warehouses, 0), bench.load(warehouses, count)
+def worker_rows(bench, case, count, commands, rounds):
+    name, load, empty = case
     samples = {words: [] for words in commands}
     for _ in range(rounds):
         opening = take(bench.run(("run",), empty))
         for words in commands:
             samples[words].append(worked(bench, bench.run(("run", *words), load), opening))
     one = median(samples[commands[0]])
-    return [worker_row(warehouses, count, words, one, median(samples[words])) for words in commands]
+    return [worker_row(name, count, words, one, median(samples[words])) for words in commands]
 
 
 def worked(bench, run, opening):
@@ -295,10 +298,10 @@ def worked(bench, run, opening):
     return Worked(over.clock, over.processor, over.system, over.sleeps, over.forced, *rounds_in(text), whole.memory)
 
 
-def worker_row(warehouses, count, words, one, taken):
+def worker_row(name, count, words, one, taken):
     return [
         " ".join(words),
-        rate(warehouses),
+        name,
         seconds(taken.clock),
         rate(count / taken.clock),
         ratio(one.clock, taken.clock),
