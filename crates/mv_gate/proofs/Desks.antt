@@ -1,52 +1,36 @@
 -- What lies behind the lock, after an event or none.
-use Rattle.std.proofs.Common.{◌≡◌, ℕ, suc, ◌+◌, Bool, true, false, not, List, [], ◌∷◌, ◌++◌, Option, Some, None, length, refl, sym, ap, subst, ◌∙◌, arith, rules}
-use Rattle.std.specs.Prelude.{slice_get, ◌||◌, Result, Ok, Err, IsErrAnd}
-use Rattle.std.specs.List.{list_any}
+use Rattle.std.proofs.Common.{◌≡◌, ℕ, suc, ◌+◌, ◌≤◌, Bool, true, false, List, [], ◌∷◌, ◌++◌, Option, Some, None, length, refl, sym, ap, subst, ◌∙◌, arith, rules, length-append}
+use Rattle.std.specs.Prelude.{slice_get, slice_set, ◌||◌, ◌==◌, Result, Ok, Err, IsErrAnd}
+use Rattle.std.specs.List.{list_any, filter}
+use Rattle.std.specs.Option.{ForSome}
 use Rattle.std.proofs.lemmas.Bool.Decides.{nat_tests}
+use Rattle.std.proofs.lemmas.Bool.{eqb-true}
+use Rattle.std.proofs.lemmas.List.Elements.{filter-append}
 use lib.Dec.{eqb}
 use Rattle.mv_journal.specs.declared.event.Event.{Event}
-use Rattle.mv_journal.specs.declared.event.Event.TheVariants.{B, S, A, M, C, X, G}
-use Rattle.mv_lawful.specs.declared.fault.Fault.TheVariants.{Stale, Conflict, Idle, Rounds}
+use Rattle.mv_journal.specs.declared.event.Event.TheVariants.{B, A, M, C, X, G}
 use Rattle.mv_lawful.specs.Work.{Work}
-use Rattle.mv_lawful.specs.Lawful.{Live, Course, beginning, is_stale, is_hit, has_round, unless, refusal, after, course_of, AllAllowed}
-use Rattle.mv_lawful.specs.Rounds.{is_round, IsBounded}
-use Rattle.mv_lawful.proofs.Rounds.{bounded_other, bounded_repair, bounded_move}
+use Rattle.mv_lawful.specs.Lawful.{Live, Course, beginning, used, is_stale, refusal, after, course_of, AllAllowed}
+use Rattle.mv_lawful.specs.Rounds.{is_round, IsPast, IsBounded}
+use Rattle.mv_lawful.proofs.Lows.{stale_is_past}
+use Rattle.mv_lawful.proofs.Rounds.{rounds_are_counted, bounded_other, bounded_repair}
+use Rattle.mv_lawful.proofs.Turns.{moves_join}
 use Rattle.mv_seats.specs.Scripts.{Script as BoardScript}
-use Rattle.mv_seats.specs.Knowing.{Knows, Gate}
-use Rattle.mv_store.specs.Stored.{Versioned}
 use Rattle.mv_script.specs.declared.script.Script.{Script}
 use Rattle.mv_script.specs.Scripts.{work_of}
 use Rattle.mv_values.specs.declared.memory.NoMemory.{NoMemory}
-use Rattle.mv_core.specs.declared.book.Begun.{Begun}
+use Rattle.mv_shards.specs.Scripts.{work}
+use Rattle.mv_shards.specs.Reads.{Started}
+use Rattle.mv_shards.specs.Ledgers.{Entered, AreLastChanges}
 use Rattle.mv_core.specs.Calls.{IsLive, IsLiveCall}
-use Rattle.mv_core.specs.Books.{Booked, work_in, Made, IsSame, IsSettled, HaveNumbers, HasBegun}
-use Rattle.mv_core.specs.Cores.{IsStoreOf, HasCommitted}
-use Rattle.mv_core.proofs.Journals.{Facts, facts_of, live_apart}
-use Rattle.mv_core.proofs.Refusing.{live_is}
-use Rattle.mv_core.proofs.Stored.{stored_same, stored_made}
-use Rattle.mv_core.proofs.Numbered.{numbers_same, numbers_other, numbers_again, numbers_moved}
-use Rattle.mv_gate.specs.Gates.{work, HaveTurns, UseRounds, IsDesk, IsStale, HasRound}
+use Rattle.mv_core.specs.Books.{Booked, work_in, Made, IsSame}
+use Rattle.mv_core.specs.Cores.{HasCommitted, HasMovedAndCommitted}
+use Rattle.mv_core.proofs.Journals.{Facts, facts_of, live_apart, done_within}
+use Rattle.mv_core.proofs.Lows.{low_within}
+use Rattle.mv_gate.specs.Gates.{HaveTurns, UseRounds, HaveTouched, IsDesk, IsPastIn, HasRound, StartsLast}
 use Rattle.mv_gate.proofs.Turns.{turns_after}
 use Rattle.mv_gate.proofs.Used.{use_other, use_repair, use_move, use_move_and_commit}
-
--- the order is as before, after an event that isn't a commit
-pub order_begun : (c : ℕ) (old new : Booked) → Made (B c) old new → new.course.order ≡ old.course.order
-order_begun c old new made = ap (λ (x : Course). x.order) made.course
-
-pub order_stepped : (c : ℕ) (old new : Booked) → Made (S c) old new → new.course.order ≡ old.course.order
-order_stepped c old new made = ap (λ (x : Course). x.order) made.course
-
-pub order_again : (c : ℕ) (old new : Booked) → Made (A c) old new → new.course.order ≡ old.course.order
-order_again c old new made = ap (λ (x : Course). x.order) made.course
-
-pub order_moved : (c : ℕ) (old new : Booked) → Made (M c) old new → new.course.order ≡ old.course.order
-order_moved c old new made = ap (λ (x : Course). x.order) made.course
-
-pub order_same : (old new : Booked) → IsSame old new → new.course.order ≡ old.course.order
-order_same old new same = ap (λ (x : Course). x.order) same.course
-
-pub order_collected : (old new : Booked) → Made G old new → new.course.order ≡ old.course.order
-order_collected old new made = ap (λ (x : Course). x.order) made.course
+use Rattle.mv_gate.proofs.Starts.{touched_same, touched_begun, touched_again, touched_moved, touched_committed, touched_decided, touched_gone}
 
 -- a commit is the last one of the order
 pub order_committed : (c : ℕ) (old new : Booked) → Made (C c) old new → new.course.order ≡ old.course.order ++ c ∷ []
@@ -55,106 +39,208 @@ order_committed c old new made = ap (λ (x : Course). x.order) made.course
 pub order_decided : (c : ℕ) (old new : Booked) → Made (X c) old new → new.course.order ≡ old.course.order ++ c ∷ []
 order_decided c old new made = ap (λ (x : Course). x.order) made.course
 
+pub order_same : (old new : Booked) → IsSame old new → new.course.order ≡ old.course.order
+order_same old new same = ap (λ (x : Course). x.order) same.course
+
+-- A ledger
+
+-- it has seen the commits of a history
+pub record HasSeen (ledger : Entered) (order : List ℕ) : Type 0 where
+  pub seen : ledger.knows.seen ≡ order
+  pub commits : ledger.commits ≡ length order
+
+pub desk_seen : (s : BoardScript) (b : Booked) (ledger : Entered) (starts : List (Option (List ℕ))) → IsDesk s b ledger starts → HasSeen ledger b.course.order
+desk_seen s b ledger starts d = record { seen = d.seen; commits = d.commits }
+
+-- a ledger that has seen no more, of a history that has no more commits
+pub seen_still : (old new : List ℕ) (ledger now : Entered) → HasSeen ledger old → new ≡ old → now.knows.seen ≡ ledger.knows.seen → now.commits ≡ ledger.commits → HasSeen now new
+seen_still old new ledger now h order seen commits = record { seen = seen ∙ (h.seen ∙ sym order); commits = commits ∙ (h.commits ∙ ap length (sym order)) }
+
+-- one that has seen a call more
+pub seen_more : (c : ℕ) (old new : List ℕ) (ledger now : Entered) → HasSeen ledger old → new ≡ old ++ c ∷ [] → now.knows.seen ≡ ledger.knows.seen ++ c ∷ [] → now.commits ≡ ledger.commits + 1 → HasSeen now new
+seen_more c old new ledger now h order seen commits = record {
+  seen = seen ∙ (ap (λ (xs : List ℕ). xs ++ c ∷ []) h.seen ∙ sym order);
+  commits = let long = length-append old (c ∷ []) in let is = ap length order in let was = h.commits in omega (arith, long, is, was, commits);
+}
+
 -- After an event
 
-pub desk_made : (e : Event) (s : BoardScript) (old new : Booked) (store stored : Versioned) (gate now : Knows) → IsDesk s old store gate → Made e old new → IsBounded (work s) new.journal → UseRounds s.options.rounds new.course → HaveNumbers new
-    → IsStoreOf new stored → now.role ≡ Gate → now.seen ≡ new.course.order → IsDesk s new stored now
-desk_made e s old new store stored gate now d made bounded rounds numbers k role seen = record {
+low_same : (old new : Course) → new.low ≡ old.low → old.order ≡ new.order → old.low ≤ length old.order → new.low ≤ length new.order
+low_same old new low order le = let long = ap length order in omega (arith, low, long, le)
+
+desk_made : (e : Event) (s : BoardScript) (old new : Booked) (ledger now : Entered) (starts later : List (Option (List ℕ))) → IsDesk s old ledger starts → Made e old new → IsBounded (work s) new.journal → UseRounds s.options.rounds new.course
+    → new.course.low ≤ length new.course.order → HasSeen now new.course.order → HaveTouched s new.course later → IsDesk s new now later
+desk_made e s old new ledger now starts later d made bounded rounds low seen touched = record {
   script = made.script ∙ d.script;
-  stored = k;
-  role = role;
-  seen = seen;
+  sound = d.sound;
+  seen = seen.seen;
+  commits = seen.commits;
+  low = low;
   turns = subst HaveTurns (sym made.course) (turns_after (work_in old) old.course e d.turns);
   bounded = bounded;
   rounds = rounds;
-  numbers = numbers;
+  touched = touched;
 }
 
 -- after an event that is no repair and no move
-pub desk_other : (e : Event) (s : BoardScript) (old new : Booked) (store stored : Versioned) (gate now : Knows) → IsDesk s old store gate → Made e old new → ((c : ℕ) → is_round c e ≡ false)
-    → IsStoreOf new stored → now.role ≡ Gate → now.seen ≡ new.course.order → IsDesk s new stored now
-desk_other e s old new store stored gate now d made none k role seen =
-    desk_made e s old new store stored gate now d made (subst (IsBounded (work s)) (sym made.journal) (bounded_other (work s) old.journal e none d.bounded))
-    (subst (UseRounds s.options.rounds) (sym made.course) (use_other (work_in old) s.options.rounds old.course e none d.rounds)) (numbers_other e old new made none d.numbers) k role seen
+desk_other : (e : Event) (s : BoardScript) (old new : Booked) (ledger now : Entered) (starts later : List (Option (List ℕ))) → IsDesk s old ledger starts → Made e old new → ((c : ℕ) → is_round c e ≡ false)
+    → new.course.low ≤ length new.course.order → HasSeen now new.course.order → HaveTouched s new.course later → IsDesk s new now later
+desk_other e s old new ledger now starts later d made none low seen touched =
+    desk_made e s old new ledger now starts later d made (subst (IsBounded (work s)) (sym made.journal) (bounded_other (work s) old.journal e none d.bounded))
+    (subst (UseRounds s.options.rounds) (sym made.course) (use_other (work_in old) s.options.rounds old.course e none d.rounds)) low seen touched
+
+-- after a begin
+pub desk_begun : (c : ℕ) (s : BoardScript) (old new : Booked) (ledger now : Entered) (starts : List (Option (List ℕ))) (touched : List ℕ) → IsDesk s old ledger starts → Made (B c) old new → now.knows.seen ≡ ledger.knows.seen → now.commits ≡ ledger.commits
+    → AreLastChanges s old.course.order (length old.course.order) touched → IsDesk s new now (starts ++ Some touched ∷ [])
+desk_begun c s old new ledger now starts touched d made seen commits are =
+    let order : new.course.order ≡ old.course.order = ap (λ (x : Course). x.order) made.course in
+    desk_other (B c) s old new ledger now starts (starts ++ Some touched ∷ []) d made (λ x. refl) (low_same old.course new.course (ap (λ (x : Course). x.low) made.course) (sym order) d.low)
+    (seen_still old.course.order new.course.order ledger now (desk_seen s old ledger starts d) order seen commits) (touched_begun s c old new starts touched d.touched made are)
+
+-- after a commit
+pub desk_committed : (c : ℕ) (s : BoardScript) (old new : Booked) (ledger now : Entered) (starts : List (Option (List ℕ))) → IsDesk s old ledger starts → IsLiveCall old.course c → Made (C c) old new → now.knows.seen ≡ ledger.knows.seen ++ c ∷ []
+    → now.commits ≡ ledger.commits + 1 → IsDesk s new now (slice_set starts c None)
+desk_committed c s old new ledger now starts d live made seen commits =
+    let order : new.course.order ≡ old.course.order ++ c ∷ [] = ap (λ (x : Course). x.order) made.course in
+    desk_other (C c) s old new ledger now starts (slice_set starts c None) d made (λ x. refl)
+    (let low = ap (λ (x : Course). x.low) made.course in let long = ap length order in let more = length-append old.course.order (c ∷ []) in let below = d.low in omega (arith, low, long, more, below))
+    (seen_more c old.course.order new.course.order ledger now (desk_seen s old ledger starts d) order seen commits) (touched_committed s c old new starts d.turns d.touched live made)
+
+pub desk_decided : (c : ℕ) (s : BoardScript) (old new : Booked) (ledger now : Entered) (starts : List (Option (List ℕ))) → IsDesk s old ledger starts → IsLiveCall old.course c → Made (X c) old new → now.knows.seen ≡ ledger.knows.seen ++ c ∷ []
+    → now.commits ≡ ledger.commits + 1 → IsDesk s new now (slice_set starts c None)
+desk_decided c s old new ledger now starts d live made seen commits =
+    let order : new.course.order ≡ old.course.order ++ c ∷ [] = ap (λ (x : Course). x.order) made.course in
+    desk_other (X c) s old new ledger now starts (slice_set starts c None) d made (λ x. refl)
+    (let low = ap (λ (x : Course). x.low) made.course in let long = ap length order in let more = length-append old.course.order (c ∷ []) in let below = d.low in omega (arith, low, long, more, below))
+    (seen_more c old.course.order new.course.order ledger now (desk_seen s old ledger starts d) order seen commits) (touched_decided s c old new starts d.turns d.touched live made)
+
+-- after a collection
+pub desk_collected : (s : BoardScript) (old new : Booked) (ledger : Entered) (starts : List (Option (List ℕ))) → IsDesk s old ledger starts → Made G old new → IsDesk s new ledger starts
+desk_collected s old new ledger starts d made =
+    let order : new.course.order ≡ old.course.order = ap (λ (x : Course). x.order) made.course in
+    desk_other G s old new ledger ledger starts starts d made (λ x. refl)
+    (let within = (low_within (work_in old) old.course new.course.low d.low (ap (λ (x : Course). x.low) made.course)).1 in let long = ap length order in omega (arith, within, long))
+    (seen_still old.course.order new.course.order ledger ledger (desk_seen s old ledger starts d) order refl refl)
+    (touched_same s old.course new.course starts (ap (λ (x : Course). x.calls) made.course) order d.touched)
 
 -- what the desk says of its events, in the words of its history
-bounded_in : (s : BoardScript) (b : Booked) (store : Versioned) (gate : Knows) → IsDesk s b store gate → IsBounded (work_in b) b.journal
-bounded_in s b store gate d = subst (λ (x : Script). IsBounded (work_of x) b.journal) (sym d.script) d.bounded
+bounded_in : (s : BoardScript) (b : Booked) (ledger : Entered) (starts : List (Option (List ℕ))) → IsDesk s b ledger starts → IsBounded (work_in b) b.journal
+bounded_in s b ledger starts d = subst (λ (x : Script). IsBounded (work_of x) b.journal) (sym d.script) d.bounded
 
-rounds_in : (s : BoardScript) (b : Booked) (store : Versioned) (gate : Knows) → IsDesk s b store gate → UseRounds (work_in b).options.rounds b.course
-rounds_in s b store gate d = subst (λ (x : Script). UseRounds x.options.rounds b.course) (sym d.script) d.rounds
+rounds_in : (s : BoardScript) (b : Booked) (ledger : Entered) (starts : List (Option (List ℕ))) → IsDesk s b ledger starts → UseRounds (work_in b).options.rounds b.course
+rounds_in s b ledger starts d = subst (λ (x : Script). UseRounds x.options.rounds b.course) (sym d.script) d.rounds
 
 -- after a repair
-pub desk_again : (s : BoardScript) (old new : Booked) (store : Versioned) (gate : Knows) (c : ℕ) → IsDesk s old store gate → AllAllowed (work_in old) beginning old.journal → old.course ≡ course_of (work_in old) old.journal → Made (A c) old new → IsSettled new c
-    → IsDesk s new store gate
-desk_again s old new store gate c d allowed reaches made settled =
-    desk_made (A c) s old new store store gate gate d made
+pub desk_again : (c : ℕ) (s : BoardScript) (old new : Booked) (ledger now : Entered) (starts : List (Option (List ℕ))) (touched : List ℕ) → IsDesk s old ledger starts → AllAllowed (work_in old) beginning old.journal → old.course ≡ course_of (work_in old) old.journal
+    → IsLiveCall old.course c → Made (A c) old new → now.knows.seen ≡ ledger.knows.seen → now.commits ≡ ledger.commits → AreLastChanges s old.course.order (length old.course.order) touched → IsDesk s new now (slice_set starts c (Some touched))
+desk_again c s old new ledger now starts touched d allowed reaches live made seen commits are =
+    let order : new.course.order ≡ old.course.order = ap (λ (x : Course). x.order) made.course in
+    desk_made (A c) s old new ledger now starts (slice_set starts c (Some touched)) d made
     (subst (λ (x : Script). IsBounded (work_of x) new.journal) d.script
     (subst (IsBounded (work_in old)) (sym made.journal)
-    (bounded_repair (work_in old) old.journal c allowed (subst (λ (x : Course). refusal (work_in old) x (A c) ≡ None) reaches made.allowed) (bounded_in s old store gate d))))
+    (bounded_repair (work_in old) old.journal c allowed (subst (λ (x : Course). refusal (work_in old) x (A c) ≡ None) reaches made.allowed) (bounded_in s old ledger starts d))))
     (subst (λ (x : Script). UseRounds x.options.rounds new.course) d.script
-    (subst (UseRounds (work_in old).options.rounds) (sym made.course) (use_repair (work_in old) old.course c (rounds_in s old store gate d) made.allowed)))
-    (numbers_again c old new made settled d.numbers)
-    (stored_made (A c) old new store d.stored made refl refl) d.role (d.seen ∙ sym (ap (λ (x : Course). x.order) made.course))
+    (subst (UseRounds (work_in old).options.rounds) (sym made.course) (use_repair (work_in old) old.course c (rounds_in s old ledger starts d) made.allowed)))
+    (low_same old.course new.course (ap (λ (x : Course). x.low) made.course) (sym order) d.low) (seen_still old.course.order new.course.order ledger now (desk_seen s old ledger starts d) order seen commits)
+    (touched_again s c old new starts touched d.touched live made are)
 
--- the events with a move of a live call, whose start is below low
-moved_bounded : (s : BoardScript) (b : Booked) (store : Versioned) (gate : Knows) (c : ℕ) → IsDesk s b store gate → AllAllowed (work_in b) beginning b.journal → b.course ≡ course_of (work_in b) b.journal → IsLiveCall b.course c → IsStale b c
+-- A move
+
+-- the journal stays bounded if the call has used no more rounds than there are, and its start lies further back than the horizon
+bounded_late : (w : Work) (es : List Event) (c : ℕ) (l : Live) → AllAllowed w beginning es → slice_get (course_of w es).calls c ≡ Some l → l.done ≡ false → IsPast w.options.horizon l.start (length (course_of w es).order) → used l ≤ w.options.rounds
+    → IsBounded w es → IsBounded w (es ++ M c ∷ [])
+bounded_late w es c l allowed at live past le b = record { few = λ d. by d (is_round d (M c)) refl; late = moves_join w beginning es (M c ∷ []) b.late (may, tt) } where
+  may : ForSome (slice_get (course_of w es).calls c) (λ x. IsPast w.options.horizon x.start (length (course_of w es).order))
+  may x is = let both : Some l ≡ Some x = sym at ∙ is in let one : l ≡ x = search (rules, both) in subst (λ (y : Live). IsPast w.options.horizon y.start (length (course_of w es).order)) one past
+
+  split : (d : ℕ) → length (filter (is_round d) (es ++ M c ∷ [])) ≡ length (filter (is_round d) es) + length (filter (is_round d) (M c ∷ []))
+  split d = ap length (filter-append (is_round d) es (M c ∷ [])) ∙ length-append (filter (is_round d) es) (filter (is_round d) (M c ∷ []))
+
+  left : (d : ℕ) → (c == d) ≡ true → length (filter (is_round d) es) ≤ w.options.rounds
+  left d same =
+      subst (λ x. length (filter (is_round x) es) ≤ w.options.rounds) (eqb-true c d same) (subst (λ n. n ≤ w.options.rounds) (sym (rounds_are_counted w es allowed c l at live)) le)
+
+  by : (d : ℕ) (r : Bool) → is_round d (M c) ≡ r → length (filter (is_round d) (es ++ M c ∷ [])) ≤ w.options.rounds + 1
+  by d false other =
+      let all = split d in
+      let one : length (filter (is_round d) (M c ∷ [])) ≡ 0 = rw other refl in
+      let few = b.few d in
+      omega (arith, all, one, few)
+  by d true own =
+      let all = split d in
+      let one : length (filter (is_round d) (M c ∷ [])) ≡ 1 = rw own refl in
+      let few = left d own in
+      omega (arith, all, one, few)
+
+-- a call whose start is below low may move
+pub stale_past : (b : Booked) (c : ℕ) (l : Live) → AllAllowed (work_in b) beginning b.journal → b.course ≡ course_of (work_in b) b.journal → IsLive b.course c l → is_stale b.course l ≡ true → IsPast (work_in b).options.horizon l.start (length b.course.order)
+stale_past b c l allowed reaches live stale =
+    subst (λ (x : Course). IsPast (work_in b).options.horizon l.start (length x.order)) (sym reaches)
+    (stale_is_past (work_in b) b.journal c l (subst (λ (x : Course). slice_get x.calls c ≡ Some l) reaches live.at) live.live (subst (λ (x : Course). is_stale x l ≡ true) reaches stale))
+
+moved_bounded : (s : BoardScript) (b : Booked) (ledger : Entered) (starts : List (Option (List ℕ))) (c : ℕ) → IsDesk s b ledger starts → AllAllowed (work_in b) beginning b.journal → b.course ≡ course_of (work_in b) b.journal → IsLiveCall b.course c → IsPastIn b c
     → IsBounded (work s) (b.journal ++ M c ∷ [])
-moved_bounded s b store gate c d allowed reaches live stale =
+moved_bounded s b ledger starts c d allowed reaches live past =
     subst (λ (x : Script). IsBounded (work_of x) (b.journal ++ M c ∷ [])) d.script
-    (bounded_move (work_in b) b.journal c live.0 allowed (subst (λ (x : Course). slice_get x.calls c ≡ Some live.0) reaches live.1.at) live.1.live (subst (λ (x : Course). is_stale x live.0 ≡ true) reaches (stale live.0 live.1))
-    (rounds_in s b store gate d c live.0 live.1) (bounded_in s b store gate d))
+    (bounded_late (work_in b) b.journal c live.0 allowed (subst (λ (x : Course). slice_get x.calls c ≡ Some live.0) reaches live.1.at) live.1.live
+    (subst (λ (x : Course). IsPast (work_in b).options.horizon (live.0).start (length x.order)) reaches (past live.0 live.1)) (rounds_in s b ledger starts d c live.0 live.1) (bounded_in s b ledger starts d))
 
--- after a move
-pub desk_moved : (s : BoardScript) (old new : Booked) (store : Versioned) (gate : Knows) (c : ℕ) → IsDesk s old store gate → AllAllowed (work_in old) beginning old.journal → old.course ≡ course_of (work_in old) old.journal → IsLiveCall old.course c
-    → IsStale old c → HasRound true old c → Made (M c) old new → IsSettled new c → IsDesk s new store gate
-desk_moved s old new store gate c d allowed reaches live stale left made settled =
-    desk_made (M c) s old new store store gate gate d made (subst (IsBounded (work s)) (sym made.journal) (moved_bounded s old store gate c d allowed reaches live stale))
+pub desk_moved : (c : ℕ) (s : BoardScript) (old new : Booked) (ledger now : Entered) (starts : List (Option (List ℕ))) (touched : List ℕ) → IsDesk s old ledger starts → AllAllowed (work_in old) beginning old.journal → old.course ≡ course_of (work_in old) old.journal
+    → IsLiveCall old.course c → IsPastIn old c → HasRound true old c → Made (M c) old new → now.knows.seen ≡ ledger.knows.seen → now.commits ≡ ledger.commits → AreLastChanges s old.course.order (length old.course.order) touched
+    → IsDesk s new now (slice_set starts c (Some touched))
+desk_moved c s old new ledger now starts touched d allowed reaches live past left made seen commits are =
+    let order : new.course.order ≡ old.course.order = ap (λ (x : Course). x.order) made.course in
+    desk_made (M c) s old new ledger now starts (slice_set starts c (Some touched)) d made (subst (IsBounded (work s)) (sym made.journal) (moved_bounded s old ledger starts c d allowed reaches live past))
     (subst (λ (x : Script). UseRounds x.options.rounds new.course) d.script
-    (subst (UseRounds (work_in old).options.rounds) (sym made.course) (use_move (work_in old) old.course c (rounds_in s old store gate d) left)))
-    (numbers_moved c old new made settled d.numbers)
-    (stored_made (M c) old new store d.stored made refl refl) d.role (d.seen ∙ sym (ap (λ (x : Course). x.order) made.course))
+    (subst (UseRounds (work_in old).options.rounds) (sym made.course) (use_move (work_in old) old.course c (rounds_in s old ledger starts d) left)))
+    (low_same old.course new.course (ap (λ (x : Course). x.low) made.course) (sym order) d.low) (seen_still old.course.order new.course.order ledger now (desk_seen s old ledger starts d) order seen commits)
+    (touched_moved s c old new starts touched d.touched live made are)
 
 -- after a move and the commit of that call
-pub desk_moved_and_committed : (s : BoardScript) (old mid new : Booked) (store stored : Versioned) (gate now : Knows) (c : ℕ) → IsDesk s old store gate → AllAllowed (work_in old) beginning old.journal
-    → old.course ≡ course_of (work_in old) old.journal → IsLiveCall old.course c → IsStale old c → Made (M c) old mid → IsSettled mid c → Made (C c) mid new → IsStoreOf new stored → now.role ≡ Gate → now.seen ≡ gate.seen ++ c ∷ [] → IsDesk s new stored now
-desk_moved_and_committed s old mid new store stored gate now c d allowed reaches live stale moved settled committed k role seen = record {
-  script = committed.script ∙ (moved.script ∙ d.script);
-  stored = k;
-  role = role;
-  seen = seen ∙ (ap (λ (xs : List ℕ). xs ++ c ∷ []) (d.seen ∙ sym (order_moved c old mid moved)) ∙ sym (order_committed c mid new committed));
-  turns = subst HaveTurns (sym committed.course) (turns_after (work_in mid) mid.course (C c) (subst HaveTurns (sym moved.course) (turns_after (work_in old) old.course (M c) d.turns)));
-  bounded =
-      subst (IsBounded (work s)) (sym committed.journal)
-      (bounded_other (work s) mid.journal (C c) (λ x. refl) (subst (IsBounded (work s)) (sym moved.journal) (moved_bounded s old store gate c d allowed reaches live stale)));
-  rounds =
-      subst (UseRounds s.options.rounds) (sym committed.course)
-      (subst (λ (x : Course). UseRounds s.options.rounds (after (work_in mid) x (C c))) (sym moved.course) (use_move_and_commit (work_in old) (work_in mid) s.options.rounds old.course c d.rounds));
-  numbers = numbers_other (C c) mid new committed (λ x. refl) (numbers_moved c old mid moved settled d.numbers);
-}
+pub desk_gone : (c : ℕ) (s : BoardScript) (old mid new : Booked) (ledger now : Entered) (starts : List (Option (List ℕ))) → IsDesk s old ledger starts → AllAllowed (work_in old) beginning old.journal → old.course ≡ course_of (work_in old) old.journal
+    → IsLiveCall old.course c → IsPastIn old c → Made (M c) old mid → Made (C c) mid new → now.knows.seen ≡ ledger.knows.seen ++ c ∷ [] → now.commits ≡ ledger.commits + 1 → IsDesk s new now (slice_set starts c None)
+desk_gone c s old mid new ledger now starts d allowed reaches live past moved committed seen commits =
+    let order : new.course.order ≡ old.course.order ++ c ∷ [] = ap (λ (x : Course). x.order) committed.course ∙ ap (λ (x : Course). x.order ++ c ∷ []) moved.course in
+    let now_seen = seen_more c old.course.order new.course.order ledger now (desk_seen s old ledger starts d) order seen commits in
+    record {
+      script = committed.script ∙ (moved.script ∙ d.script);
+      sound = d.sound;
+      seen = now_seen.seen;
+      commits = now_seen.commits;
+      low =
+          let low = ap (λ (x : Course). x.low) committed.course in
+          let was = ap (λ (x : Course). x.low) moved.course in
+          let long = ap length order in
+          let more = length-append old.course.order (c ∷ []) in
+          let below = d.low in
+          omega (arith, low, was, long, more, below);
+      turns = subst HaveTurns (sym committed.course) (turns_after (work_in mid) mid.course (C c) (subst HaveTurns (sym moved.course) (turns_after (work_in old) old.course (M c) d.turns)));
+      bounded =
+          subst (IsBounded (work s)) (sym committed.journal)
+          (bounded_other (work s) mid.journal (C c) (λ x. refl) (subst (IsBounded (work s)) (sym moved.journal) (moved_bounded s old ledger starts c d allowed reaches live past)));
+      rounds =
+          subst (UseRounds s.options.rounds) (sym committed.course)
+          (subst (λ (x : Course). UseRounds s.options.rounds (after (work_in mid) x (C c))) (sym moved.course) (use_move_and_commit (work_in old) (work_in mid) s.options.rounds old.course c d.rounds));
+      touched = touched_gone s c old mid new starts d.turns d.touched live moved committed;
+    }
 
-pub desk_same : (s : BoardScript) (old new : Booked) (store stored : Versioned) (gate now : Knows) → IsDesk s old store gate → IsSame old new → IsStoreOf new stored → now.role ≡ Gate → now.seen ≡ new.course.order → IsDesk s new stored now
-desk_same s old new store stored gate now d same k role seen = record {
-  script = same.script ∙ d.script;
-  stored = k;
-  role = role;
-  seen = seen;
-  turns = subst HaveTurns (sym same.course) d.turns;
-  bounded = subst (IsBounded (work s)) (sym same.journal) d.bounded;
-  rounds = subst (UseRounds s.options.rounds) (sym same.course) d.rounds;
-  numbers = numbers_same old new same d.numbers;
-}
+-- Without an event
 
--- where memory ran out
-pub desk_left : (s : BoardScript) (old new : Booked) (store stored : Versioned) (gate : Knows) → IsDesk s old store gate → IsSame old new → IsStoreOf new stored → IsDesk s new stored gate
-desk_left s old new store stored gate d same k = desk_same s old new store stored gate gate d same k d.role (d.seen ∙ sym (order_same old new same))
-
--- the next call began, or not
-pub desk_begun : (r : Result (Option Begun) NoMemory) (s : BoardScript) (old new : Booked) (store : Versioned) (gate : Knows) → IsDesk s old store gate → HasBegun r old new → IsDesk s new store gate
-desk_begun (Ok (Some b)) s old new store gate d h =
-    desk_other (B b.call) s old new store store gate gate d h.0 (λ x. refl) (stored_made (B b.call) old new store d.stored h.0 refl refl) d.role (d.seen ∙ sym (ap (λ (x : Course). x.order) h.0.course))
-desk_begun (Ok None) s old new store gate d h = desk_same s old new store store gate gate d h.1 (stored_same old new store d.stored h.1) d.role (d.seen ∙ sym (ap (λ (x : Course). x.order) h.1.course))
-desk_begun (Err e) s old new store gate d h = desk_same s old new store store gate gate d h (stored_same old new store d.stored h) d.role (d.seen ∙ sym (ap (λ (x : Course). x.order) h.course))
+pub desk_same : (s : BoardScript) (old new : Booked) (ledger now : Entered) (starts : List (Option (List ℕ))) → IsDesk s old ledger starts → IsSame old new → now.knows.seen ≡ ledger.knows.seen → now.commits ≡ ledger.commits → IsDesk s new now starts
+desk_same s old new ledger now starts d same seen commits =
+    let order : new.course.order ≡ old.course.order = ap (λ (x : Course). x.order) same.course in
+    let still = seen_still old.course.order new.course.order ledger now (desk_seen s old ledger starts d) order seen commits in
+    record {
+      script = same.script ∙ d.script;
+      sound = d.sound;
+      seen = still.seen;
+      commits = still.commits;
+      low = low_same old.course new.course (ap (λ (x : Course). x.low) same.course) (sym order) d.low;
+      turns = subst HaveTurns (sym same.course) d.turns;
+      bounded = subst (IsBounded (work s)) (sym same.journal) d.bounded;
+      rounds = subst (UseRounds s.options.rounds) (sym same.course) d.rounds;
+      touched = touched_same s old.course new.course starts (ap (λ (x : Course). x.calls) same.course) order d.touched;
+    }
 
 -- A live call hasn't committed
 
@@ -169,30 +255,32 @@ pub fresh_call : (b : Booked) (c : ℕ) → AllAllowed (work_in b) beginning b.j
 fresh_call b c allowed reaches live =
     not_there b.course.order c (λ k at. live_apart (work_in b) (length b.journal) b.course c live.0 (subst (λ (x : Course). Facts (work_in b) (length b.journal) x) (sym reaches) (facts_of (work_in b) b.journal allowed)) live.1 k at)
 
--- Why events are refused
-
-hit_is : (stale hit : Bool) → unless (not stale) Stale (unless (not hit) Conflict None) ≡ Some Conflict → (stale ≡ false) × (hit ≡ true)
-hit_is false true e = (refl, refl)
-hit_is false false e = absurd (search (rules, e))
-hit_is true hit e = absurd (search (rules, e))
-
--- a call that a commit hits may be repaired as long as it has a round left, and else be decided in one step
-pub may_repair : (w : Work) (s : Course) (c : ℕ) (l : Live) → IsLive s c l → refusal w s (C c) ≡ Some Conflict → has_round w l ≡ true → refusal w s (A c) ≡ None
-may_repair w s c l live hit left =
-    let both = hit_is (is_stale s l) (is_hit w s c l) (sym (live_is s c (λ x. unless (not (is_stale s x)) Stale (unless (not (is_hit w s c x)) Conflict None)) l live) ∙ hit) in
-    live_is s c (λ x. unless (not (is_stale s x)) Stale (unless (is_hit w s c x) Idle (unless (has_round w x) Rounds None))) l live
-    ∙ (ap (λ b. unless (not b) Stale (unless (is_hit w s c l) Idle (unless (has_round w l) Rounds None))) both.0
-    ∙ (ap (λ b. unless b Idle (unless (has_round w l) Rounds None)) both.1 ∙ ap (λ b. unless b Rounds None) left))
-
-pub may_decide : (w : Work) (s : Course) (c : ℕ) (l : Live) → IsLive s c l → refusal w s (C c) ≡ Some Conflict → has_round w l ≡ false → refusal w s (X c) ≡ None
-may_decide w s c l live hit none =
-    let both = hit_is (is_stale s l) (is_hit w s c l) (sym (live_is s c (λ x. unless (not (is_stale s x)) Stale (unless (not (is_hit w s c x)) Conflict None)) l live) ∙ hit) in
-    live_is s c (λ x. unless (not (is_stale s x)) Stale (unless (is_hit w s c x) Idle (unless (not (has_round w x)) Rounds None))) l live
-    ∙ (ap (λ b. unless (not b) Stale (unless (is_hit w s c l) Idle (unless (not (has_round w l)) Rounds None))) both.0
-    ∙ (ap (λ b. unless b Idle (unless (not (has_round w l)) Rounds None)) both.1 ∙ ap (λ b. unless (not b) Rounds None) none))
-
--- Where memory ran out
+-- a script without calls has no commits
+pub idle_order : (b : Booked) → AllAllowed (work_in b) beginning b.journal → b.course ≡ course_of (work_in b) b.journal → length b.script.calls ≡ 0 → b.course.order ≡ []
+idle_order b allowed reaches none =
+    let f : Facts (work_in b) (length b.journal) b.course = subst (λ (x : Course). Facts (work_in b) (length b.journal) x) (sym reaches) (facts_of (work_in b) b.journal allowed) in
+    let count = f.count in
+    let done = f.done in
+    let most = done_within b.course.calls in
+    nothing b.course.order (omega (arith, count, done, most, none))
+  where
+    nothing : (xs : List ℕ) → length xs ≤ 0 → xs ≡ []
+    nothing [] le = refl
+    nothing (x ∷ xs) le = absurd (omega (arith, le))
 
 pub commit_failed : (Q : NoMemory → Type 0) (e : Event) (r : Result ℕ NoMemory) (old new : Booked) → IsErrAnd r Q → IsSame old new → HasCommitted e r old new
 commit_failed Q e (Ok n) old new err same = absurd err
 commit_failed Q e (Err x) old new err same = same
+
+pub gone_failed : (Q : NoMemory → Type 0) (c : ℕ) (r : Result ℕ NoMemory) (old new : Booked) → IsErrAnd r Q → IsSame old new → HasMovedAndCommitted c r old new
+gone_failed Q c (Ok n) old new err same = absurd err
+gone_failed Q c (Err x) old new err same = same
+
+-- What a hold has made ready
+
+pub seen_on : (old new : Booked) (ledger : Entered) → HasSeen ledger old.course.order → IsSame old new → HasSeen ledger new.course.order
+seen_on old new ledger h same = seen_still old.course.order new.course.order ledger ledger h (order_same old new same) refl refl
+
+-- a start after all commits
+pub starts_last : (order : List ℕ) (new : Booked) (ledger : Entered) (start : Started) → HasSeen ledger order → new.course.order ≡ order → start.number ≡ ledger.commits → start.knows.seen ≡ ledger.knows.seen → StartsLast start new
+starts_last order new ledger start h same number seen = (number ∙ (h.commits ∙ sym (ap length same)), seen ∙ (h.seen ∙ sym same))

@@ -13,27 +13,23 @@ use Rattle.mv_lawful.specs.Lawful.{Live, Course, begin, again, finish, change_li
 use Rattle.mv_lawful.specs.Rounds.{IsBounded}
 use Rattle.mv_lawful.specs.Outcomes.{outcome_of}
 use Rattle.mv_seats.specs.Scripts.{Script as BoardScript}
-use Rattle.mv_seats.specs.Knowing.{Knows}
 use Rattle.mv_seats.proofs.Prefixes.{prefix_self, prefix_more}
-use Rattle.mv_store.specs.Stored.{Versioned}
 use Rattle.mv_script.specs.declared.script.Script.{Script}
-use Rattle.mv_core.specs.declared.tasks.Running.{Running}
 use Rattle.mv_script.specs.Scripts.{work_of}
 use Rattle.mv_core.specs.Calls.{IsLiveCall}
 use Rattle.mv_values.specs.declared.memory.NoMemory.{NoMemory}
 use Rattle.mv_values.proofs.Deciding.{some_at}
-use Rattle.mv_core.specs.declared.book.Begun.{Begun}
-use Rattle.mv_core.specs.Books.{Booked, work_in, Made, IsSame, HasBegun as HasNext}
+use Rattle.mv_shards.specs.Scripts.{work}
+use Rattle.mv_shards.specs.Ledgers.{Entered}
+use Rattle.mv_core.specs.Books.{Booked, work_in, Made, IsSame}
 use Rattle.mv_core.specs.Cores.{HasCommitted, HasMovedAndCommitted}
 use Rattle.mv_core.proofs.Moving.{live_moved}
 use Rattle.mv_core.proofs.Turning.{many_begun}
 use Rattle.mv_core.proofs.Journals.{get_front, set_there, set_apart, changed_at}
-use Rattle.mv_gate.specs.declared.answers.Answer.{Answer}
-use Rattle.mv_gate.specs.declared.answers.Answer.TheVariants as answer
-use Rattle.mv_gate.specs.Gates.{work, IsDesk, MovesAndCommits, IsRestarted, Meets, IsOutcome, IsDone, GoesOn}
+use Rattle.mv_gate.specs.Gates.{IsDesk, Waiting, HandsOut, IsOutcome, IsDone, GoesOn}
 
-pub outcome_told : (s : BoardScript) (b : Booked) (store : Versioned) (gate : Knows) (o : Outcome) → IsDesk s b store gate → Lawful (work_in b) b.journal → o ≡ outcome_of (work_in b) b.journal → IsOutcome (work s) o
-outcome_told s b store gate o d lawful is =
+pub outcome_told : (s : BoardScript) (b : Booked) (ledger : Entered) (starts : List (Option (List ℕ))) (o : Outcome) → IsDesk s b ledger starts → Lawful (work_in b) b.journal → o ≡ outcome_of (work_in b) b.journal → IsOutcome (work s) o
+outcome_told s b ledger starts o d lawful is =
     let events : o.journal ≡ b.journal = ap (λ (x : Outcome). x.journal) is in
     subst (λ (x : Script). IsOutcome (work_of x) o) d.script (record {
       lawful = subst (Lawful (work_in b)) (sym events) lawful;
@@ -89,7 +85,7 @@ keeps_changed e c f old new made is live = record {
   events = events_made e old new made;
 }
 
-keeps_again : (c : ℕ) (old new : Booked) → Made (A c) old new → IsLiveCall old.course c → GoesOn old new
+pub keeps_again : (c : ℕ) (old new : Booked) → Made (A c) old new → IsLiveCall old.course c → GoesOn old new
 keeps_again c old new made live = keeps_changed (A c) c (again (length old.course.order) Plain) old new made (ap (λ (s : Course). s.calls) made.course) live
 
 keeps_moved : (c : ℕ) (old new : Booked) → Made (M c) old new → IsLiveCall old.course c → GoesOn old new
@@ -122,14 +118,14 @@ keeps_both a b c x y = record {
 }
 
 -- the next call began, or not
-pub keeps_next : (r : Result (Option Begun) NoMemory) (old new : Booked) → HasNext r old new → GoesOn old new
-keeps_next (Ok (Some b)) old new h = keeps_begun b.call old new h.0
+pub keeps_next : (r : Result (Option Waiting) NoMemory) (old new : Booked) → HandsOut r old new → GoesOn old new
+keeps_next (Ok (Some w)) old new h = keeps_begun w.call old new h.0
 keeps_next (Ok None) old new h = keeps_same old new h.1
 keeps_next (Err e) old new h = keeps_same old new h
 
-pub begun_next : (o : Option Begun) (old new : Booked) (c : ℕ) → HasNext (Ok o) old new → c ≤ length old.course.calls → c < length old.script.calls → c < length new.course.calls
-begun_next (Some b) old new c h begun there =
-    let long = many_begun b.call old new h.0 in
+pub begun_next : (o : Option Waiting) (old new : Booked) (c : ℕ) → HandsOut (Ok o) old new → c ≤ length old.course.calls → c < length old.script.calls → c < length new.course.calls
+begun_next (Some w) old new c h begun there =
+    let long = many_begun w.call old new h.0 in
     omega (arith, begun, long)
 begun_next None old new c h begun there =
     let all = h.0 in
@@ -144,18 +140,6 @@ pub keeps_late : (r : Result ℕ NoMemory) (c : ℕ) (old new : Booked) → HasM
 keeps_late (Ok n) c old new h live = keeps_moved_and_committed c old h.0.0 new h.0.1 h.0.2 live
 keeps_late (Err e) c old new h live = keeps_same old new h
 
--- a call was decided, or repaired, or moved
-pub keeps_met : (r : Result Answer NoMemory) (c : ℕ) (t : Running) (old new : Booked) → Meets c t r old new → IsLiveCall old.course c → GoesOn old new
-keeps_met (Ok (answer.Committed n)) c t old new h live = by h.0 where
-  by : Made (C c) old new ⊎ (Made (X c) old new ⊎ MovesAndCommits c old new) → GoesOn old new
-  by (inl made) = keeps_committed c old new made live
-  by (inr (inl made)) = keeps_decided c old new made live
-  by (inr (inr both)) = keeps_moved_and_committed c old both.mid new both.moved both.committed live
-keeps_met (Ok answer.Repaired) c t old new h live = keeps_again c old new h.0 live
-keeps_met (Ok answer.Moved) c t old new h live = keeps_moved c old new h.0.made live
-keeps_met (Ok answer.Lost) c t old new h live = absurd h
-keeps_met (Err e) c t old new h live = keeps_same old new h
-
 done_by : (c : ℕ) (f : Live → Live) (old new : Booked) → new.course.calls ≡ change_live (slice_get old.course.calls c) f old.course.calls c → IsLiveCall old.course c → ((l : Live) → (f l).done ≡ true) → IsDone new.course c
 done_by c f old new is live ends = let h = done_now old.course.calls c f live.0 live.1.at (ends live.0) in (h.0, ap (λ ls. slice_get ls c) is ∙ h.1, h.2)
 
@@ -165,18 +149,13 @@ done_committed c old new made live = done_by c finish old new (ap (λ (s : Cours
 pub done_late : (c n : ℕ) (old new : Booked) → HasMovedAndCommitted c (Ok n) old new → IsLiveCall old.course c → IsDone new.course c
 done_late c n old new h live = done_committed c h.0.0 new h.0.2 (moved_live c old h.0.0 h.0.1 live)
 
-pub done_met : (a : Answer) (c : ℕ) (t : Running) (old new : Booked) → Meets c t (Ok a) old new → IsLiveCall old.course c → (a ≡ answer.Moved → ⊥) → (a ≡ answer.Repaired → ⊥) → IsDone new.course c
-done_met (answer.Committed n) c t old new h live stays left = by h.0 where
-  by : Made (C c) old new ⊎ (Made (X c) old new ⊎ MovesAndCommits c old new) → IsDone new.course c
-  by (inl made) = done_committed c old new made live
-  by (inr (inl made)) = done_by c (λ l. finish (again (length old.course.order) Exclusive l)) old new (ap (λ (s : Course). s.calls) made.course) live (λ l. refl)
-  by (inr (inr both)) = done_committed c both.mid new both.committed (moved_live c old both.mid both.moved live)
-done_met answer.Repaired c t old new h live stays left = absurd (left refl)
-done_met answer.Moved c t old new h live stays left = absurd (stays refl)
-done_met answer.Lost c t old new h live stays left = absurd h
+pub done_decided : (c : ℕ) (old new : Booked) → Made (X c) old new → IsLiveCall old.course c → IsDone new.course c
+done_decided c old new made live = done_by c (λ l. finish (again (length old.course.order) Exclusive l)) old new (ap (λ (s : Course). s.calls) made.course) live (λ l. refl)
 
-pub met_repaired : (a : Answer) (c : ℕ) (t : Running) (old new : Booked) → Meets c t (Ok a) old new → a ≡ answer.Repaired → IsRestarted old new c t
-met_repaired a c t old new h is = (subst (λ x. Meets c t (Ok x) old new) is h).1
+-- a call that was decided, or wasn't
+pub keeps_decision : (r : Result ℕ NoMemory) (c : ℕ) (old new : Booked) → HasCommitted (X c) r old new → IsLiveCall old.course c → GoesOn old new
+keeps_decision (Ok n) c old new h live = keeps_decided c old new h.0 live
+keeps_decision (Err e) c old new h live = keeps_same old new h
 
 -- a call that was repaired commits, or not
 pub keeps_commit : (r : Result ℕ NoMemory) (c : ℕ) (old new : Booked) → HasCommitted (C c) r old new → IsLiveCall old.course c → GoesOn old new

@@ -1,11 +1,17 @@
-pub mod Beginning
-pub mod Prefixes
-pub mod Numbers
-pub mod Turns
-pub mod Used
-pub mod Holding
-pub mod Desks
-pub mod Ending
-pub mod Repaired
-pub mod Crossing
-pub mod Serializing
+mod Beginning
+mod Prefixes
+mod Numbers
+mod Turns
+mod Used
+mod Starts
+mod Desks
+mod Running
+mod Seeing
+mod Holding
+mod Bringing
+mod Committing
+mod Ending
+mod Serializing
+mod Crossing
+mod Copying
+mod Leaving

@@ -90,3 +90,28 @@ starts_apart (Some x) (Some y) h e =
     let one : x ≡ y = search (rules, e) in
     let no : false ≡ true = sym (ap not (number_same x y one)) ∙ h in
     search (rules, no)
+
+-- the last round's number, if it has one
+number_at : (rs : List Round) (k : ℕ) (d : Round) → length rs ≡ suc k → last_number rs ≡ (slice_index_or rs k d).count
+number_at [] k d h = absurd (omega (arith, h))
+number_at (r ∷ []) zero d h = refl
+number_at (r ∷ []) (suc k) d h = absurd (omega (arith, h))
+number_at (r ∷ s ∷ rs) zero d h = absurd (omega (arith, h))
+number_at (r ∷ s ∷ rs) (suc k) d h = number_at (s ∷ rs) k d (omega (arith, h))
+
+pub number_last : (rs : List Round) (d : Round) → 0 < length rs → last_number rs ≡ (slice_index_or rs (length rs - 1) d).count
+number_last rs d h = number_at rs (length rs - 1) d (omega (arith, h))
+
+pub starts_eq : (a b : Option ℕ) → option_eq eqb a b ≡ true → a ≡ b
+starts_eq None None h = refl
+starts_eq None (Some y) h = absurd (search (rules, h))
+starts_eq (Some x) None h = absurd (search (rules, h))
+starts_eq (Some x) (Some y) h = ap Some (eqb-true x y h)
+
+pub eq_starts : (a b : Option ℕ) → a ≡ b → option_eq eqb a b ≡ true
+eq_starts None None e = refl
+eq_starts None (Some y) e = absurd (search (rules, e))
+eq_starts (Some x) None e = absurd (search (rules, e))
+eq_starts (Some x) (Some y) e =
+    let one : x ≡ y = search (rules, e) in
+    number_same x y one

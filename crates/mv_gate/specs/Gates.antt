@@ -2,35 +2,27 @@
 use Rattle.std.specs.Prelude.{◌≡◌, ◌⊎◌, ◌<◌, ◌≤◌, ◌+◌, ℕ, Bool, true, false, List, [], ◌∷◌, Option, Some, None, Result, Ok, Err, length, slice_get}
 use mathlib.Core.List.{IsPrefix}
 use Rattle.mv_values.specs.declared.memory.NoMemory.{NoMemory}
-use Rattle.mv_journal.specs.declared.event.Event.TheVariants.{B, S, A, M, C, X}
+use Rattle.mv_changes.specs.declared.recent.Committed.{Committed}
+use Rattle.mv_changes.specs.Commits.{changes_in}
+use Rattle.mv_journal.specs.declared.event.Event.TheVariants.{B, A, M, C, X, G}
 use Rattle.mv_journal.specs.declared.outcome.Mark.{Mark}
 use Rattle.mv_journal.specs.declared.outcome.Mark.TheVariants.{Plain as Repaired, Exclusive, Moved}
 use Rattle.mv_journal.specs.declared.outcome.Outcome.{Outcome}
-use Rattle.mv_lawful.specs.Work.{Work, table_at, records_at}
-use Rattle.mv_lawful.specs.Lawful.{Turn, Live, Course, Lawful, used, is_stale, has_round, refusal}
-use Rattle.mv_lawful.specs.Rounds.{repair_run, IsBounded}
+use Rattle.mv_lawful.specs.Work.{Work, table_at, records_at, since}
+use Rattle.mv_lawful.specs.Lawful.{Turn, Live, Course, Lawful, used, has_round}
+use Rattle.mv_lawful.specs.Rounds.{repair_run, IsPast, IsBounded}
 use Rattle.mv_lawful.specs.Outcomes.{outcome_of}
-use Rattle.mv_store.specs.Stored.{Versioned}
 use Rattle.mv_seats.specs.Scripts.{Script as BoardScript}
-use Rattle.mv_seats.specs.Knowing.{Knows, Plain, Gate}
-use Rattle.mv_script.specs.declared.script.Script.{Script}
-use Rattle.mv_core.specs.declared.tasks.Running.{Running}
-use Rattle.mv_script.specs.Scripts.{work_of}
+use Rattle.mv_exec.specs.declared.task.Task.{Task}
+use Rattle.mv_script.specs.Scripts.{IsScript}
+use Rattle.mv_shards.specs.Scripts.{script_in, work}
+use Rattle.mv_shards.specs.Reads.{Started}
+use Rattle.mv_shards.specs.Ledgers.{Entered, AreLastChanges}
 use Rattle.mv_core.specs.Calls.{IsLive, IsLiveCall}
-use Rattle.mv_core.specs.Books.{Booked, work_in, Made, IsSame, HaveNumbers, IsNotStale, AreRecordsOf}
-use Rattle.mv_core.specs.Cores.{RunsOn, IsStoreOf, HasTurns, HasStep, HasRunOn, IsTaskIn}
+use Rattle.mv_core.specs.Books.{Booked, work_in, Made, IsSame, IsSettled, IsMissing, AreRecordsOf}
+use Rattle.mv_core.specs.Cores.{RunsOn, HasTurns}
 use Rattle.mv_gate.specs.declared.answers.Answer.{Answer}
 use Rattle.mv_gate.specs.declared.answers.Answer.TheVariants as answer
-
--- The script of a board
-
--- as a history has it
-abbrev pub script_in : BoardScript → Script
-script_in s = record { graphs = s.graphs; calls = s.calls; opening = s.opening; options = s.options }
-
--- its work, in the words of the law of journals
-abbrev pub work : BoardScript → Work
-work s = work_of (script_in s)
 
 -- At the desk
 
@@ -42,83 +34,112 @@ HaveTurns s = (c : ℕ) (l : Live) → slice_get s.calls c ≡ Some l → HasTur
 abbrev pub UseRounds : ℕ → Course → Type 0
 UseRounds rounds s = (c : ℕ) (l : Live) → IsLive s c l → used l ≤ rounds
 
--- a history of the board's script, a store that has its tables, and the gate's pass, which has seen its commits. Its
--- events are bounded, and so are the rounds of live calls. Only a first round may lack its number. No call has writes
--- that aren't committed
-pub record IsDesk (s : BoardScript) (b : Booked) (store : Versioned) (gate : Knows) : Type 0 where
+-- each live call has, for each shard, the last commit up to its start that changes a row of the shard, or 0
+pub record HaveTouched (s : BoardScript) (course : Course) (starts : List (Option (List ℕ))) : Type 0 where
+  pub count : length starts ≡ length course.calls
+  pub each : (c : ℕ) (l : Live) → IsLive course c l → (touched : List ℕ) × (slice_get starts c ≡ Some (Some touched)) × AreLastChanges s course.order l.start touched
+
+-- a history of the board's script, and a ledger that has seen its commits. Its events are bounded, and so are the rounds
+-- of live calls. Each live call has what it takes to read the shards at its start
+pub record IsDesk (s : BoardScript) (b : Booked) (ledger : Entered) (starts : List (Option (List ℕ))) : Type 0 where
   pub script : b.script ≡ script_in s
-  pub stored : IsStoreOf b store
-  pub role : gate.role ≡ Gate
-  pub seen : gate.seen ≡ b.course.order
+  pub sound : IsScript (script_in s)
+  pub seen : ledger.knows.seen ≡ b.course.order
+  pub commits : ledger.commits ≡ length b.course.order
+  pub low : b.course.low ≤ length b.course.order
   pub turns : HaveTurns b.course
   pub bounded : IsBounded (work s) b.journal
   pub rounds : UseRounds s.options.rounds b.course
-  pub numbers : HaveNumbers b
+  pub touched : HaveTouched s b.course starts
 
 -- Outside of the lock
 
+-- what contracts see of a call that has still to run at its start
+pub record Waiting : Type 0 where
+  pub call : ℕ
+  pub start : Started
+
+-- a call of the board's script
+pub record IsWaiting (s : BoardScript) (w : Waiting) : Type 0 where
+  pub there : w.call < length s.calls
+  pub sound : IsScript (script_in s)
+
+-- the same, and its pass has seen more commits after the start than the horizon keeps
+pub record IsLate (s : BoardScript) (w : Waiting) : Type 0 where
+  pub waits : IsWaiting s w
+  pub past : IsPast s.options.horizon w.start.number (length w.start.knows.seen)
+
 -- what contracts see of a call that a worker holds: its number, its start, the start that its last round was repaired
--- from, its task, and what its pass knows
+-- from, and its task
 pub record Holding : Type 0 where
   pub call : ℕ
-  pub start : ℕ
+  pub start : Started
   pub from : Option ℕ
-  pub running : Running
-  pub knows : Knows
+  pub task : Task
 
 -- what the task executed: all its records in a whole run, those that aren't kept in a repair from a start
-abbrev pub IsExecuted : Work → List ℕ → ℕ → Option ℕ → ℕ → Running → Type 0
-IsExecuted w seen c None start r = (r.count ≡ None) × (r.task.executed ≡ length r.task.log.records)
-IsExecuted w seen c (Some from) start r = (from ≤ start) × (r.count ≡ Some r.task.executed) × (r.task.executed ≡ repair_run w seen c from start)
+abbrev pub IsExecuted : Work → List ℕ → ℕ → Option ℕ → ℕ → Task → Type 0
+IsExecuted w seen c None start t = t.executed ≡ length t.log.records
+IsExecuted w seen c (Some from) start t = (from ≤ start) × (t.ended ≡ true) × (t.executed ≡ repair_run w seen c from start)
 
--- a call of the board's script, as far as it has run at its start in a history that the pass has seen
+-- a call of the board's script, as far as it has run at its start in the history that its pass has seen
 pub record IsHeld (s : BoardScript) (h : Holding) : Type 0 where
-  pub role : h.knows.role ≡ Plain
   pub there : h.call < length s.calls
-  pub past : h.start ≤ length h.knows.seen
-  pub runs : RunsOn (script_in s) h.call (table_at (work s) h.knows.seen h.start) h.running.task
-  pub executed : IsExecuted (work s) h.knows.seen h.call h.from h.start h.running
+  pub sound : IsScript (script_in s)
+  pub past : h.start.number ≤ length h.start.knows.seen
+  pub runs : RunsOn (script_in s) h.call (table_at (work s) h.start.knows.seen h.start.number) h.task
+  pub executed : IsExecuted (work s) h.start.knows.seen h.call h.from h.start.number h.task
+
+-- what contracts see of a call that is to be repaired: its number, its new start, the old one, its task there, and the
+-- commits after that
+pub record Repairing : Type 0 where
+  pub call : ℕ
+  pub start : Started
+  pub from : ℕ
+  pub task : Task
+  pub since : List Committed
+
+-- its task has run whole at the old start. The new start is after all commits that its pass has seen
+pub record IsRepairing (s : BoardScript) (r : Repairing) : Type 0 where
+  pub there : r.call < length s.calls
+  pub sound : IsScript (script_in s)
+  pub before : r.from ≤ r.start.number
+  pub last : r.start.number ≡ length r.start.knows.seen
+  pub runs : RunsOn (script_in s) r.call (table_at (work s) r.start.knows.seen r.from) r.task
+  pub ended : r.task.ended ≡ true
+  pub since : changes_in r.since ≡ since (work s) r.start.knows.seen r.from
 
 -- At the desk, in one hold
 
--- a live call of the script, and its task
-pub record IsUnderWay (b : Booked) (c : ℕ) (r : Running) : Type 0 where
+-- a live call of the script, whose task has run whole at its start. If its last round has no number yet, that is the
+-- number of the records that the task executed
+pub record IsWhole (b : Booked) (c : ℕ) (t : Task) : Type 0 where
   pub live : IsLiveCall b.course c
   pub there : c < length b.script.calls
-  pub task : IsTaskIn b c r
+  pub runs : (l : Live) → IsLive b.course c l → RunsOn b.script c (table_at (work_in b) b.course.order l.start) t
+  pub ended : t.ended ≡ true
+  pub records : AreRecordsOf b c t.log.records
+  pub number : IsMissing t.executed b c
 
--- its start isn't below low, and it has run whole
-pub record IsWhole (b : Booked) (c : ℕ) (r : Running) : Type 0 where
-  pub call : IsUnderWay b c r
-  pub fresh : IsNotStale b c
-  pub records : AreRecordsOf b c r.task.log.records
+-- a task has run whole after all commits
+pub record IsLatest (b : Booked) (c : ℕ) (t : Task) : Type 0 where
+  pub runs : RunsOn b.script c (table_at (work_in b) b.course.order (length b.course.order)) t
+  pub ended : t.ended ≡ true
+  pub records : t.log.records ≡ records_at (work_in b) b.course.order (length b.course.order) c
 
--- its records are those of a full run on the tables after all commits
-abbrev pub IsLastRun : Booked → ℕ → Running → Type 0
-IsLastRun b c r = r.task.log.records ≡ records_at (work_in b) b.course.order (length b.course.order) c
+-- it executed what a repair from the start of the live call executes
+abbrev pub HasRepaired : Booked → ℕ → Task → Type 0
+HasRepaired b c t = (l : Live) → IsLive b.course c l → t.executed ≡ repair_run (work_in b) b.course.order c l.start (length b.course.order)
 
--- a call of the script has run whole after all commits, by a repair from a start, or without one
-pub record IsLatest (b : Booked) (c : ℕ) (from : Option ℕ) (r : Running) : Type 0 where
-  pub there : c < length b.script.calls
-  pub runs : RunsOn b.script c (table_at (work_in b) b.course.order (length b.course.order)) r.task
-  pub whole : IsLastRun b c r
-  pub executed : IsExecuted (work_in b) b.course.order c from (length b.course.order) r
+-- more commits than the horizon were made after the start of a live call
+abbrev pub IsPastIn : Booked → ℕ → Type 0
+IsPastIn b c = (l : Live) → IsLive b.course c l → IsPast (work_in b).options.horizon l.start (length b.course.order)
 
--- it was repaired: it has run whole after all commits, and may commit
-pub record IsRestarted (old new : Booked) (c : ℕ) (r : Running) : Type 0 where
-  pub whole : IsWhole new c r
-  pub free : refusal (work_in new) new.course (C c) ≡ None
-  pub latest : (l : Live) → IsLive old.course c l → IsLatest new c (Some l.start) r
-
--- the start of a live call is below low
-abbrev pub IsStale : Booked → ℕ → Type 0
-IsStale b c = (l : Live) → IsLive b.course c l → is_stale b.course l ≡ true
-
--- a live call of the script, whose start is below low
-pub record IsLate (b : Booked) (c : ℕ) : Type 0 where
+-- a live call of the script, which may move
+pub record MayMove (b : Booked) (c : ℕ) : Type 0 where
   pub live : IsLiveCall b.course c
   pub there : c < length b.script.calls
-  pub stale : IsStale b c
+  pub past : IsPastIn b c
 
 -- whether a live call may be repaired or moved once more
 abbrev pub HasRound : Bool → Booked → ℕ → Type 0
@@ -137,45 +158,44 @@ repaired_from (t ∷ []) = None
 repaired_from (t ∷ u ∷ []) = repaired_by u.mark t.start
 repaired_from (t ∷ u ∷ v ∷ ts) = repaired_from (u ∷ v ∷ ts)
 
--- the history has the holder's call, with the same start and the same repair. In its first round its task has exactly a
--- record of each statement that the journal names
+-- a live call's last round has its number, or is no repair
+abbrev pub IsSettledOrWhole : Booked → ℕ → Type 0
+IsSettledOrWhole b c = (IsSettled b c → ⊥) → (l : Live) → IsLive b.course c l → repaired_from l.turns ≡ None
+
+-- the history has a live call with this start
+pub record StartsAt (b : Booked) (c start : ℕ) : Type 0 where
+  pub live : Live
+  pub is_live : IsLive b.course c live
+  pub start_is : live.start ≡ start
+
+-- the history has the holder's call, with the same start and the same repair
 pub record IsKnown (b : Booked) (h : Holding) : Type 0 where
   pub live : Live
   pub is_live : IsLive b.course h.call live
-  pub start : live.start ≡ h.start
+  pub start : live.start ≡ h.start.number
   pub from : repaired_from live.turns ≡ h.from
-  pub steps : used live ≡ 0 → live.steps ≡ length h.running.task.log.records
 
--- the holder's call is under way, with its start. While it has a statement left, its holder may have any task that the
--- holder's one runs on to
-pub record HasCall (s : BoardScript) (b : Booked) (h : Holding) : Type 0 where
-  pub call : IsUnderWay b h.call h.running
-  pub start : (l : Live) → IsLive b.course h.call l → h.start ≡ l.start
-  pub back : HasStep b h.call → (r : Running) → IsTaskIn b h.call r → HasRunOn h.running r → IsHeld s (record h { running = r })
+-- Results of holds
 
--- Results of events
+-- a start after all commits
+abbrev pub StartsLast : Started → Booked → Type 0
+StartsLast start b = (start.number ≡ length b.course.order) × (start.knows.seen ≡ b.course.order)
 
--- the next call began, after all commits, and has executed nothing; or every call has begun
-abbrev pub HandsOut : Result (Option Holding) NoMemory → Booked → Booked → Type 0
-HandsOut (Ok (Some h)) old new = Made (B h.call) old new × (h.start ≡ length old.course.order) × (h.from ≡ None) × (h.running.task.log.records ≡ [])
+-- the next call began, after all commits; or every call has begun
+abbrev pub HandsOut : Result (Option Waiting) NoMemory → Booked → Booked → Type 0
+HandsOut (Ok (Some w)) old new = Made (B w.call) old new × StartsLast w.start old
 HandsOut (Ok None) old new = (length old.course.calls ≡ length old.script.calls) × IsSame old new
 HandsOut (Err e) old new = IsSame old new
 
--- a statement was executed; or the call isn't known, or has no statement left, or its start is below low
-abbrev pub StepsOn : Holding → Result Bool NoMemory → Booked → Booked → Type 0
-StepsOn h (Ok true) old new = Made (S h.call) old new
-StepsOn h (Ok false) old new = IsSame old new × (IsKnown old h → HasStep old h.call → IsNotStale old h.call → ⊥)
-StepsOn h (Err e) old new = IsSame old new
-
--- a call whose start is below low, and which may move, moved
+-- a call that may move moved
 pub record Moves (c : ℕ) (old new : Booked) : Type 0 where
-  pub stale : IsStale old c
+  pub past : IsPastIn old c
   pub left : HasRound true old c
   pub made : Made (M c) old new
 
--- a call whose start is below low, and which had used its rounds, moved and committed in one step
+-- a call that may move, and had used its rounds, moved and committed in one step
 pub record MovesAndCommits (c : ℕ) (old new : Booked) : Type 0 where
-  pub stale : IsStale old c
+  pub past : IsPastIn old c
   pub none_left : HasRound false old c
   pub mid : Booked
   pub moved : Made (M c) old mid
@@ -187,38 +207,34 @@ pub record MovesAndCommits (c : ℕ) (old new : Booked) : Type 0 where
 abbrev pub Commits : ℕ → ℕ → Booked → Booked → Type 0
 Commits c n old new = (Made (C c) old new ⊎ (Made (X c) old new ⊎ MovesAndCommits c old new)) × (n ≡ length old.course.order + 1)
 
--- the call committed, or was repaired, or moved, or nothing happened
-abbrev pub Tries : ℕ → Result Answer NoMemory → Booked → Booked → Type 0
-Tries c (Ok (answer.Committed n)) old new = Commits c n old new
-Tries c (Ok answer.Repaired) old new = Made (A c) old new
-Tries c (Ok answer.Moved) old new = Moves c old new
-Tries c (Ok answer.Lost) old new = IsSame old new
-Tries c (Err e) old new = IsSame old new
+-- the call committed, or is to be repaired, or moved, or nothing happened
+abbrev pub Tries : ℕ → Answer → Booked → Booked → Type 0
+Tries c (answer.Committed n) old new = Commits c n old new
+Tries c answer.Repaired old new = Made (A c) old new
+Tries c answer.Moved old new = Moves c old new
+Tries c answer.Lost old new = IsSame old new
 
--- the same of a call that the history has, and its task: after a repair or a move it has run whole after all commits
-abbrev pub Meets : ℕ → Running → Result Answer NoMemory → Booked → Booked → Type 0
-Meets c r (Ok (answer.Committed n)) old new = Commits c n old new
-Meets c r (Ok answer.Repaired) old new = Made (A c) old new × IsRestarted old new c r
-Meets c r (Ok answer.Moved) old new = Moves c old new × IsLatest new c None r
-Meets c r (Ok answer.Lost) old new = ⊥
-Meets c r (Err e) old new = IsSame old new
+-- a call that is to be repaired is given back with its old start and a new one, after all commits
+abbrev pub GivesRepair : ℕ → ℕ → Answer → Option Repairing → Booked → Type 0
+GivesRepair c from answer.Repaired (Some r) new = (r.call ≡ c) × (r.from ≡ from) × StartsLast r.start new
+GivesRepair c from answer.Repaired None new = ⊥
+GivesRepair c from (answer.Committed n) r new = r ≡ None
+GivesRepair c from answer.Moved r new = r ≡ None
+GivesRepair c from answer.Lost r new = r ≡ None
 
--- the answer of an attempt, without the call that it gives back
-abbrev pub answer_in : {H : Type 0} → Result (Answer × H) NoMemory → Result Answer NoMemory
-answer_in (Ok r) = Ok r.0
-answer_in (Err e) = Err e
+-- a call that moved is given back with a start after all commits
+abbrev pub GivesMoved : ℕ → Answer → Option Waiting → Booked → Type 0
+GivesMoved c answer.Moved (Some w) new = (w.call ≡ c) × StartsLast w.start new
+GivesMoved c answer.Moved None new = ⊥
+GivesMoved c (answer.Committed n) w new = w ≡ None
+GivesMoved c answer.Repaired w new = w ≡ None
+GivesMoved c answer.Lost w new = w ≡ None
 
--- after a repair or a move the call is given back: it starts after all commits, has run whole there, and was repaired
--- from its old start, or ran anew
-abbrev pub GivesBack : Holding → Answer → Option Holding → Booked → Type 0
-GivesBack old answer.Repaired (Some h) new = (h.call ≡ old.call) × (h.start ≡ length new.course.order) × (h.from ≡ Some old.start) × IsLastRun new h.call h.running
-GivesBack old answer.Repaired None new = ⊥
-GivesBack old answer.Moved (Some h) new = (h.call ≡ old.call) × (h.start ≡ length new.course.order) × (h.from ≡ None) × IsLastRun new h.call h.running
-GivesBack old answer.Moved None new = ⊥
-GivesBack old (answer.Committed n) (Some h) new = ⊥
-GivesBack old (answer.Committed n) None new = Unit {0}
-GivesBack old answer.Lost (Some h) new = ⊥
-GivesBack old answer.Lost None new = Unit {0}
+-- old versions may be collected up to this low; without a horizon nothing happened
+abbrev pub Collects : Result (Option ℕ) NoMemory → Booked → Booked → Type 0
+Collects (Ok (Some low)) old new = Made G old new × (low ≡ new.course.low)
+Collects (Ok None) old new = ((work_in old).options.horizon ≡ None) × (new ≡ old)
+Collects (Err e) old new = IsSame old new
 
 -- The mark of the lock
 

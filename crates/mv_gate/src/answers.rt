@@ -5,9 +5,9 @@
 pub enum Answer {
     /// It has committed. This is the number of the commit.
     Committed(u32),
-    /// A commit after its start hit it. It was repaired, and starts anew after all commits.
+    /// A commit after its start hit it. It starts anew after all commits, and is to be repaired there.
     Repaired,
-    /// Its start was below low. It has moved: it starts anew after all commits, and has run whole.
+    /// Its start was too old. It has moved: it starts anew after all commits, and is to run whole there.
     Moved,
     /// The history doesn't have the call as its holder knows it. Nothing was done.
     Lost,

@@ -1,47 +1,53 @@
-//! The history of a run and its tables, in which events are made.
+//! The history of a run, in which events are made.
 
-ghost use Rattle.std.specs.Prelude.{◌≡◌, ◌≢◌, ◌↔◌, ◌<◌, ◌≤◌, [], None, Some, true, false, IsTrue, IfOk, OnOk, OnErr, length};
+ghost use Rattle.std.specs.Prelude.{◌≡◌, ◌↔◌, ◌<◌, ◌≤◌, ◌+◌, [], None, Some, true, false, ℕ, IsTrue, IfOk, IfSome, IfNone, OnOk, OnErr, length};
 ghost use mathlib.Core.List.{IsPrefix};
-ghost use Rattle.mv_seats.specs.Knowing.{Plain, gate_pass};
-ghost use Rattle.mv_lawful.specs.Lawful.{beginning, open_call, refusal};
+ghost use Rattle.mv_seats.specs.Knowing.{Plain, Gate};
+ghost use Rattle.mv_lawful.specs.Lawful.{Live, beginning, open_call, refusal};
 ghost use Rattle.mv_journal.specs.declared.event.Event.TheVariants.{A, M, C, X};
 ghost use Rattle.mv_script.specs.Scripts.{IsScript};
-ghost use Rattle.mv_core.specs.Calls.{IsLiveCall};
+ghost use Rattle.mv_shards.specs.Scripts.{script_in, work};
+ghost use Rattle.mv_shards.specs.Ledgers.{AreLastChanges};
+ghost use Rattle.mv_core.specs.Calls.{IsLive, IsLiveCall};
 ghost use Rattle.mv_core.specs.Books.{work_in, Made, IsSame, IsNotStale};
-ghost use Rattle.mv_core.specs.Cores.{HasRunOne, HasCommitted, HasCollected, HasMovedAndCommitted};
+ghost use Rattle.mv_core.specs.Cores.{HasCommitted, HasMovedAndCommitted};
 ghost use Rattle.mv_gate.specs.declared.answers.Answer.TheVariants as Answer;
 ghost use Rattle.mv_lawful.specs.declared.fault.Fault.TheVariants.{Conflict};
-ghost use Rattle.mv_gate.specs.Gates.{script_in, work, IsUnderWay, IsWhole, IsRestarted, IsLastRun, IsLatest, IsLate, HasRound, IsKnown, HasCall, HandsOut, StepsOn, Tries, Meets, answer_in, GivesBack, IsOutcome, IsDone, GoesOn};
+ghost use Rattle.mv_gate.specs.Gates.{IsWhole, IsPastIn, MayMove, HasRound, IsSettledOrWhole, StartsAt, StartsLast, IsKnown, HandsOut, Tries, GivesRepair, GivesMoved, Collects, IsOutcome, IsDone, GoesOn};
 
 use crate::answers::Answer;
-use crate::held::Held;
-use crate::notes::note;
-use crate::rounds::repaired_from;
+use crate::beside::Beside;
+use crate::held::{Begun, Held, Late, Repair};
+use crate::installing::install;
+use crate::latest::{last_tables, repair_last, run_last};
+use crate::rounds::{has_number, repaired_from};
+use crate::tried::Tried;
 use mv_core::book::{Book, Check};
-use mv_core::commits::{
-    collect_versions, decide_task, move_and_commit, move_last, outcome_of, settle_and_commit,
-};
-use mv_core::fresh::no_memory;
+use mv_core::running::run_all;
 use mv_core::shared::SharedScript;
 use mv_core::spare::Spare;
-use mv_core::tasks::{Running, finish_task, has_step, new_task, rerun_task, step_task, whole_task};
-use mv_journal::outcome::Outcome;
-use mv_script::script::Script;
+use mv_core::tasks::new_task;
+use mv_exec::task::Task;
+use mv_journal::outcome::{Mark, Outcome};
 use mv_seats::board::{Board, Making};
 use mv_seats::pass::Pass;
-use mv_store::store::Store;
-use mv_store::view::StoreView;
+use mv_shards::ledger::Ledger;
+use mv_shards::start::Start;
+use mv_shards::view::ShardsView;
+use mv_values::copied::Copied;
+use mv_values::list::List;
 use mv_values::memory::NoMemory;
 use std::alloc::Global;
 use std::marker::Model;
-use std::mem;
+use std::sync::Wait;
 
-/// The history of a run, its tables, and the gate's pass. Contracts see the history.
+/// The history of a run, and what the gate keeps of the shards. Contracts see the history.
 #[derive(Drop)]
 pub struct Desk<N: Making> {
     book: Book,
-    store: Store,
-    pass: Pass<N>,
+    ledger: Ledger<N>,
+    /// For each call that has begun, the last change of each shard up to its start. A call that has committed has none.
+    starts: Vec<Option<List<u32>>>,
 }
 
 impl<N: Making> Model for Desk<N> {
@@ -56,50 +62,94 @@ impl<N: Making> Model for Desk<N> {
 
     ghost view = { λ d. d.book };
 
-    ghost invariant = { λ d. IsDesk N.script d.book d.store d.pass };
+    ghost invariant = { λ d. IsDesk N.script d.book d.ledger d.starts.items };
+}
+
+/// Returns the start after all commits, and once more for each shard its last change up to there. The start's pass has
+/// seen what the other pass had seen.
+fn next_start<N: Making>(
+    alloc: Global,
+    board: &Board<N>,
+    ledger: &mut Ledger<N>,
+    other: &mut Pass<N>,
+) -> Result<(Start<N>, List<u32>), NoMemory>
+    requires { other.old.role ≡ Plain }
+    ensures same { other.new ≡ other.old }
+    ensures commits { ledger.new.commits ≡ ledger.old.commits }
+    ensures kept { ledger.new.knows.seen ≡ ledger.old.knows.seen }
+    ensures number { IfOk result (λ both. both.0.number ≡ ledger.old.commits) }
+    ensures whole { IfOk result (λ both. both.0.knows.seen ≡ ledger.old.knows.seen) }
+    ensures touched { IfOk result (λ both. AreLastChanges N.script ledger.old.knows.seen ledger.old.commits both.1) }
+    ensures seen { IfOk result (λ both. IsPrefix other.old.seen both.0.knows.seen) }
+{
+    let start = ledger.start(alloc, board, other)?;
+    let touched = start.touched().copy(alloc)?;
+    Ok((start, touched))
 }
 
 impl<N: Making> Desk<N> {
-    /// Returns a desk before any event. It copies the opening database. Fails with `NoMemory` if memory runs out.
-    pub fn new(alloc: Global, script: Script, pass: Pass<N>) -> Result<Desk<N>, NoMemory>
+    /// Returns a desk before any event. The pass must be the gate's, as `Shards::new` leaves it. Fails with `NoMemory` if
+    /// memory runs out.
+    pub fn new(alloc: Global, script: SharedScript, pass: Pass<N>) -> Result<Desk<N>, NoMemory>
         requires sound { IsScript script }
         requires script { script ≡ script_in N.script }
-        requires pass { pass ≡ gate_pass }
+        requires role { pass.role ≡ Gate }
+        requires seen { pass.seen ≡ [] }
         ensures script { IfOk result (λ desk. desk.script ≡ script) }
         ensures course { IfOk result (λ desk. desk.course ≡ beginning) }
         ensures journal { IfOk result (λ desk. desk.journal ≡ []) }
     {
-        let store = Store::new(alloc, &script.opening)?;
-        let script = SharedScript::new(alloc, script)?;
+        let ledger = Ledger::new(alloc, pass)?;
         let book = Book::new(alloc, script);
-        Ok(Desk { book, store, pass })
+        Ok(Desk {
+            book,
+            ledger,
+            starts: Vec::new(alloc),
+        })
     }
 
-    /// Event B. Begins the next call, after all commits, and hands it out with the spare log. It copies the call's
-    /// arguments. Returns `None` exactly if each call has begun. Fails with `NoMemory` if memory runs out. Then the call
-    /// hasn't begun.
+    /// Event B. Begins the next call, after all commits, and hands it out. Its pass has seen what the other pass had seen.
+    /// Returns `None` exactly if each call has begun. Fails with `NoMemory` if memory runs out. Then the call hasn't begun.
     pub fn begin(
         &mut self,
         alloc: Global,
         board: &Board<N>,
-        spare: &mut Spare,
-    ) -> Result<Option<Held<N>>, NoMemory>
-        ensures { HandsOut result self.old self.new }
+        other: &mut Pass<N>,
+    ) -> Result<Option<Begun<N>>, NoMemory>
+        requires { other.old.role ≡ Plain }
+        ensures begun { HandsOut result self.old self.new }
+        ensures same { other.new ≡ other.old }
     {
-        let Some(call) = self.book.next_call() else {
+        let Some(_next) = self.book.next_call() else {
             return Ok(None);
         };
-        let task = new_task(alloc, self.book.script(), call, spare)?;
+        let (start, touched) = next_start(alloc, board, &mut self.ledger, other)?;
+        self.starts.reserve(1)?;
         let Some(begun) = self.book.begin(alloc)? else {
             unreachable!();
         };
-        Ok(Some(Held {
-            call: begun.call,
-            start: begun.start,
-            from: None,
-            running: Running { task, count: None },
-            pass: note(&mut self.pass, board),
-        }))
+        if self.starts.push(Some(touched)).is_err() {
+            unreachable!();
+        }
+        let call = begun.call;
+        Ok(Some(Begun { call, start }))
+    }
+
+    /// Returns the start after all commits. It is no event. The start's pass has seen what the other pass had seen. Fails
+    /// with `NoMemory` if memory runs out.
+    pub fn snapshot(
+        &mut self,
+        alloc: Global,
+        board: &Board<N>,
+        other: &mut Pass<N>,
+    ) -> Result<Start<N>, NoMemory>
+        requires { other.old.role ≡ Plain }
+        ensures kept { self.new ≡ self.old }
+        ensures same { other.new ≡ other.old }
+        ensures last { IfOk result (λ start. StartsLast start self.old) }
+        ensures seen { IfOk result (λ start. IsPrefix other.old.seen start.knows.seen) }
+    {
+        self.ledger.start(alloc, board, other)
     }
 
     /// Splits off a plain pass that has seen all commits.
@@ -108,333 +158,363 @@ impl<N: Making> Desk<N> {
         ensures role { result.role ≡ Plain }
         ensures seen { result.seen ≡ self.old.course.order }
     {
-        note(&mut self.pass, board)
+        self.ledger.pass_for(board)
     }
 
-    /// Learns that what the holder of a call has seen begins the history.
-    fn see(&mut self, board: &Board<N>, held: &mut Held<N>)
-        ensures same { self.new ≡ self.old }
-        ensures held { held.new ≡ held.old }
-        ensures seen { IsPrefix held.old.knows.seen self.old.course.order }
+    /// Whether the history has a live call with this start.
+    fn finds(&self, call: u32, start: u32) -> bool
+        ensures { IsTrue result ↔ StartsAt self.now call start }
     {
-        let note = note(&mut held.pass, board);
-        self.pass.meet(board, note);
+        let Some(_rounds) = self.book.rounds(call) else {
+            return false;
+        };
+        self.book.start(call) == start
     }
 
-    /// Whether the history has the call as its holder knows it: live, with the same start and the same repair. In the
-    /// call's first round the holder must have run exactly the statements that the journal names.
+    /// Whether the history has the call as its holder knows it: live, with the same start and the same repair.
     fn has(&self, held: &Held<N>) -> bool
-        requires { IsPrefix held.now.knows.seen self.now.course.order }
+        requires { IsPrefix held.now.start.knows.seen self.now.course.order }
         ensures known { IsTrue result ↔ IsKnown self.now held.now }
-        ensures call { IsTrue result → HasCall N.script self.now held.now }
+        ensures whole { IsTrue result → held.now.task.ended ≡ true → IsWhole self.now held.now.call held.now.task }
     {
         let Some(rounds) = self.book.rounds(held.call) else {
             return false;
         };
         let start = self.book.start(held.call);
-        if start != held.start {
+        if start != held.start.number() {
             return false;
         }
-        if repaired_from(rounds) != held.from {
-            return false;
-        }
-        rounds.len() > 1 || self.book.steps(held.call) == held.running.task.records().len()
-    }
-
-    /// Event S. Executes the next statement of a call that its holder runs, and no other, over the tables at its start. Returns false,
-    /// and does nothing, only if the call has no statement left, or its start is below low, or the history doesn't have
-    /// it as its holder knows it. Fails with `NoMemory` if memory runs out. Then the event wasn't made, and the call can go on.
-    /// If the history had the call as its holder knows it, it still does.
-    pub fn step(
-        &mut self,
-        alloc: Global,
-        board: &Board<N>,
-        held: &mut Held<N>,
-    ) -> Result<bool, NoMemory>
-        ensures made { StepsOn held.old result self.old self.new }
-        ensures one { IfOk result (λ ran. ran ≡ true → HasRunOne held.old.running.task held.new.running.task) }
-        ensures none { IfOk result (λ ran. ran ≡ false → held.new ≡ held.old) }
-        ensures known { IsKnown self.old held.old → IsKnown self.new held.new }
-        ensures call { held.new.call ≡ held.old.call }
-        ensures start { held.new.start ≡ held.old.start }
-        ensures from { held.new.from ≡ held.old.from }
-        ensures knows { held.new.knows ≡ held.old.knows }
-    {
-        self.see(board, held);
-        if !self.has(held) {
-            return Ok(false);
-        }
-        if self.book.is_stale(held.call) {
-            return Ok(false);
-        }
-        if !has_step(&self.book, held.call, &held.running) {
-            return Ok(false);
-        }
-        self.book.reserve(held.call)?;
-        let mut view = StoreView::new(&self.store, self.book.start(held.call));
-        if let Err(why) = step_task(alloc, &self.book, &mut view, held.call, &mut held.running) {
-            return Err(no_memory(why));
-        }
-        self.book.ran(held.call);
-        Ok(true)
+        repaired_from(rounds) == held.from
     }
 
     /// Event C of a call whose task has run whole.
-    fn commit(
+    fn commit<R: Wait>(
         &mut self,
         alloc: Global,
-        board: &Board<N>,
+        beside: &Beside<'_, N, R>,
         call: u32,
-        running: &Running,
+        task: &Task,
     ) -> Result<u32, NoMemory>
-        requires whole { IsWhole self.old call running.now }
+        requires whole { IsWhole self.old call task.now }
         requires allowed { refusal (work_in self.old) self.old.course (C call) ≡ None }
         ensures { HasCommitted (C call) result self.old self.new }
     {
         let _events = self.book.journal();
-        let task = &running.task;
-        let commit = settle_and_commit(alloc, &mut self.book, &mut self.store, call, task)?;
-        self.pass.append(board, call);
+        self.book.settle(call, task);
+        self.book.reserve(call)?;
+        let installed = install(alloc, beside, &mut self.ledger, call, task)?;
+        let changes = Some(installed.changes);
+        let commit = self.book.commit(call, installed.reply, changes, None);
+        self.starts[call as usize] = None;
         Ok(commit)
     }
 
-    /// Event A of a call whose task has run whole.
-    fn again(&mut self, alloc: Global, call: u32, running: &mut Running) -> Result<(), NoMemory>
-        requires whole { IsWhole self.old call running.old }
-        requires ended { running.old.task.ended ≡ true }
-        requires allowed { refusal (work_in self.old) self.old.course (A call) ≡ None }
-        ensures ok { OnOk result (Made (A call) self.old self.new) }
-        ensures restarted { OnOk result (IsRestarted self.old self.new call running.new) }
-        ensures err { OnErr result (IsSame self.old self.new) }
-    {
-        let _events = self.book.journal();
-        let mut view = StoreView::new(&self.store, self.book.commits());
-        if let Err(why) = rerun_task(alloc, &mut self.book, &mut view, call, running) {
-            return Err(no_memory(why));
-        }
-        Ok(())
-    }
-
     /// Event X of a call whose task has run whole.
-    fn exclusive(
+    fn exclusive<R: Wait>(
         &mut self,
         alloc: Global,
-        board: &Board<N>,
+        beside: &Beside<'_, N, R>,
         call: u32,
-        running: &mut Running,
+        task: &mut Task,
     ) -> Result<u32, NoMemory>
-        requires whole { IsWhole self.old call running.old }
-        requires ended { running.old.task.ended ≡ true }
+        requires whole { IsWhole self.old call task.old }
+        requires fresh { IsNotStale self.old call }
         requires allowed { refusal (work_in self.old) self.old.course (X call) ≡ None }
         ensures { HasCommitted (X call) result self.old self.new }
     {
         let _events = self.book.journal();
-        let commit = decide_task(alloc, &mut self.book, &mut self.store, call, running)?;
-        self.pass.append(board, call);
+        self.book.settle(call, task);
+        self.book.reserve(call)?;
+        repair_last(alloc, beside, &self.book, &mut self.ledger, call, task)?;
+        let installed = install(alloc, beside, &mut self.ledger, call, task)?;
+        let changes = Some(installed.changes);
+        let commit = self
+            .book
+            .commit(call, installed.reply, changes, Some(&*task));
+        self.starts[call as usize] = None;
         Ok(commit)
     }
 
-    /// Event M of a call whose start is below low. Runs it whole on the tables after all commits, and returns its task,
-    /// which has the spare log.
-    fn move_up(&mut self, alloc: Global, call: u32, spare: &mut Spare) -> Result<Running, NoMemory>
-        requires call { IsLate self.old call }
-        requires left { HasRound true self.old call }
-        ensures ok { OnOk result (Made (M call) self.old self.new) }
-        ensures latest { IfOk result (IsLatest self.new call None) }
-        ensures err { OnErr result (IsSame self.old self.new) }
-    {
-        let _events = self.book.journal();
-        let task = move_last(alloc, &mut self.book, &self.store, call, spare)?;
-        Ok(Running { task, count: None })
-    }
-
-    /// Events M and C of a call whose start is below low. All memory is taken before the first event. So no call is left
-    /// that has moved here and hasn't committed.
-    fn move_and_commit(
+    /// Events M and C of a call whose start lies further back than the horizon. All memory is taken before the first
+    /// event. So no call is left that has moved here and hasn't committed.
+    fn move_and_commit<R: Wait>(
         &mut self,
         alloc: Global,
-        board: &Board<N>,
+        beside: &Beside<'_, N, R>,
         call: u32,
         spare: &mut Spare,
     ) -> Result<u32, NoMemory>
-        requires { IsLate self.old call }
+        requires { MayMove self.old call }
         ensures { HasMovedAndCommitted call result self.old self.new }
     {
         let _events = self.book.journal();
-        let commit = move_and_commit(alloc, &mut self.book, &mut self.store, call, spare)?;
-        self.pass.append(board, call);
+        let task = run_last(alloc, beside, &mut self.ledger, call, spare)?;
+        self.book.reserve(call)?;
+        let installed = install(alloc, beside, &mut self.ledger, call, &task)?;
+        self.book.restart(call, Mark::Moved);
+        self.book.settle(call, &task);
+        let changes = Some(installed.changes);
+        let commit = self.book.commit(call, installed.reply, changes, None);
+        self.starts[call as usize] = None;
         Ok(commit)
     }
 
-    /// Event C, A, X or M of a live call, or M and C. If its start is below low, it moves. If not, it commits, or is
-    /// repaired if a commit after its start hits it. Once it has used its rounds, it commits in the same step.
-    fn try_commit(
+    /// Event A of a call whose task has run whole. It has still to be repaired at its new start.
+    fn again(
         &mut self,
         alloc: Global,
         board: &Board<N>,
         call: u32,
-        running: &mut Running,
-        spare: &mut Spare,
-    ) -> Result<Answer, NoMemory>
-        requires { IsUnderWay self.old call running.old }
-        ensures { Meets call running.new result self.old self.new }
-    {
-        if self.book.is_stale(call) {
-            return self.meet_stale(alloc, board, call, running, spare);
-        }
-        self.decide(alloc, board, call, running)
-    }
-
-    /// Event M of a call whose start is below low, or M and C if it has used its rounds.
-    fn meet_stale(
-        &mut self,
-        alloc: Global,
-        board: &Board<N>,
-        call: u32,
-        running: &mut Running,
-        spare: &mut Spare,
-    ) -> Result<Answer, NoMemory>
-        requires { IsLate self.old call }
-        ensures { Meets call running.new result self.old self.new }
-    {
-        if self.book.has_round(call) {
-            let moved = self.move_up(alloc, call, spare)?;
-            let before = mem::replace(running, moved);
-            spare.keep(before.task);
-            return Ok(Answer::Moved);
-        }
-        let commit = self.move_and_commit(alloc, board, call, spare)?;
-        Ok(Answer::Committed(commit))
-    }
-
-    /// Event C, A or X of a live call, whose start isn't below low. First it runs the rest of the call at its start. If no
-    /// commit after the start hits the call, it commits. If one does, it is repaired. Once it has used its rounds, it
-    /// commits in the same step.
-    fn decide(
-        &mut self,
-        alloc: Global,
-        board: &Board<N>,
-        call: u32,
-        running: &mut Running,
-    ) -> Result<Answer, NoMemory>
-        requires call { IsUnderWay self.old call running.old }
+        mut start: Start<N>,
+        task: Task,
+    ) -> Result<Repair<N>, NoMemory>
+        requires whole { IsWhole self.old call task }
+        requires start { (l : Live) → IsLive self.old.course call l → l.start ≡ start.number }
         requires fresh { IsNotStale self.old call }
-        ensures met { Meets call running.new result self.old self.new }
-        ensures stays { IfOk result (λ answer. answer ≢ Answer.Moved) }
+        requires allowed { refusal (work_in self.old) self.old.course (A call) ≡ None }
+        ensures ok { OnOk result (Made (A call) self.old self.new) }
+        ensures call { IfOk result (λ repair. repair.call ≡ call) }
+        ensures from { IfOk result (λ repair. repair.from ≡ start.number) }
+        ensures last { IfOk result (λ repair. StartsLast repair.start self.new) }
+        ensures err { OnErr result (IsSame self.old self.new) }
     {
-        let mut view = StoreView::new(&self.store, self.book.start(call));
-        if let Err(why) = finish_task(alloc, &self.book, &mut view, call, running) {
-            return Err(no_memory(why));
-        }
-        match self.book.check(call, &running.task) {
-            Check::Free => {
-                let commit = self.commit(alloc, board, call, running)?;
-                Ok(Answer::Committed(commit))
-            }
-            Check::Hit { .. } => self.meet_hit(alloc, board, call, running),
-            Check::Stale { .. } => unreachable!(),
-        }
+        let _events = self.book.journal();
+        let from = start.number();
+        self.book.settle(call, &task);
+        self.book.reserve(call)?;
+        let since = self.book.copy_since(alloc, call)?;
+        let mut seen = start.pass_for(board);
+        let (next, touched) = next_start(alloc, board, &mut self.ledger, &mut seen)?;
+        self.book.restart(call, Mark::Plain);
+        self.starts[call as usize] = Some(touched);
+        Ok(Repair {
+            call,
+            start: next,
+            from,
+            task,
+            since,
+        })
+    }
+
+    /// Event M of a call whose start lies further back than the horizon. It has still to run at its new start.
+    fn move_up(
+        &mut self,
+        alloc: Global,
+        board: &Board<N>,
+        call: u32,
+        seen: &mut Pass<N>,
+    ) -> Result<Begun<N>, NoMemory>
+        requires call { MayMove self.old call }
+        requires left { HasRound true self.old call }
+        requires plain { seen.old.role ≡ Plain }
+        ensures ok { OnOk result (Made (M call) self.old self.new) }
+        ensures call { IfOk result (λ begun. begun.call ≡ call) }
+        ensures last { IfOk result (λ begun. StartsLast begun.start self.new) }
+        ensures err { OnErr result (IsSame self.old self.new) }
+    {
+        let _events = self.book.journal();
+        self.book.reserve(call)?;
+        let (start, touched) = next_start(alloc, board, &mut self.ledger, seen)?;
+        self.book.restart(call, Mark::Moved);
+        self.starts[call as usize] = Some(touched);
+        Ok(Begun { call, start })
     }
 
     /// Event A or X of a call whose task has run whole.
-    fn meet_hit(
+    fn meet_hit<R: Wait>(
         &mut self,
         alloc: Global,
-        board: &Board<N>,
+        beside: &Beside<'_, N, R>,
         call: u32,
-        running: &mut Running,
-    ) -> Result<Answer, NoMemory>
-        requires whole { IsWhole self.old call running.old }
-        requires ended { running.old.task.ended ≡ true }
+        start: Start<N>,
+        mut task: Task,
+        spare: &mut Spare,
+    ) -> Result<Tried<N>, NoMemory>
+        requires whole { IsWhole self.old call task }
+        requires start { (l : Live) → IsLive self.old.course call l → l.start ≡ start.number }
         requires hit { refusal (work_in self.old) self.old.course (C call) ≡ Some Conflict }
-        ensures met { Meets call running.new result self.old self.new }
-        ensures stays { IfOk result (λ answer. answer ≢ Answer.Moved) }
+        ensures ok { IfOk result (λ tried. Tries call tried.answer self.old self.new) }
+        ensures err { OnErr result (IsSame self.old self.new) }
+        ensures stays { IfOk result (λ tried. tried.answer ≡ Answer.Lost → ⊥) }
+        ensures repair { IfOk result (λ tried. GivesRepair call start.number tried.answer tried.repair self.new) }
+        ensures moved { IfOk result (λ tried. GivesMoved call tried.answer tried.moved self.new) }
     {
         if self.book.has_round(call) {
-            self.again(alloc, call, running)?;
-            return Ok(Answer::Repaired);
+            let repair = self.again(alloc, beside.board, call, start, task)?;
+            return Ok(Tried {
+                answer: Answer::Repaired,
+                repair: Some(repair),
+                moved: None,
+            });
         }
-        let commit = self.exclusive(alloc, board, call, running)?;
-        Ok(Answer::Committed(commit))
+        let commit = self.exclusive(alloc, beside, call, &mut task)?;
+        spare.keep(task);
+        Ok(Tried {
+            answer: Answer::Committed(commit),
+            repair: None,
+            moved: None,
+        })
     }
 
-    /// Tries to commit a call that its holder gives up, by one event: C, A, X or M; or by M and C, if its start is below
-    /// low and it has used its rounds. Before C, A and X it runs the rest of the call at its start. After a repair or a
-    /// move the call is given back. It then starts anew after all commits. Returns `Lost`, and does nothing, only if the
-    /// history doesn't have the call as its holder knows it. Fails with `NoMemory` if memory runs out. Then no event was
-    /// made, and the call is left to `commit_all_left`. Keeps the log of a call that has committed.
-    pub fn attempt(
+    /// Event M of a call whose start lies further back than the horizon, or M and C if it has used its rounds.
+    fn meet_late<R: Wait>(
         &mut self,
         alloc: Global,
-        board: &Board<N>,
+        beside: &Beside<'_, N, R>,
+        call: u32,
+        seen: &mut Pass<N>,
+        spare: &mut Spare,
+    ) -> Result<Tried<N>, NoMemory>
+        requires call { MayMove self.old call }
+        requires plain { seen.old.role ≡ Plain }
+        ensures ok { IfOk result (λ tried. Tries call tried.answer self.old self.new) }
+        ensures err { OnErr result (IsSame self.old self.new) }
+        ensures stays { IfOk result (λ tried. tried.answer ≡ Answer.Lost → ⊥) }
+        ensures repair { (from : ℕ) → IfOk result (λ tried. GivesRepair call from tried.answer tried.repair self.new) }
+        ensures moved { IfOk result (λ tried. GivesMoved call tried.answer tried.moved self.new) }
+    {
+        if self.book.has_round(call) {
+            let moved = self.move_up(alloc, beside.board, call, seen)?;
+            return Ok(Tried {
+                answer: Answer::Moved,
+                repair: None,
+                moved: Some(moved),
+            });
+        }
+        let commit = self.move_and_commit(alloc, beside, call, spare)?;
+        Ok(Tried {
+            answer: Answer::Committed(commit),
+            repair: None,
+            moved: None,
+        })
+    }
+
+    /// Event C, A, X or M of a call whose task has run whole, or M and C.
+    fn decide<R: Wait>(
+        &mut self,
+        alloc: Global,
+        beside: &Beside<'_, N, R>,
+        call: u32,
+        mut start: Start<N>,
+        task: Task,
+        spare: &mut Spare,
+    ) -> Result<Tried<N>, NoMemory>
+        requires whole { IsWhole self.old call task }
+        requires start { (l : Live) → IsLive self.old.course call l → l.start ≡ start.number }
+        ensures ok { IfOk result (λ tried. Tries call tried.answer self.old self.new) }
+        ensures err { OnErr result (IsSame self.old self.new) }
+        ensures stays { IfOk result (λ tried. tried.answer ≡ Answer.Lost → ⊥) }
+        ensures repair { IfOk result (λ tried. GivesRepair call start.number tried.answer tried.repair self.new) }
+        ensures moved { IfOk result (λ tried. GivesMoved call tried.answer tried.moved self.new) }
+    {
+        let _events = self.book.journal();
+        match self.book.check(call, &task) {
+            Check::Free => {
+                let commit = self.commit(alloc, beside, call, &task)?;
+                spare.keep(task);
+                Ok(Tried {
+                    answer: Answer::Committed(commit),
+                    repair: None,
+                    moved: None,
+                })
+            }
+            Check::Hit { .. } => self.meet_hit(alloc, beside, call, start, task, spare),
+            Check::Stale { .. } => {
+                spare.keep(task);
+                let mut seen = start.pass_for(beside.board);
+                self.meet_late(alloc, beside, call, &mut seen, spare)
+            }
+        }
+    }
+
+    /// Tries to commit a call that has run whole and that its holder gives up, by one event: C, A, X or M; or by M and C,
+    /// if its start is below low and it has used its rounds. A call that is to be repaired, or that has moved, is given
+    /// back with a start after all commits. Keeps the log of any other call. Returns `Lost`, and does nothing, only if the
+    /// history doesn't have the call as its holder knows it. Fails with `NoMemory` if memory runs out. Then no event was
+    /// made, and the call is left to `commit_all_left`.
+    pub fn attempt<R: Wait>(
+        &mut self,
+        alloc: Global,
+        beside: &Beside<'_, N, R>,
         mut held: Held<N>,
         spare: &mut Spare,
-    ) -> Result<(Answer, Option<Held<N>>), NoMemory>
-        ensures tried { Tries held.call (answer_in result) self.old self.new }
-        ensures lost { IfOk result (λ r. r.0 ≡ Answer.Lost → IsKnown self.old held → ⊥) }
-        ensures back { IfOk result (λ r. GivesBack held r.0 r.1 self.new) }
+    ) -> Result<Tried<N>, NoMemory>
+        requires { held.task.ended ≡ true }
+        ensures ok { IfOk result (λ tried. Tries held.call tried.answer self.old self.new) }
+        ensures err { OnErr result (IsSame self.old self.new) }
+        ensures lost { IfOk result (λ tried. tried.answer ≡ Answer.Lost → IsKnown self.old held → ⊥) }
+        ensures repair { IfOk result (λ tried. GivesRepair held.call held.start.number tried.answer tried.repair self.new) }
+        ensures moved { IfOk result (λ tried. GivesMoved held.call tried.answer tried.moved self.new) }
     {
-        self.see(board, &mut held);
+        let seen = held.pass_for(beside.board);
+        self.learn(beside.board, seen);
         if !self.has(&held) {
-            return Ok((Answer::Lost, None));
+            return Ok(Tried {
+                answer: Answer::Lost,
+                repair: None,
+                moved: None,
+            });
         }
         let Held {
             call,
             start,
-            mut running,
-            pass,
+            task,
             ..
         } = held;
-        match self.try_commit(alloc, board, call, &mut running, spare)? {
-            Answer::Repaired => {
-                let repaired = self.give_back(board, call, Some(start), running, pass);
-                Ok((Answer::Repaired, Some(repaired)))
-            }
-            Answer::Moved => {
-                let moved = self.give_back(board, call, None, running, pass);
-                Ok((Answer::Moved, Some(moved)))
-            }
-            answer => {
-                spare.keep(running.task);
-                Ok((answer, None))
-            }
-        }
+        self.decide(alloc, beside, call, start, task, spare)
     }
 
-    /// Gives a call that has run whole after all commits to a holder with this pass. The pass comes to know them.
-    fn give_back(
-        &mut self,
-        board: &Board<N>,
-        call: u32,
-        from: Option<u32>,
-        running: Running,
-        mut pass: Pass<N>,
-    ) -> Held<N>
-        requires latest { IsLatest self.old call from running }
-        requires role { pass.role ≡ Plain }
+    /// Learns that what a plain pass has seen begins the history.
+    fn learn(&mut self, board: &Board<N>, other: Pass<N>)
+        requires { other.role ≡ Plain }
         ensures same { self.new ≡ self.old }
-        ensures call { result.call ≡ call }
-        ensures start { result.start ≡ length self.old.course.order }
-        ensures from { result.from ≡ from }
-        ensures whole { IsLastRun self.new result.call result.running }
+        ensures seen { IsPrefix other.seen self.old.course.order }
+        ensures script { self.old.script ≡ script_in N.script }
     {
-        let news = note(&mut self.pass, board);
-        pass.meet(board, news);
-        Held {
-            call,
-            start: self.book.commits(),
-            from,
-            running,
-            pass,
-        }
+        self.ledger.meet(board, other);
     }
 
-    /// Event G. Collects old versions. With a horizon, this makes calls with older starts stale. Fails with `NoMemory` if
-    /// memory runs out, and then nothing is collected.
-    pub fn collect(&mut self) -> Result<(), NoMemory>
-        ensures { HasCollected result self.old self.new }
+    /// Event M of a call whose holder found that its start lies further back than the horizon, or M and C, if it has used
+    /// its rounds. Returns `Lost`, and does nothing, only if the history doesn't have the call with this start. Fails with
+    /// `NoMemory` if memory runs out. Then no event was made, and the call is left to `commit_all_left`.
+    pub fn move_late<R: Wait>(
+        &mut self,
+        alloc: Global,
+        beside: &Beside<'_, N, R>,
+        late: Late<N>,
+        spare: &mut Spare,
+    ) -> Result<Tried<N>, NoMemory>
+        ensures ok { IfOk result (λ tried. Tries late.call tried.answer self.old self.new) }
+        ensures err { OnErr result (IsSame self.old self.new) }
+        ensures lost { IfOk result (λ tried. tried.answer ≡ Answer.Lost → StartsAt self.old late.call late.start.number → ⊥) }
+        ensures repair { (from : ℕ) → IfOk result (λ tried. GivesRepair late.call from tried.answer tried.repair self.new) }
+        ensures moved { IfOk result (λ tried. GivesMoved late.call tried.answer tried.moved self.new) }
     {
-        collect_versions(&mut self.book, &mut self.store)
+        let Late { call, mut start } = late;
+        let seen = start.pass_for(beside.board);
+        self.learn(beside.board, seen);
+        let number = start.number();
+        if !self.finds(call, number) {
+            return Ok(Tried {
+                answer: Answer::Lost,
+                repair: None,
+                moved: None,
+            });
+        }
+        let mut seen = start.pass_for(beside.board);
+        self.meet_late(alloc, beside, call, &mut seen, spare)
+    }
+
+    /// Event G, if a horizon is given. This makes calls with older starts stale. Returns the new low, up to which the
+    /// shards may be collected. Fails with `NoMemory` if memory runs out, and then nothing is collected.
+    pub fn collect(&mut self) -> Result<Option<u32>, NoMemory>
+        ensures { Collects result self.old self.new }
+    {
+        if self.book.script().options.horizon.is_none() {
+            return Ok(None);
+        }
+        self.book.reserve_event()?;
+        Ok(Some(self.book.collect()))
     }
 
     /// Returns the number of calls of the script.
@@ -444,30 +524,149 @@ impl<N: Making> Desk<N> {
         self.book.script().calls.len() as u32
     }
 
-    /// Runs a live call whole anew, at its start, which isn't below low, with the spare log. Fails with `NoMemory` if memory
-    /// runs out.
-    fn renew(&self, alloc: Global, call: u32, spare: &mut Spare) -> Result<Running, NoMemory>
-        requires live { IsLiveCall self.now.course call }
-        requires number { call < length self.now.script.calls }
-        requires fresh { IsNotStale self.now call }
-        ensures { IfOk result (IsUnderWay self.now call) }
+    /// Whether the last round of a live call is a repair that has no number yet.
+    fn is_unrepaired(&self, call: u32) -> bool
+        requires { IsLiveCall self.now.course call }
+        ensures { result ≡ false → IsSettledOrWhole self.now call }
     {
-        let start = self.book.start(call);
-        let mut view = StoreView::new(&self.store, start);
-        match whole_task(alloc, self.book.script(), call, &mut view, spare) {
-            Ok(task) => {
-                let count = Some(self.book.number(call, &task));
-                Ok(Running { task, count })
+        let Some(rounds) = self.book.rounds(call) else {
+            unreachable!();
+        };
+        if has_number(rounds) {
+            return false;
+        }
+        repaired_from(rounds).is_some()
+    }
+
+    /// Returns the start of a live call.
+    fn start_of(&mut self, alloc: Global, board: &Board<N>, call: u32) -> Result<Start<N>, NoMemory>
+        requires { IsLiveCall self.old.course call }
+        ensures same { self.new ≡ self.old }
+        ensures number { IfOk result (λ start. (l : Live) → IsLive self.old.course call l → start.number ≡ l.start) }
+        ensures seen { IfOk result (λ start. start.knows.seen ≡ self.old.course.order) }
+    {
+        let number = self.book.start(call);
+        let Some(touched) = &self.starts[call as usize] else {
+            unreachable!();
+        };
+        let touched = touched.copy(alloc)?;
+        Ok(self.ledger.start_at(board, number, touched))
+    }
+
+    /// Runs a live call whole anew, at its start. Returns `None` only if the start lies further back than the horizon. Fails
+    /// with `NoMemory` if memory runs out, and if the call's last round is a repair that has no number.
+    fn renew<R: Wait>(
+        &mut self,
+        alloc: Global,
+        beside: &Beside<'_, N, R>,
+        call: u32,
+        spare: &mut Spare,
+    ) -> Result<Option<Task>, NoMemory>
+        requires live { IsLiveCall self.old.course call }
+        requires number { call < length self.old.script.calls }
+        ensures same { self.new ≡ self.old }
+        ensures whole { IfOk result (λ task. IfSome task (IsWhole self.old call)) }
+        ensures past { IfOk result (λ task. IfNone task (IsPastIn self.old call)) }
+    {
+        if self.is_unrepaired(call) {
+            return Err(NoMemory);
+        }
+        let mut start = self.start_of(alloc, beside.board, call)?;
+        let number = start.number();
+        let _book = &self.book;
+        let mut task = new_task(alloc, beside.script, call, spare)?;
+        let mut view = ShardsView::new(beside.rt, beside.shards, beside.board, &mut start);
+        match run_all(alloc, beside.script, call, &mut task, &mut view) {
+            Ok(()) => Ok(Some(task)),
+            Err(why) => {
+                self.ledger.refused(beside.board, view, number, why)?;
+                Ok(None)
             }
-            Err(why) => Err(no_memory(why)),
         }
     }
 
-    /// Commits a live call that no worker holds any more. If its start is below low, it moves first.
-    fn commit_left(
+    /// Commits a live call whose task has run whole, by C, by A and C, or by X.
+    fn finish_left<R: Wait>(
         &mut self,
         alloc: Global,
-        board: &Board<N>,
+        beside: &Beside<'_, N, R>,
+        call: u32,
+        task: Task,
+        spare: &mut Spare,
+    ) -> Result<(), NoMemory>
+        requires whole { IsWhole self.old call task }
+        requires fresh { IsNotStale self.old call }
+        ensures done { OnOk result (IsDone self.new.course call) }
+        ensures kept { GoesOn self.old self.new }
+    {
+        match self.book.check(call, &task) {
+            Check::Free => {
+                self.commit(alloc, beside, call, &task)?;
+                spare.keep(task);
+                Ok(())
+            }
+            Check::Hit { .. } => self.repair_left(alloc, beside, call, task, spare),
+            Check::Stale { .. } => unreachable!(),
+        }
+    }
+
+    /// Commits a live call that is hit, by A and C, or by X.
+    fn repair_left<R: Wait>(
+        &mut self,
+        alloc: Global,
+        beside: &Beside<'_, N, R>,
+        call: u32,
+        mut task: Task,
+        spare: &mut Spare,
+    ) -> Result<(), NoMemory>
+        requires whole { IsWhole self.old call task }
+        requires hit { refusal (work_in self.old) self.old.course (C call) ≡ Some Conflict }
+        ensures done { OnOk result (IsDone self.new.course call) }
+        ensures kept { GoesOn self.old self.new }
+    {
+        if self.book.has_round(call) {
+            self.rerun(alloc, beside, call, &mut task)?;
+            self.commit(alloc, beside, call, &task)?;
+            spare.keep(task);
+            return Ok(());
+        }
+        self.exclusive(alloc, beside, call, &mut task)?;
+        spare.keep(task);
+        Ok(())
+    }
+
+    /// Event A of a live call that no worker holds any more, with its repair.
+    fn rerun<R: Wait>(
+        &mut self,
+        alloc: Global,
+        beside: &Beside<'_, N, R>,
+        call: u32,
+        task: &mut Task,
+    ) -> Result<(), NoMemory>
+        requires whole { IsWhole self.old call task.old }
+        requires fresh { IsNotStale self.old call }
+        requires allowed { refusal (work_in self.old) self.old.course (A call) ≡ None }
+        ensures ok { OnOk result (Made (A call) self.old self.new) }
+        ensures whole { OnOk result (IsWhole self.new call task.new) }
+        ensures free { OnOk result (refusal (work_in self.new) self.new.course (C call) ≡ None) }
+        ensures err { OnErr result (IsSame self.old self.new) }
+    {
+        let _events = self.book.journal();
+        self.book.settle(call, task);
+        self.book.reserve(call)?;
+        let mut seen = self.ledger.pass_for(beside.board);
+        let (_start, touched) = next_start(alloc, beside.board, &mut self.ledger, &mut seen)?;
+        repair_last(alloc, beside, &self.book, &mut self.ledger, call, task)?;
+        self.book.restart(call, Mark::Plain);
+        self.starts[call as usize] = Some(touched);
+        Ok(())
+    }
+
+    /// Commits a live call that no worker holds any more. If its start lies further back than the horizon, it moves first.
+    fn commit_left<R: Wait>(
+        &mut self,
+        alloc: Global,
+        beside: &Beside<'_, N, R>,
         call: u32,
         spare: &mut Spare,
     ) -> Result<(), NoMemory>
@@ -476,23 +675,20 @@ impl<N: Making> Desk<N> {
         ensures done { OnOk result (IsDone self.new.course call) }
         ensures kept { GoesOn self.old self.new }
     {
+        let _events = self.book.journal();
         if self.book.is_stale(call) {
-            self.move_and_commit(alloc, board, call, spare)?;
+            self.move_and_commit(alloc, beside, call, spare)?;
             return Ok(());
         }
-        let mut running = self.renew(alloc, call, spare)?;
-        let answer = self.decide(alloc, board, call, &mut running)?;
-        let Answer::Repaired = answer else {
-            spare.keep(running.task);
+        let Some(task) = self.renew(alloc, beside, call, spare)? else {
+            self.move_and_commit(alloc, beside, call, spare)?;
             return Ok(());
         };
-        self.commit(alloc, board, call, &running)?;
-        spare.keep(running.task);
-        Ok(())
+        self.finish_left(alloc, beside, call, task, spare)
     }
 
     /// Begins a call, if it is the next one.
-    fn begin_left(&mut self, alloc: Global, call: u32) -> Result<(), NoMemory>
+    fn begin_left(&mut self, alloc: Global, board: &Board<N>, call: u32) -> Result<(), NoMemory>
         requires begun { call ≤ length self.old.course.calls }
         requires there { call < length self.old.script.calls }
         ensures begun { OnOk result (call < length self.new.course.calls) }
@@ -504,15 +700,16 @@ impl<N: Making> Desk<N> {
         if next != call {
             return Ok(());
         }
-        self.book.begin(alloc)?;
+        let mut seen = self.pass_for(board);
+        self.begin(alloc, board, &mut seen)?;
         Ok(())
     }
 
     /// Brings a call to its commit, if it hasn't committed. All calls before it have begun.
-    fn bring(
+    fn bring<R: Wait>(
         &mut self,
         alloc: Global,
-        board: &Board<N>,
+        beside: &Beside<'_, N, R>,
         call: u32,
         spare: &mut Spare,
     ) -> Result<(), NoMemory>
@@ -522,34 +719,48 @@ impl<N: Making> Desk<N> {
         ensures done { OnOk result (IsDone self.new.course call) }
         ensures kept { GoesOn self.old self.new }
     {
-        self.begin_left(alloc, call)?;
+        self.begin_left(alloc, beside.board, call)?;
         let Some(_) = self.book.rounds(call) else {
             return Ok(());
         };
-        self.commit_left(alloc, board, call, spare)
+        self.commit_left(alloc, beside, call, spare)
     }
 
     /// Begins the calls that haven't begun, and commits those that haven't committed, one after another. Fails with
-    /// `NoMemory` if memory runs out.
-    pub fn commit_all_left(&mut self, alloc: Global, board: &Board<N>) -> Result<(), NoMemory>
+    /// `NoMemory` if memory runs out, and if the last round of such a call is a repair that has no number.
+    pub fn commit_all_left<R: Wait>(
+        &mut self,
+        alloc: Global,
+        beside: &Beside<'_, N, R>,
+    ) -> Result<(), NoMemory>
         ensures ended { OnOk result (open_call (work_in self.new) self.new.course ≡ None) }
         ensures events { IsPrefix self.old.journal self.new.journal }
     {
         let mut spare = Spare::new();
         for call in 0..self.calls() {
-            self.bring(alloc, board, call, &mut spare)?;
+            self.bring(alloc, beside, call, &mut spare)?;
         }
         Ok(())
     }
 
-    /// Turns the history into the outcome of its events. Each call must have committed. It copies the events. Fails with
-    /// `NoMemory` if memory runs out.
-    pub fn outcome(self, alloc: Global) -> Result<Outcome, NoMemory>
+    /// Turns the history into the outcome of its events. Each call must have committed. It copies the rows of the shards,
+    /// and the events. Fails with `NoMemory` if memory runs out.
+    pub fn outcome<R: Wait>(
+        self,
+        alloc: Global,
+        beside: &Beside<'_, N, R>,
+    ) -> Result<Outcome, NoMemory>
         requires { open_call (work_in self) self.course ≡ None }
         ensures outcome { IfOk result (IsOutcome (work N.script)) }
         ensures journal { IfOk result (λ outcome. outcome.journal ≡ self.journal) }
     {
-        let Desk { book, store, .. } = self;
-        outcome_of(alloc, book, store)
+        let _events = self.book.journal();
+        let Desk {
+            book,
+            mut ledger,
+            ..
+        } = self;
+        let tables = last_tables(alloc, beside, &mut ledger)?;
+        book.outcome(alloc, tables)
     }
 }

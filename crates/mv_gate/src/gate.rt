@@ -1,23 +1,30 @@
 //! The gate, its workers, and whole runs by any number of them.
 
-ghost use Rattle.std.specs.Prelude.{◌≡◌, ◌<◌, ◌≤◌, ◌^◌, [], IfOk, length};
+ghost use Rattle.std.specs.Prelude.{◌≡◌, ◌<◌, ◌≤◌, [], IfOk, length};
 ghost use mathlib.Core.List.{IsPrefix};
 ghost use Rattle.mv_seats.specs.Knowing.{Plain};
 ghost use Rattle.mv_lawful.specs.Serializable.{IsSerializable};
 ghost use Rattle.mv_script.specs.Scripts.{IsScript, work_of};
-ghost use Rattle.mv_gate.specs.Gates.{script_in, work, IsOutcome};
+ghost use Rattle.mv_shards.specs.Scripts.{script_in, work};
+ghost use Rattle.mv_gate.specs.Gates.{IsOutcome};
 
 use crate::answers::Answer;
+use crate::beside::Beside;
 use crate::desk::Desk;
 use crate::guarded::Guarded;
-use crate::held::Held;
+use crate::held::{Begun, Held, Reached, Ready};
 use crate::notes::note;
+use crate::tried::Tried;
+use mv_core::shared::SharedScript;
 use mv_core::spare::Spare;
 use mv_edge::pace::{Moment, Pace, Point};
 use mv_journal::outcome::Outcome;
 use mv_script::script::Script;
 use mv_seats::board::{Blank, Board, Making};
 use mv_seats::pass::Pass;
+use mv_shards::parts::SHARDS;
+use mv_shards::shards::Shards;
+use mv_shards::start::Start;
 use mv_values::memory::NoMemory;
 use std::alloc::Global;
 use std::marker::Brand;
@@ -28,14 +35,18 @@ use std::thread::Threads;
 /// The number of commits from one collection of old versions to the next.
 const COLLECTION_INTERVAL: u32 = 64;
 
-/// A lock round the history of a run, and the board that counts its commits. All workers share it. Each event is one hold
-/// of the lock. A begin copies the call's arguments. A statement holds the lock while it is executed. An attempt holds it
-/// for the statements that are left, for the validation, and then for the commit or the repair. A call whose start is
-/// below low runs whole in one hold. A collection holds the lock while it drops old versions.
+/// A lock round the history of a run. The rows, in their shards, the board and the script lie beside the lock. All workers
+/// share them. A begin, an attempt to commit, a move and a collection are one hold of the lock each. A statement, a repair
+/// and a whole run after a move read the shards without the lock. An attempt holds it for the validation, and then for the
+/// commit into the shards, or for a new start. Once a call has used its rounds, its repair or its whole run is in the same
+/// hold as its commit.
 #[derive(Drop)]
 pub struct Gate<N: Making> {
     board: Board<N>,
+    shards: Shards<N>,
+    script: SharedScript,
     guarded: Mutex<Guarded<N>>,
+    ghost named: { script ≡ script_in N.script },
 }
 
 /// The post of a worker: its pass and its number.
@@ -48,39 +59,79 @@ struct Post<N: Making> {
 
 impl<N: Making> Gate<N> {
     /// Returns the gate of a script before any event, and a plain pass that has seen no commit. `N` names the blank and
-    /// its script. It copies the opening database. Fails with `NoMemory` if memory runs out.
+    /// its script, which has eight shards. It copies the opening database twice. Fails with `NoMemory` if memory runs out.
     pub fn new(alloc: Global, blank: Blank, script: Script) -> Result<(Gate<N>, Pass<N>), NoMemory>
         requires board { blank.board ≡ N.board }
         requires named { blank.script ≡ N.script }
+        requires shards { N.script.shards ≡ 8 }
         requires script { script ≡ script_in N.script }
         requires sound { IsScript script }
         ensures role { IfOk result (λ made. made.1.role ≡ Plain) }
         ensures seen { IfOk result (λ made. made.1.seen ≡ []) }
     {
-        let (board, pass) = blank.open::<N>();
-        let mut desk = Desk::new(alloc, script, pass)?;
+        let (board, mut pass) = blank.open::<N>();
+        let horizon = script.options.horizon;
+        let shards = Shards::new(alloc, &script.opening, horizon, &board, &mut pass)?;
+        let script = SharedScript::new(alloc, script)?;
+        let mut desk = Desk::new(alloc, script.share()?, pass)?;
         let pass = desk.pass_for(&board);
         let guarded = Mutex::new(Guarded::new(desk));
-        Ok((Gate { board, guarded }, pass))
+        Ok((
+            Gate {
+                board,
+                shards,
+                script,
+                guarded,
+            },
+            pass,
+        ))
     }
 
-    /// Event B, as one hold. Returns `None` too once a hold has found no memory.
+    /// Returns the rows in their shards. Callers may read them beside the workers.
+    pub fn shards(&self) -> &Shards<N> {
+        &self.shards
+    }
+
+    /// Returns the board.
+    pub fn board(&self) -> &Board<N> {
+        &self.board
+    }
+
+    /// Returns the start after all commits, as one hold and no event. The start's pass has seen what the caller's pass,
+    /// which must be plain, had seen. Fails with `NoMemory` if memory runs out.
+    pub fn snapshot<R: Wait>(
+        &self,
+        rt: &R,
+        alloc: Global,
+        pass: &mut Pass<N>,
+    ) -> Result<Start<N>, NoMemory>
+        requires { pass.old.role ≡ Plain }
+        ensures same { pass.new ≡ pass.old }
+        ensures number { IfOk result (λ start. start.number ≡ length start.knows.seen) }
+        ensures seen { IfOk result (λ start. IsPrefix pass.old.seen start.knows.seen) }
+        ensures past { IfOk result (λ start. length pass.old.seen ≤ start.number) }
+    {
+        let mut guarded = self.guarded.lock(rt);
+        guarded.snapshot(alloc, &self.board, pass)
+    }
+
+    /// Returns what lies beside the lock.
+    fn beside<'a, R: Wait>(&'a self, rt: &'a R) -> Beside<'a, N, R> {
+        Beside::new(rt, self.script.get(), &self.shards, &self.board)
+    }
+
+    /// Event B, as one hold. Returns `None` too once a worker has found no memory.
     fn begin<R: Wait>(
         &self,
         rt: &R,
         alloc: Global,
-        spare: &mut Spare,
-    ) -> Result<Option<Held<N>>, NoMemory> {
-        let mut guarded = self.guarded.lock(rt);
-        guarded.begin(alloc, &self.board, spare)
-    }
-
-    /// Event S, as one hold.
-    fn step<R: Wait>(&self, rt: &R, alloc: Global, held: &mut Held<N>) -> Result<bool, NoMemory>
-        ensures { held.new.call ≡ held.old.call }
+        pass: &mut Pass<N>,
+    ) -> Result<Option<Begun<N>>, NoMemory>
+        requires { pass.old.role ≡ Plain }
+        ensures { pass.new ≡ pass.old }
     {
         let mut guarded = self.guarded.lock(rt);
-        guarded.step(alloc, &self.board, held)
+        guarded.begin(alloc, &self.board, pass)
     }
 
     /// Event C, A, X or M, or M and C, as one hold.
@@ -88,21 +139,67 @@ impl<N: Making> Gate<N> {
         &self,
         rt: &R,
         alloc: Global,
-        held: Held<N>,
+        reached: Reached<N>,
         spare: &mut Spare,
-    ) -> Result<(Answer, Option<Held<N>>), NoMemory> {
+    ) -> Result<Tried<N>, NoMemory> {
+        let beside = self.beside(rt);
         let mut guarded = self.guarded.lock(rt);
-        guarded.attempt(alloc, &self.board, held, spare)
+        match reached {
+            Reached::Ready(ready) => {
+                let Ready { held } = ready;
+                guarded.attempt(alloc, &beside, held, spare)
+            }
+            Reached::Late(late) => guarded.move_late(alloc, &beside, late, spare),
+        }
     }
 
-    /// Event G, as one hold, after each commit whose number is a multiple of `COLLECTION_INTERVAL`, unless a hold has found
-    /// no memory.
+    /// Repairs a call that was hit, or runs one that has moved, without the lock. Returns `None` if no call is given back.
+    fn run_again<R: Wait>(
+        &self,
+        rt: &R,
+        alloc: Global,
+        tried: Tried<N>,
+        spare: &mut Spare,
+    ) -> Result<Option<Reached<N>>, NoMemory> {
+        let beside = self.beside(rt);
+        let Tried {
+            answer: _,
+            repair,
+            moved,
+        } = tried;
+        if let Some(repair) = repair {
+            return Ok(Some(repair.run(alloc, &beside)?));
+        }
+        let Some(begun) = moved else {
+            return Ok(None);
+        };
+        Ok(Some(begun.run_whole(alloc, &beside, spare)?))
+    }
+
+    /// Event G, as one hold, if a horizon is given and no worker has found no memory. Returns the new low.
+    fn raise_low<R: Wait>(&self, rt: &R) -> Option<u32> {
+        let mut guarded = self.guarded.lock(rt);
+        match guarded.collect() {
+            Ok(low) => low,
+            Err(_) => None,
+        }
+    }
+
+    /// Collects old versions after each commit whose number is a multiple of `COLLECTION_INTERVAL`: event G as one hold,
+    /// and then the shards, without the lock.
     fn collect<R: Wait>(&self, rt: &R, commit: u32) {
         if commit % COLLECTION_INTERVAL != 0 {
             return;
         }
+        if let Some(low) = self.raise_low(rt) {
+            self.shards.collect(rt, low);
+        }
+    }
+
+    /// Notes that a worker has found no memory, as one hold.
+    fn give_up<R: Wait>(&self, rt: &R) {
         let mut guarded = self.guarded.lock(rt);
-        let _collected = guarded.collect();
+        guarded.give_up();
     }
 }
 
@@ -118,20 +215,22 @@ fn tell<R: Wait, P: Pace>(rt: &R, pace: &P, worker: u32, call: u32, moment: Mome
     );
 }
 
-/// Runs the statements of a call that has begun, one hold each.
+/// Runs the statements of a call that has begun, without the lock.
 fn run_statements<N: Making, R: Threads + Wait + Sync, P: Pace>(
     rt: &R,
     alloc: Global,
     gate: &Gate<N>,
-    held: &mut Held<N>,
+    mut held: Held<N>,
     number: u32,
     pace: &P,
-) -> Result<(), NoMemory>
-    ensures { held.new.call ≡ held.old.call }
-{
+) -> Result<Reached<N>, NoMemory> {
+    let beside = gate.beside(rt);
     for _ in rt.forever() {
-        if held.ended() || !gate.step(rt, alloc, held)? {
-            return Ok(());
+        if held.ended() {
+            return Ok(Reached::Ready(Ready::of(held)));
+        }
+        if !held.step(alloc, &beside)? {
+            return Ok(Reached::Late(held.into_late()));
         }
         tell(rt, pace, number, held.call(), Moment::Ran);
     }
@@ -144,23 +243,24 @@ fn run_call<N: Making, R: Threads + Wait + Sync, P: Pace>(
     rt: &R,
     alloc: Global,
     gate: &Gate<N>,
-    mut held: Held<N>,
+    begun: Begun<N>,
     spare: &mut Spare,
     number: u32,
     pace: &P,
 ) -> Result<(), NoMemory> {
-    let call = held.call();
+    let call = begun.call();
     tell(rt, pace, number, call, Moment::Begun);
-    run_statements(rt, alloc, gate, &mut held, number, pace)?;
+    let held = Held::new(alloc, &gate.beside(rt), begun, spare)?;
+    let mut reached = run_statements(rt, alloc, gate, held, number, pace)?;
     for _ in rt.forever() {
         tell(rt, pace, number, call, Moment::Before);
-        let (answer, back) = gate.attempt(rt, alloc, held, spare)?;
-        if let Answer::Committed(commit) = answer {
+        let tried = gate.attempt(rt, alloc, reached, spare)?;
+        if let Answer::Committed(commit) = tried.answer {
             tell(rt, pace, number, call, Moment::Answered);
             gate.collect(rt, commit);
         }
-        match back {
-            Some(again) => held = again,
+        match gate.run_again(rt, alloc, tried, spare)? {
+            Some(again) => reached = again,
             None => return Ok(()),
         }
     }
@@ -184,11 +284,14 @@ pub fn worker<N: Making, R: Threads + Wait + Sync, P: Pace>(
 {
     let mut spare = Spare::new();
     for _ in rt.forever() {
-        let Some(mut held) = gate.begin(rt, alloc, &mut spare)? else {
+        let Some(mut begun) = gate.begin(rt, alloc, pass)? else {
             return Ok(());
         };
-        pass.meet(&gate.board, held.pass_for(&gate.board));
-        run_call(rt, alloc, gate, held, &mut spare, number, pace)?;
+        pass.meet(&gate.board, begun.pass_for(&gate.board));
+        if let Err(error) = run_call(rt, alloc, gate, begun, &mut spare, number, pace) {
+            gate.give_up(rt);
+            return Err(error);
+        }
     }
     unreachable!()
 }
@@ -241,11 +344,17 @@ pub fn run_all<N: Making + Send + Sync, R: Threads + Wait + Sync, P: Pace>(
         workers as usize,
         &|_, post: &mut Post<N>| work_at(rt, alloc, shared, post, pace),
     );
-    let Gate { board, guarded } = gate;
+    let Gate {
+        board,
+        shards,
+        script,
+        guarded,
+    } = gate;
     let guarded = guarded.into_inner();
     let mut desk = guarded.into_desk();
-    desk.commit_all_left(alloc, &board)?;
-    desk.outcome(alloc)
+    let beside = Beside::new(rt, script.get(), &shards, &board);
+    desk.commit_all_left(alloc, &beside)?;
+    desk.outcome(alloc, &beside)
 }
 
 /// Runs the calls of a script by 1 to 64 workers. Returns the outcome of a lawful and bounded journal, in which each call
@@ -268,7 +377,7 @@ pub fn run<R: Threads + Wait + Sync, P: Pace>(
         &script.calls,
         &script.opening,
         &script.options,
-        1,
+        SHARDS,
     )?;
     run_named::<Brand, R, P>(rt, alloc, blank, script, workers, pace)
 }
@@ -284,6 +393,7 @@ fn run_named<N: Making + Send + Sync, R: Threads + Wait + Sync, P: Pace>(
 ) -> Result<Outcome, NoMemory>
     requires board { blank.board ≡ N.board }
     requires named { blank.script ≡ N.script }
+    requires shards { N.script.shards ≡ 8 }
     requires script { script ≡ script_in N.script }
     requires sound { IsScript script }
     requires workers { (0 < workers) × (workers ≤ 64) }

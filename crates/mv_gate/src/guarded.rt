@@ -1,19 +1,25 @@
-//! What the gate's lock guards: a desk, and whether a hold has found no memory.
+//! What the gate's lock guards: a desk, and whether a worker has found no memory.
 
-ghost use Rattle.std.specs.Prelude.{◌≡◌, Ok, None, true, false, IfOk};
-ghost use Rattle.mv_core.specs.Cores.{HasRunOne, HasCollected};
+ghost use Rattle.std.specs.Prelude.{◌≡◌, Ok, None, true, false, ℕ, IfOk, OnErr};
+ghost use mathlib.Core.List.{IsPrefix};
+ghost use Rattle.mv_seats.specs.Knowing.{Plain};
+ghost use Rattle.mv_core.specs.Books.{IsSame};
 ghost use Rattle.mv_gate.specs.declared.answers.Answer.TheVariants as Answer;
-ghost use Rattle.mv_gate.specs.Gates.{IsKnown, HandsOut, StepsOn, Tries, answer_in, GivesBack, marked};
+ghost use Rattle.mv_gate.specs.Gates.{StartsAt, StartsLast, IsKnown, HandsOut, Tries, GivesRepair, GivesMoved, Collects, marked};
 
-use crate::answers::Answer;
+use crate::beside::Beside;
 use crate::desk::Desk;
-use crate::held::Held;
+use crate::held::{Begun, Held, Late};
+use crate::tried::Tried;
 use mv_core::spare::Spare;
 use mv_seats::board::{Board, Making};
+use mv_seats::pass::Pass;
+use mv_shards::start::Start;
 use mv_values::memory::NoMemory;
 use std::alloc::Global;
+use std::sync::Wait;
 
-/// A desk, and whether a hold has found no memory. From then on no worker begins a call, and nothing is collected.
+/// A desk, and whether a worker has found no memory. From then on no worker begins a call, and nothing is collected.
 #[derive(Drop)]
 pub(crate) struct Guarded<N: Making> {
     desk: Desk<N>,
@@ -32,77 +38,107 @@ impl<N: Making> Guarded<N> {
         }
     }
 
-    /// `Desk::begin`. Returns `None` too once a hold has found no memory.
+    /// `Desk::begin`. Returns `None` too once a worker has found no memory.
     pub(crate) fn begin(
         &mut self,
         alloc: Global,
         board: &Board<N>,
-        spare: &mut Spare,
-    ) -> Result<Option<Held<N>>, NoMemory>
+        other: &mut Pass<N>,
+    ) -> Result<Option<Begun<N>>, NoMemory>
+        requires { other.old.role ≡ Plain }
         ensures begun { self.old.wants_memory ≡ false → HandsOut result self.old.desk self.new.desk }
+        ensures over { self.old.wants_memory ≡ true → (result ≡ Ok None) × (self.new.desk ≡ self.old.desk) }
+        ensures mark { self.new.wants_memory ≡ marked result self.old.wants_memory }
+        ensures same { other.new ≡ other.old }
+    {
+        if self.wants_memory {
+            return Ok(None);
+        }
+        let begun = self.desk.begin(alloc, board, other);
+        self.wants_memory = begun.is_err();
+        begun
+    }
+
+    /// `Desk::attempt`.
+    pub(crate) fn attempt<R: Wait>(
+        &mut self,
+        alloc: Global,
+        beside: &Beside<'_, N, R>,
+        held: Held<N>,
+        spare: &mut Spare,
+    ) -> Result<Tried<N>, NoMemory>
+        requires { held.task.ended ≡ true }
+        ensures ok { IfOk result (λ tried. Tries held.call tried.answer self.old.desk self.new.desk) }
+        ensures err { OnErr result (IsSame self.old.desk self.new.desk) }
+        ensures lost { IfOk result (λ tried. tried.answer ≡ Answer.Lost → IsKnown self.old.desk held → ⊥) }
+        ensures repair { IfOk result (λ tried. GivesRepair held.call held.start.number tried.answer tried.repair self.new.desk) }
+        ensures moved { IfOk result (λ tried. GivesMoved held.call tried.answer tried.moved self.new.desk) }
+        ensures mark { self.new.wants_memory ≡ marked result self.old.wants_memory }
+    {
+        let tried = self.desk.attempt(alloc, beside, held, spare);
+        self.wants_memory = self.wants_memory || tried.is_err();
+        tried
+    }
+
+    /// `Desk::move_late`.
+    pub(crate) fn move_late<R: Wait>(
+        &mut self,
+        alloc: Global,
+        beside: &Beside<'_, N, R>,
+        late: Late<N>,
+        spare: &mut Spare,
+    ) -> Result<Tried<N>, NoMemory>
+        ensures ok { IfOk result (λ tried. Tries late.call tried.answer self.old.desk self.new.desk) }
+        ensures err { OnErr result (IsSame self.old.desk self.new.desk) }
+        ensures lost { IfOk result (λ tried. tried.answer ≡ Answer.Lost → StartsAt self.old.desk late.call late.start.number → ⊥) }
+        ensures repair { (from : ℕ) → IfOk result (λ tried. GivesRepair late.call from tried.answer tried.repair self.new.desk) }
+        ensures moved { IfOk result (λ tried. GivesMoved late.call tried.answer tried.moved self.new.desk) }
+        ensures mark { self.new.wants_memory ≡ marked result self.old.wants_memory }
+    {
+        let tried = self.desk.move_late(alloc, beside, late, spare);
+        self.wants_memory = self.wants_memory || tried.is_err();
+        tried
+    }
+
+    /// `Desk::snapshot`.
+    pub(crate) fn snapshot(
+        &mut self,
+        alloc: Global,
+        board: &Board<N>,
+        other: &mut Pass<N>,
+    ) -> Result<Start<N>, NoMemory>
+        requires { other.old.role ≡ Plain }
+        ensures kept { self.new.desk ≡ self.old.desk }
+        ensures same { other.new ≡ other.old }
+        ensures last { IfOk result (λ start. StartsLast start self.old.desk) }
+        ensures seen { IfOk result (λ start. IsPrefix other.old.seen start.knows.seen) }
+        ensures mark { self.new.wants_memory ≡ marked result self.old.wants_memory }
+    {
+        let start = self.desk.snapshot(alloc, board, other);
+        self.wants_memory = self.wants_memory || start.is_err();
+        start
+    }
+
+    /// `Desk::collect`. Does nothing once a worker has found no memory.
+    pub(crate) fn collect(&mut self) -> Result<Option<u32>, NoMemory>
+        ensures collected { self.old.wants_memory ≡ false → Collects result self.old.desk self.new.desk }
         ensures over { self.old.wants_memory ≡ true → (result ≡ Ok None) × (self.new.desk ≡ self.old.desk) }
         ensures mark { self.new.wants_memory ≡ marked result self.old.wants_memory }
     {
         if self.wants_memory {
             return Ok(None);
         }
-        let begun = self.desk.begin(alloc, board, spare);
-        self.wants_memory = begun.is_err();
-        begun
-    }
-
-    /// `Desk::step`.
-    pub(crate) fn step(
-        &mut self,
-        alloc: Global,
-        board: &Board<N>,
-        held: &mut Held<N>,
-    ) -> Result<bool, NoMemory>
-        ensures made { StepsOn held.old result self.old.desk self.new.desk }
-        ensures one { IfOk result (λ ran. ran ≡ true → HasRunOne held.old.running.task held.new.running.task) }
-        ensures none { IfOk result (λ ran. ran ≡ false → held.new ≡ held.old) }
-        ensures known { IsKnown self.old.desk held.old → IsKnown self.new.desk held.new }
-        ensures call { held.new.call ≡ held.old.call }
-        ensures start { held.new.start ≡ held.old.start }
-        ensures from { held.new.from ≡ held.old.from }
-        ensures knows { held.new.knows ≡ held.old.knows }
-        ensures mark { self.new.wants_memory ≡ marked result self.old.wants_memory }
-    {
-        let ran = self.desk.step(alloc, board, held);
-        self.wants_memory = self.wants_memory || ran.is_err();
-        ran
-    }
-
-    /// `Desk::attempt`.
-    pub(crate) fn attempt(
-        &mut self,
-        alloc: Global,
-        board: &Board<N>,
-        held: Held<N>,
-        spare: &mut Spare,
-    ) -> Result<(Answer, Option<Held<N>>), NoMemory>
-        ensures tried { Tries held.call (answer_in result) self.old.desk self.new.desk }
-        ensures lost { IfOk result (λ r. r.0 ≡ Answer.Lost → IsKnown self.old.desk held → ⊥) }
-        ensures back { IfOk result (λ r. GivesBack held r.0 r.1 self.new.desk) }
-        ensures mark { self.new.wants_memory ≡ marked result self.old.wants_memory }
-    {
-        let tried = self.desk.attempt(alloc, board, held, spare);
-        self.wants_memory = self.wants_memory || tried.is_err();
-        tried
-    }
-
-    /// `Desk::collect`. Does nothing once a hold has found no memory.
-    pub(crate) fn collect(&mut self) -> Result<(), NoMemory>
-        ensures collected { self.old.wants_memory ≡ false → HasCollected result self.old.desk self.new.desk }
-        ensures over { self.old.wants_memory ≡ true → self.new.desk ≡ self.old.desk }
-        ensures mark { self.new.wants_memory ≡ marked result self.old.wants_memory }
-    {
-        if self.wants_memory {
-            return Ok(());
-        }
         let collected = self.desk.collect();
         self.wants_memory = collected.is_err();
         collected
+    }
+
+    /// Notes that a worker has found no memory outside of the lock.
+    pub(crate) fn give_up(&mut self)
+        ensures desk { self.new.desk ≡ self.old.desk }
+        ensures mark { self.new.wants_memory ≡ true }
+    {
+        self.wants_memory = true;
     }
 
     /// Returns the desk, after the last hold.

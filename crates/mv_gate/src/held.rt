@@ -1,24 +1,70 @@
-//! A call that a worker runs.
+//! Calls outside of the lock: each is one worker's own.
 
-ghost use Rattle.std.specs.Prelude.{◌≡◌};
+ghost use Rattle.std.specs.Prelude.{◌≡◌, [], None, true, false, IfOk, OnErr, length};
+ghost use mathlib.Core.List.{IsPrefix};
 ghost use Rattle.mv_seats.specs.Knowing.{Plain};
+ghost use Rattle.mv_lawful.specs.Rounds.{IsPast};
+ghost use Rattle.mv_exec.specs.Running.{IsUnchanged};
+ghost use Rattle.mv_core.specs.Cores.{HasRunOne};
 
-use crate::notes::note;
-use mv_core::tasks::Running;
+use crate::beside::Beside;
+use mv_changes::recent::Committed;
+use mv_core::running::{repair_over, run_all, run_next};
+use mv_core::spare::Spare;
+use mv_core::tasks::new_task;
+use mv_exec::task::Task;
 use mv_seats::board::{Board, Making};
 use mv_seats::pass::Pass;
+use mv_shards::start::Start;
+use mv_shards::view::ShardsView;
+use mv_values::list::List;
+use mv_values::memory::NoMemory;
+use std::alloc::Global;
 use std::marker::Model;
+use std::sync::Wait;
 
-/// A call that a worker runs. It is the worker's own, outside of the lock. Its task has run over the tables after
-/// `start` commits of a history that its pass has seen.
+/// A call that has begun or moved, and has still to run at its start.
+#[derive(Drop)]
+pub struct Begun<N: Making> {
+    pub(crate) call: u32,
+    pub(crate) start: Start<N>,
+}
+
+impl<N: Making> Model for Begun<N> {
+    ghost use Rattle.mv_gate.specs.Gates.{Waiting, IsWaiting};
+
+    ghost Value = { Waiting };
+
+    ghost view = { λ b. record { call = b.call; start = b.start } };
+
+    ghost invariant = { λ b. IsWaiting N.script (record { call = b.call; start = b.start }) };
+}
+
+/// A call whose start lies further back than the horizon: a shard no longer has all rows there. It has to move.
+#[derive(Drop)]
+pub struct Late<N: Making> {
+    pub(crate) call: u32,
+    pub(crate) start: Start<N>,
+}
+
+impl<N: Making> Model for Late<N> {
+    ghost use Rattle.mv_gate.specs.Gates.{Waiting, IsLate};
+
+    ghost Value = { Waiting };
+
+    ghost view = { λ l. record { call = l.call; start = l.start } };
+
+    ghost invariant = { λ l. IsLate N.script (record { call = l.call; start = l.start }) };
+}
+
+/// A call that a worker runs. Its task has run over the tables at its start, of a history that its pass has seen.
 #[derive(Drop)]
 pub struct Held<N: Making> {
     pub(crate) call: u32,
-    pub(crate) start: u32,
+    pub(crate) start: Start<N>,
     /// The start from which it was last repaired. There is none after a whole run.
     pub(crate) from: Option<u32>,
-    pub(crate) running: Running,
-    pub(crate) pass: Pass<N>,
+    pub(crate) task: Task,
 }
 
 impl<N: Making> Model for Held<N> {
@@ -30,12 +76,53 @@ impl<N: Making> Model for Held<N> {
 
     ghost coded = { Prim.hlevel (codes, statement.the_row.coded) };
 
-    ghost view = { λ h. record { call = h.call; start = h.start; from = h.from; running = h.running; knows = h.pass } };
+    ghost view = { λ h. record { call = h.call; start = h.start; from = h.from; task = h.task } };
 
-    ghost invariant = { λ h. IsHeld N.script (record { call = h.call; start = h.start; from = h.from; running = h.running; knows = h.pass }) };
+    ghost invariant = { λ h. IsHeld N.script (record { call = h.call; start = h.start; from = h.from; task = h.task }) };
 }
 
-impl<N: Making> Held<N> {
+/// A call that a commit has hit, with the commits after its old start. Its task has run whole there. It has still to be
+/// repaired at its new start.
+#[derive(Drop)]
+pub struct Repair<N: Making> {
+    pub(crate) call: u32,
+    pub(crate) start: Start<N>,
+    pub(crate) from: u32,
+    pub(crate) task: Task,
+    pub(crate) since: List<Committed>,
+}
+
+impl<N: Making> Model for Repair<N> {
+    ghost use Rattle.std.specs.Coded.{codes};
+    ghost use Rattle.mv_catalog.specs.contracts.resolved.RStmt as statement;
+    ghost use Rattle.mv_gate.specs.Gates.{Repairing, IsRepairing};
+
+    ghost Value = { Repairing };
+
+    ghost coded = { Prim.hlevel (codes, statement.the_row.coded) };
+
+    ghost view = { λ r. record { call = r.call; start = r.start; from = r.from; task = r.task; since = r.since } };
+
+    ghost invariant = { λ r. IsRepairing N.script (record { call = r.call; start = r.start; from = r.from; task = r.task; since = r.since }) };
+}
+
+/// A call that has run whole at its start.
+#[derive(Drop)]
+pub struct Ready<N: Making> {
+    pub(crate) held: Held<N>,
+    ghost ended: { held.task.ended ≡ true },
+}
+
+/// How far a call has come outside of the lock.
+#[derive(Drop)]
+pub enum Reached<N: Making> {
+    /// It has run whole.
+    Ready(Ready<N>),
+    /// It has to move.
+    Late(Late<N>),
+}
+
+impl<N: Making> Begun<N> {
     /// Returns the number of the call.
     pub fn call(&self) -> u32
         ensures { result ≡ self.now.call }
@@ -43,19 +130,169 @@ impl<N: Making> Held<N> {
         self.call
     }
 
-    /// Whether no statement of the call is left.
-    pub fn ended(&self) -> bool
-        ensures { result ≡ self.now.running.task.ended }
+    /// Splits off a plain pass that has seen as much.
+    pub fn pass_for(&mut self, board: &Board<N>) -> Pass<N>
+        ensures same { self.new ≡ self.old }
+        ensures role { result.role ≡ Plain }
+        ensures seen { result.seen ≡ self.old.start.knows.seen }
     {
-        self.running.task.ended()
+        self.start.pass_for(board)
+    }
+
+    /// Runs the call whole at its start, with the spare log, without the gate's lock. Fails with `NoMemory` if memory runs
+    /// out.
+    pub fn run_whole<R: Wait>(
+        self,
+        alloc: Global,
+        beside: &Beside<'_, N, R>,
+        spare: &mut Spare,
+    ) -> Result<Reached<N>, NoMemory> {
+        let Begun { call, mut start } = self;
+        let mut task = new_task(alloc, beside.script, call, spare)?;
+        let mut view = ShardsView::new(beside.rt, beside.shards, beside.board, &mut start);
+        match run_all(alloc, beside.script, call, &mut task, &mut view) {
+            Ok(()) => {
+                let _number = start.number();
+                Ok(Reached::Ready(Ready::of(Held {
+                    call,
+                    start,
+                    from: None,
+                    task,
+                })))
+            }
+            Err(why) => {
+                start.refused(beside.board, view, why)?;
+                Ok(Reached::Late(Late { call, start }))
+            }
+        }
+    }
+}
+
+impl<N: Making> Ready<N> {
+    /// Returns a call that has run whole.
+    pub(crate) fn of(held: Held<N>) -> Ready<N>
+        requires { held.task.ended ≡ true }
+        ensures { result.held ≡ held }
+    {
+        Ready { held }
+    }
+}
+
+impl<N: Making> Held<N> {
+    /// Returns a call before its first statement, with the spare log. It copies the arguments. Fails with `NoMemory` if
+    /// memory runs out.
+    pub fn new<R: Wait>(
+        alloc: Global,
+        beside: &Beside<'_, N, R>,
+        begun: Begun<N>,
+        spare: &mut Spare,
+    ) -> Result<Held<N>, NoMemory>
+        ensures call { IfOk result (λ held. held.call ≡ begun.call) }
+        ensures start { IfOk result (λ held. held.start ≡ begun.start) }
+        ensures from { IfOk result (λ held. held.from ≡ None) }
+        ensures records { IfOk result (λ held. held.task.log.records ≡ []) }
+    {
+        let Begun { call, start } = begun;
+        let _number = start.number();
+        let task = new_task(alloc, beside.script, call, spare)?;
+        Ok(Held {
+            call,
+            start,
+            from: None,
+            task,
+        })
+    }
+
+    /// Returns the number of the call.
+    pub fn call(&self) -> u32
+        ensures { result ≡ self.now.call }
+    {
+        self.call
     }
 
     /// Splits off a plain pass that has seen as much.
     pub fn pass_for(&mut self, board: &Board<N>) -> Pass<N>
         ensures same { self.new ≡ self.old }
         ensures role { result.role ≡ Plain }
-        ensures seen { result.seen ≡ self.old.knows.seen }
+        ensures seen { result.seen ≡ self.old.start.knows.seen }
     {
-        note(&mut self.pass, board)
+        self.start.pass_for(board)
+    }
+
+    /// Whether no statement of the call is left.
+    pub fn ended(&self) -> bool
+        ensures { result ≡ self.now.task.ended }
+    {
+        self.task.ended()
+    }
+
+    /// Executes the next statement of the call, over the tables at its start, without the gate's lock. Returns false, and
+    /// executes none, only if a shard no longer has the rows there: then more commits than the horizon were made after the
+    /// start. Fails with `NoMemory` if memory runs out, and then none was executed.
+    pub fn step<R: Wait>(
+        &mut self,
+        alloc: Global,
+        beside: &Beside<'_, N, R>,
+    ) -> Result<bool, NoMemory>
+        requires { self.old.task.ended ≡ false }
+        ensures one { IfOk result (λ ran. ran ≡ true → HasRunOne self.old.task self.new.task) }
+        ensures none { IfOk result (λ ran. ran ≡ false → IsUnchanged self.old.task self.new.task) }
+        ensures past { IfOk result (λ ran. ran ≡ false → IsPast N.script.options.horizon self.new.start.number (length self.new.start.knows.seen)) }
+        ensures err { OnErr result (IsUnchanged self.old.task self.new.task) }
+        ensures call { self.new.call ≡ self.old.call }
+        ensures from { self.new.from ≡ self.old.from }
+        ensures number { self.new.start.number ≡ self.old.start.number }
+        ensures seen { IsPrefix self.old.start.knows.seen self.new.start.knows.seen }
+    {
+        let mut view = ShardsView::new(beside.rt, beside.shards, beside.board, &mut self.start);
+        match run_next(alloc, beside.script, self.call, &mut self.task, &mut view) {
+            Ok(_) => Ok(true),
+            Err(why) => {
+                self.start.refused(beside.board, view, why)?;
+                Ok(false)
+            }
+        }
+    }
+
+    /// Returns the call as one that has to move. More commits than the horizon must have been made after its start.
+    pub(crate) fn into_late(self) -> Late<N>
+        requires { IsPast N.script.options.horizon self.start.number (length self.start.knows.seen) }
+        ensures call { result.call ≡ self.call }
+        ensures start { result.start ≡ self.start }
+    {
+        let Held { call, start, .. } = self;
+        Late { call, start }
+    }
+}
+
+impl<N: Making> Repair<N> {
+    /// Repairs the call at its new start, without the gate's lock. It executes only what depends on the commits. Fails
+    /// with `NoMemory` if memory runs out. Then the call's last round has no number.
+    pub fn run<R: Wait>(
+        self,
+        alloc: Global,
+        beside: &Beside<'_, N, R>,
+    ) -> Result<Reached<N>, NoMemory> {
+        let Repair {
+            call,
+            mut start,
+            from,
+            mut task,
+            since,
+        } = self;
+        let mut view = ShardsView::new(beside.rt, beside.shards, beside.board, &mut start);
+        let commits = since.as_slice();
+        match repair_over(alloc, beside.script, call, &mut task, commits, &mut view) {
+            Ok(_) => Ok(Reached::Ready(Ready::of(Held {
+                call,
+                start,
+                from: Some(from),
+                task,
+            }))),
+            Err(why) => {
+                start.refused(beside.board, view, why)?;
+                Ok(Reached::Late(Late { call, start }))
+            }
+        }
     }
 }

@@ -1,10 +1,15 @@
-//! Threads that run the calls of a script: a lock round a history and its tables, and workers with tasks of their own.
+//! Threads that run the calls of a script: a lock round a history, shards beside it, and workers with tasks of their own.
 #![tactic(auto)]
 
 pub mod answers;
+pub mod beside;
 pub mod desk;
 pub mod gate;
 mod guarded;
 pub mod held;
+mod installing;
+mod latest;
 mod notes;
 mod rounds;
+mod tables;
+pub mod tried;

@@ -1,7 +1,8 @@
 //! How the last round of a call came about.
 
-ghost use Rattle.std.specs.Prelude.{◌≡◌};
-ghost use Rattle.mv_core.specs.Calls.{turns_in};
+ghost use Rattle.std.specs.Prelude.{◌≡◌, ◌<◌, length};
+ghost use Rattle.std.specs.Option.{is_some};
+ghost use Rattle.mv_core.specs.Calls.{turns_in, last_number};
 ghost use Rattle.mv_gate.specs.Gates.{repaired_by, repaired_from};
 
 use mv_journal::outcome::{Mark, Round};
@@ -25,4 +26,12 @@ pub(crate) fn repaired_from(rounds: &[Round]) -> Option<u32>
         return None;
     }
     repaired_by(rounds[count - 1].mark, rounds[count - 2].start)
+}
+
+/// Whether the last of these rounds has its number. There must be a round.
+pub(crate) fn has_number(rounds: &[Round]) -> bool
+    requires { 0 < length rounds.now }
+    ensures { result ≡ is_some (last_number rounds.now) }
+{
+    rounds[rounds.len() - 1].count.is_some()
 }

@@ -8,3 +8,5 @@ mod crews;
 mod records;
 #[cfg(test)]
 mod scripts;
+#[cfg(test)]
+mod shards;

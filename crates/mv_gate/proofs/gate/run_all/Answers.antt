@@ -4,7 +4,7 @@ use denote.Param.Send.{sendable, param_sync, arg_sync, shr_sync}
 use Rattle.std.specs.contracts.alloc.Global as Global
 use Rattle.std.proofs.alloc.Global.TheSendSync as global
 use Rattle.mv_gate.specs.contracts.gate.Gate as Gate
-use Rattle.mv_gate.specs.Gates.{work}
+use Rattle.mv_shards.specs.Scripts.{work}
 use Rattle.mv_gate.proofs.Crossing.{four_sync, gate_sync}
 use Rattle.mv_gate.proofs.Serializing.{serializable_left}
 use Rattle.mv_gate.proofs.gate.run_all.Goals as goal

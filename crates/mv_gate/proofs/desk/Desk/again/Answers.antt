@@ -1,54 +1,88 @@
-use Rattle.std.proofs.Common.{◌≡◌, None, sym, subst}
+use Rattle.std.proofs.Common.{◌≡◌, ◌<◌, None, length, refl, sym, ap, subst, ◌∙◌, arith, rules}
 use Rattle.mv_journal.specs.declared.event.Event.TheVariants.{A}
-use Rattle.mv_lawful.specs.Lawful.{refusal}
-use Rattle.mv_core.specs.Books.{Booked, work_in, Made, IsSame}
-use Rattle.mv_core.proofs.Stored.{stored_same, shows_last, fresh_last, only_memory}
-use Rattle.mv_gate.specs.Gates.{IsWhole, IsRestarted}
-use Rattle.mv_gate.proofs.Desks.{desk_left, desk_again}
-use Rattle.mv_gate.proofs.Holding.{running_of, first_whole}
-use Rattle.mv_gate.proofs.Repaired.{restarted}
+use Rattle.mv_lawful.specs.Lawful.{Live, Course, refusal}
+use Rattle.mv_values.proofs.Deciding.{always_err}
+use Rattle.mv_core.specs.Calls.{IsLive}
+use Rattle.mv_core.specs.Books.{Booked, work_in, Made, IsSame, IsNotStale}
+use Rattle.mv_core.proofs.Changed.{same_both, allowed_same, room_less, made_after}
+use Rattle.mv_gate.specs.Gates.{HaveTurns, IsWhole}
+use Rattle.mv_gate.proofs.Starts.{entry_there, changes_seen}
+use Rattle.mv_gate.proofs.Desks.{desk_seen, starts_last, desk_same, desk_again}
+use Rattle.mv_gate.proofs.Holding.{whole_same, fresh_same, repair_made}
 use Rattle.mv_gate.proofs.desk.Desk.again.Goals as goal
 
-pub rerun_task-requires-clause-call : goal.rerun_task-requires-clause-call
-rerun_task-requires-clause-call g c = running_of c.self.inside.book c.self.inside.store c.args.call c.args.running.now c.self.invariant.stored (subst (λ (b : Booked). IsWhole b c.args.call c.args.running.now) (sym c.self.view_is) c.requires.whole).call
+pub settle-requires-clause-live : goal.settle-requires-clause-live
+settle-requires-clause-live g c = (subst (λ (b : Booked). IsWhole b c.args.call c.args.task) (sym c.self.view_is) c.requires.whole).live
 
-pub rerun_task-requires-clause-shows : goal.rerun_task-requires-clause-shows
-rerun_task-requires-clause-shows g c = shows_last c.self.inside.book c.self.inside.store c.commits.result c.new-view.result c.self.invariant.stored c.commits.ensures c.new-view.ensures
+pub settle-requires-clause-number : goal.settle-requires-clause-number
+settle-requires-clause-number g c = (subst (λ (b : Booked). IsWhole b c.args.call c.args.task) (sym c.self.view_is) c.requires.whole).number
 
-pub no_memory-requires : goal.no_memory-requires
-no_memory-requires g c = only_memory c.new-view.result c.rerun_task.new.view c.in-Err.why (fresh_last c.self.inside.book c.self.inside.store c.commits.result c.new-view.result c.self.invariant.stored c.commits.ensures c.new-view.ensures) c.in-Err.ensures.view.may_refuse
-
-pub rerun_task-requires-clause-missing : goal.rerun_task-requires-clause-missing
-rerun_task-requires-clause-missing g c = first_whole c.self.inside.book c.args.call c.args.running.now (c.self.invariant.numbers c.args.call) (subst (λ (b : Booked). IsWhole b c.args.call c.args.running.now) (sym c.self.view_is) c.requires.whole)
-
-pub rerun_task-requires-clause-fresh : goal.rerun_task-requires-clause-fresh
-rerun_task-requires-clause-fresh g c = (subst (λ (b : Booked). IsWhole b c.args.call c.args.running.now) (sym c.self.view_is) c.requires.whole).fresh
-
-pub rerun_task-requires-clause-whole : goal.rerun_task-requires-clause-whole
-rerun_task-requires-clause-whole g c = (subst (λ (b : Booked). IsWhole b c.args.call c.args.running.now) (sym c.self.view_is) c.requires.whole).records
-
-pub rerun_task-requires-clause-allowed : goal.rerun_task-requires-clause-allowed
-rerun_task-requires-clause-allowed g c = subst (λ (b : Booked). refusal (work_in b) b.course (A c.args.call) ≡ None) (sym c.self.view_is) c.requires.allowed
+pub reserve-requires : goal.reserve-requires
+reserve-requires g c = record { live = (whole_same c.self.inside.book c.settle.new.self c.args.call c.args.task c.settle.ensures.same (subst (λ (b : Booked). IsWhole b c.args.call c.args.task) (sym c.self.view_is) c.requires.whole)).live }
 
 pub invariant_of-self : goal.invariant_of-self
-invariant_of-self g c =
-    desk_left g.N.Making.script c.self.inside.book c.rerun_task.new.book c.self.inside.store c.self.inside.store c.self.inside.pass c.self.invariant c.in-Err.ensures.same (stored_same c.self.inside.book c.rerun_task.new.book c.self.inside.store c.self.invariant.stored c.in-Err.ensures.same)
+invariant_of-self g c = desk_same g.N.Making.script c.self.inside.book c.reserve.new.self c.self.inside.ledger c.self.inside.ledger c.self.inside.starts.items c.self.invariant (same_both c.self.inside.book c.settle.new.self c.reserve.new.self c.settle.ensures.same c.reserve.ensures.same) refl refl
+
+pub copy_since-requires-clause-live : goal.copy_since-requires-clause-live
+copy_since-requires-clause-live g c = (whole_same c.self.inside.book c.reserve.new.self c.args.call c.args.task (same_both c.self.inside.book c.settle.new.self c.reserve.new.self c.settle.ensures.same c.reserve.ensures.same) (subst (λ (b : Booked). IsWhole b c.args.call c.args.task) (sym c.self.view_is) c.requires.whole)).live
+
+pub copy_since-requires-clause-fresh : goal.copy_since-requires-clause-fresh
+copy_since-requires-clause-fresh g c =
+    fresh_same c.self.inside.book c.reserve.new.self c.args.call (same_both c.self.inside.book c.settle.new.self c.reserve.new.self c.settle.ensures.same c.reserve.ensures.same)
+    (subst (λ (b : Booked). IsNotStale b c.args.call) (sym c.self.view_is) c.requires.fresh)
+
+pub invariant_of-self-in_err-since : goal.invariant_of-self-in_err-since
+invariant_of-self-in_err-since g c = desk_same g.N.Making.script c.self.inside.book c.reserve.new.self c.self.inside.ledger c.self.inside.ledger c.self.inside.starts.items c.self.invariant (same_both c.self.inside.book c.settle.new.self c.reserve.new.self c.settle.ensures.same c.reserve.ensures.same) refl refl
+
+pub invariant_of-self-in_err-next : goal.invariant_of-self-in_err-next
+invariant_of-self-in_err-next g c =
+    desk_same g.N.Making.script c.self.inside.book c.reserve.new.self c.self.inside.ledger c.next_start.new.ledger c.self.inside.starts.items c.self.invariant (same_both c.self.inside.book c.settle.new.self c.reserve.new.self c.settle.ensures.same c.reserve.ensures.same) c.next_start.ensures.kept c.next_start.ensures.commits
+
+pub restart-requires-clause-allowed : goal.restart-requires-clause-allowed
+restart-requires-clause-allowed g c =
+    allowed_same (A c.args.call) c.self.inside.book c.reserve.new.self (same_both c.self.inside.book c.settle.new.self c.reserve.new.self c.settle.ensures.same c.reserve.ensures.same).script (same_both c.self.inside.book c.settle.new.self c.reserve.new.self c.settle.ensures.same c.reserve.ensures.same).course
+    (subst (λ (b : Booked). refusal (work_in b) b.course (A c.args.call) ≡ None) (sym c.self.view_is) c.requires.allowed)
+
+pub restart-requires-clause-settled : goal.restart-requires-clause-settled
+restart-requires-clause-settled g c plain = c.reserve.ensures.same.settled c.args.call c.settle.ensures.settled
+
+pub restart-requires-clause-room : goal.restart-requires-clause-room
+restart-requires-clause-room g c = room_less c.reserve.new.self c.args.call 2 1 (omega arith) c.in_ok-reserve.ensures.room
+
+pub index_mut-requires : goal.index_mut-requires
+index_mut-requires g c =
+    let lt : c.args.call < length c.self.inside.starts.items = entry_there g.N.Making.script c.self.inside.book.course c.self.inside.starts.items c.args.call c.self.invariant.touched (subst (λ (b : Booked). IsWhole b c.args.call c.args.task) (sym c.self.view_is) c.requires.whole).live in
+    search (rules, lt)
 
 pub invariant_of-self-2 : goal.invariant_of-self-2
 invariant_of-self-2 g c =
-    desk_again g.N.Making.script c.self.inside.book c.rerun_task.new.book c.self.inside.store c.self.inside.pass c.args.call c.self.invariant c.journal-events.ensures.allowed c.journal-events.ensures.reaches
-    c.in_default.ensures.made.0 c.in_default.ensures.settled
+    desk_again c.args.call g.N.Making.script c.self.inside.book c.restart.new.self c.self.inside.ledger c.next_start.new.ledger c.self.inside.starts.items _ c.self.invariant c.journal-events.ensures.allowed c.journal-events.ensures.reaches (subst (λ (b : Booked). IsWhole b c.args.call c.args.task) (sym c.self.view_is) c.requires.whole).live
+    (made_after (A c.args.call) c.self.inside.book c.reserve.new.self c.restart.new.self (same_both c.self.inside.book c.settle.new.self c.reserve.new.self c.settle.ensures.same c.reserve.ensures.same) c.restart.ensures.made) c.next_start.ensures.kept c.next_start.ensures.commits
+    (changes_seen g.N.Making.script c.self.inside.book.course.order c.self.inside.ledger _ c.self.invariant.seen c.self.invariant.commits c.in_ok-next.ensures.touched)
+
+pub invariant_of-result : goal.invariant_of-result
+invariant_of-result g c =
+    let same = (same_both c.self.inside.book c.settle.new.self c.reserve.new.self c.settle.ensures.same c.reserve.ensures.same) in
+    let whole = whole_same c.self.inside.book c.reserve.new.self c.args.call c.args.task same (subst (λ (b : Booked). IsWhole b c.args.call c.args.task) (sym c.self.view_is) c.requires.whole) in
+    repair_made g.N.Making.script c.reserve.new.self c.args.call c.number-from.result _ c.args.task c.in_ok-since.since (same.script ∙ c.self.invariant.script) c.self.invariant.sound (subst HaveTurns (sym same.course) c.self.invariant.turns) whole
+    (λ l at. subst (λ (b : Booked). (m : Live) → IsLive b.course c.args.call m → m.start ≡ c.args.start.number) (sym c.self.view_is) c.requires.start l (subst (λ (s : Course). IsLive s c.args.call l) same.course at) ∙ sym c.number-from.ensures.number)
+    (c.in_ok-next.ensures.number ∙ (c.self.invariant.commits ∙ ap (λ (s : Course). length s.order) (sym same.course))) (c.in_ok-next.ensures.whole ∙ (c.self.invariant.seen ∙ ap (λ (s : Course). s.order) (sym same.course))) c.in_ok-since.ensures.changes
+
+pub returns-in_err-reserve-clause-err : goal.returns-in_err-reserve-clause-err
+returns-in_err-reserve-clause-err g c = always_err _ _ (subst (λ (b : Booked). IsSame b c.reserve.new.self) c.self.view_is (same_both c.self.inside.book c.settle.new.self c.reserve.new.self c.settle.ensures.same c.reserve.ensures.same))
+
+pub returns-in_err-since-clause-err : goal.returns-in_err-since-clause-err
+returns-in_err-since-clause-err g c = always_err _ _ (subst (λ (b : Booked). IsSame b c.reserve.new.self) c.self.view_is (same_both c.self.inside.book c.settle.new.self c.reserve.new.self c.settle.ensures.same c.reserve.ensures.same))
+
+pub returns-in_err-next-clause-err : goal.returns-in_err-next-clause-err
+returns-in_err-next-clause-err g c = always_err _ _ (subst (λ (b : Booked). IsSame b c.reserve.new.self) c.self.view_is (same_both c.self.inside.book c.settle.new.self c.reserve.new.self c.settle.ensures.same c.reserve.ensures.same))
 
 pub returns-clause-ok : goal.returns-clause-ok
-returns-clause-ok g c = subst (λ (b : Booked). Made (A c.args.call) b c.rerun_task.new.book) c.self.view_is c.in_default.ensures.made.0
+returns-clause-ok g c =
+    subst (λ (b : Booked). Made (A c.args.call) b c.restart.new.self) c.self.view_is
+    (made_after (A c.args.call) c.self.inside.book c.reserve.new.self c.restart.new.self (same_both c.self.inside.book c.settle.new.self c.reserve.new.self c.settle.ensures.same c.reserve.ensures.same) c.restart.ensures.made)
 
-pub returns-clause-restarted : goal.returns-clause-restarted
-returns-clause-restarted g c =
-    let whole = (subst (λ (b : Booked). IsWhole b c.args.call c.args.running.now) (sym c.self.view_is) c.requires.whole) in
-    let live = whole.call.live in
-    subst (λ (b : Booked). IsRestarted b c.rerun_task.new.book c.args.call c.rerun_task.new.running) c.self.view_is
-    (restarted c.self.inside.book c.rerun_task.new.book c.self.inside.store c.args.call live.0 c.rerun_task.new.running c.self.invariant.stored whole.call.there live.1 (c.self.invariant.turns c.args.call live.0 live.1.at)
-    c.in_default.ensures.made.0 c.in_default.ensures.repaired)
-
-pub returns-in-Err-clause-err : goal.returns-in-Err-clause-err
-returns-in-Err-clause-err g c = subst (λ (b : Booked). IsSame b c.rerun_task.new.book) c.self.view_is c.in-Err.ensures.same
+pub returns-clause-last : goal.returns-clause-last
+returns-clause-last g c =
+    starts_last c.self.inside.book.course.order c.restart.new.self c.self.inside.ledger c.in_ok-next.next (desk_seen g.N.Making.script c.self.inside.book c.self.inside.ledger c.self.inside.starts.items c.self.invariant)
+    (ap (λ (s : Course). s.order) c.restart.ensures.made.course ∙ ap (λ (s : Course). s.order) ((same_both c.self.inside.book c.settle.new.self c.reserve.new.self c.settle.ensures.same c.reserve.ensures.same).course)) c.in_ok-next.ensures.number c.in_ok-next.ensures.whole

@@ -1,16 +1,26 @@
-use Rattle.std.proofs.Common.{rules, Some, sym, subst}
-use Rattle.mv_core.specs.Books.{Booked}
-use Rattle.mv_gate.specs.Gates.{Holding, IsLatest, HasCall}
-use Rattle.mv_gate.proofs.Ending.{met_repaired}
+use Rattle.std.proofs.Common.{ap, sym, subst, ◌∙◌, rules}
+use Rattle.mv_core.specs.Books.{Booked, IsSame}
+use Rattle.mv_core.proofs.Changed.{same_self}
+use Rattle.mv_gate.specs.Gates.{Holding, IsWhole, IsKnown}
+use Rattle.mv_gate.proofs.Holding.{known_start}
+use Rattle.mv_gate.proofs.Leaving.{seen_before, lost_apart}
 use Rattle.mv_gate.proofs.desk.Desk.attempt.Goals as goal
 
-pub try_commit-requires : goal.try_commit-requires
-try_commit-requires g c = (subst (λ (h : Holding). HasCall g.N.Making.script c.see.new.self h) (sym c.held.view_is) (c.if-not-has.ensures.call (search rules))).call
+pub has-requires : goal.has-requires
+has-requires g c = seen_before _ _ _ _ _ c.pass_for-seen.ensures.same c.learn.ensures.same c.pass_for-seen.ensures.seen c.learn.ensures.seen
 
-pub give_back-repaired-requires-clause-latest : goal.give_back-repaired-requires-clause-latest
-give_back-repaired-requires-clause-latest g c =
-    let old : Booked = c.see.new.self in
-    let h : Holding = record { call = c.held.inside.call; start = c.held.inside.start; from = c.held.inside.from; running = c.held.inside.running; knows = c.held.inside.pass } in
-    let here : HasCall g.N.Making.script old h = subst (λ (x : Holding). HasCall g.N.Making.script old x) (sym c.held.view_is) (c.if-not-has.ensures.call (search rules)) in
-    subst (λ n. IsLatest c.try_commit.new.self h.call (Some n) c.try_commit.new.running) (sym (here.start here.call.live.0 here.call.live.1))
-    ((met_repaired c.in_ok-answer.answer h.call c.try_commit.new.running old c.try_commit.new.self c.in_ok-answer.ensures c.in-Repaired.is).latest here.call.live.0 here.call.live.1)
+pub returns-then-not-has-clause-ok : goal.returns-then-not-has-clause-ok
+returns-then-not-has-clause-ok g c = subst (λ (b : Booked). IsSame c.args.self.now b) (sym c.learn.ensures.same) (same_self c.args.self.now)
+
+pub returns-then-not-has-clause-lost : goal.returns-then-not-has-clause-lost
+returns-then-not-has-clause-lost g c lost known =
+    lost_apart (IsKnown c.learn.new.self c.pass_for-seen.new.self) _ (search rules) c.if-not-has.ensures.known
+    (subst (λ (h : Holding). IsKnown c.learn.new.self h) (sym c.pass_for-seen.ensures.same) (subst (λ (b : Booked). IsKnown b c.args.held) (sym c.learn.ensures.same) known))
+
+pub decide-requires-clause-whole : goal.decide-requires-clause-whole
+decide-requires-clause-whole g c =
+    subst (λ (h : Holding). IsWhole c.learn.new.self h.call h.task) (sym c.held.view_is)
+    (c.if-not-has.ensures.whole (search rules) (ap (λ (h : Holding). h.task.ended) c.pass_for-seen.ensures.same ∙ c.requires))
+
+pub decide-requires-clause-start : goal.decide-requires-clause-start
+decide-requires-clause-start g c = known_start c.learn.new.self _ (subst (λ (h : Holding). IsKnown c.learn.new.self h) (sym c.held.view_is) (c.if-not-has.ensures.known.0 (search rules)))

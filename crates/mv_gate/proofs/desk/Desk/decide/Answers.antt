@@ -1,44 +1,33 @@
-use Rattle.std.proofs.Common.{sym, subst}
-use Rattle.mv_core.specs.Books.{Booked, IsNotStale}
-use Rattle.mv_core.proofs.Stored.{shows_start, fresh_start, only_memory}
-use Rattle.mv_gate.specs.Gates.{IsUnderWay, IsWhole}
-use Rattle.mv_gate.proofs.Holding.{running_of, open_ran, open_writes}
+use Rattle.std.proofs.Common.{◌≡◌, None, sym, subst}
+use Rattle.mv_script.specs.Scripts.{IsScript}
+use Rattle.mv_journal.specs.declared.event.Event.TheVariants.{C}
+use Rattle.mv_lawful.specs.Lawful.{refusal}
+use Rattle.mv_core.specs.Books.{work_in, Booked}
+use Rattle.mv_gate.specs.Gates.{IsWhole, MayMove}
+use Rattle.mv_gate.proofs.Holding.{whole_writes}
+use Rattle.mv_gate.proofs.Committing.{stale_moves}
 use Rattle.mv_gate.proofs.desk.Desk.decide.Goals as goal
 
-pub finish_task-requires-clause-call : goal.finish_task-requires-clause-call
-finish_task-requires-clause-call g c =
-    running_of c.self.inside.book c.self.inside.store c.args.call c.args.running.now c.self.invariant.stored (subst (λ (b : Booked). IsUnderWay b c.args.call c.args.running.now) (sym c.self.view_is) c.requires.call)
-
-pub finish_task-requires-clause-shows : goal.finish_task-requires-clause-shows
-finish_task-requires-clause-shows g c =
-    shows_start c.self.inside.book c.self.inside.store c.args.call c.start.result c.new-view.result c.self.invariant.stored (subst (λ (b : Booked). IsNotStale b c.args.call) (sym c.self.view_is) c.requires.fresh) c.start.ensures.value c.start.ensures.past c.new-view.ensures
-
-pub no_memory-requires : goal.no_memory-requires
-no_memory-requires g c =
-    only_memory c.new-view.result c.finish_task.new.view c.in-Err.why
-    (fresh_start c.self.inside.book c.self.inside.store c.args.call c.start.result c.new-view.result c.self.invariant.stored (subst (λ (b : Booked). IsNotStale b c.args.call) (sym c.self.view_is) c.requires.fresh) (subst (λ (b : Booked). IsUnderWay b c.args.call c.args.running.now) (sym c.self.view_is) c.requires.call).live c.start.ensures.value c.new-view.ensures)
-    c.in-Err.ensures.view.may_refuse
-
 pub check-requires-clause-live : goal.check-requires-clause-live
-check-requires-clause-live g c = (subst (λ (b : Booked). IsUnderWay b c.args.call c.args.running.now) (sym c.self.view_is) c.requires.call).live
+check-requires-clause-live g c = (subst (λ (b : Booked). IsWhole b c.args.call c.args.task) (sym c.self.view_is) c.requires.whole).live
+
+pub check-requires-clause-records : goal.check-requires-clause-records
+check-requires-clause-records g c = (subst (λ (b : Booked). IsWhole b c.args.call c.args.task) (sym c.self.view_is) c.requires.whole).records
 
 pub check-requires-clause-writes : goal.check-requires-clause-writes
 check-requires-clause-writes g c =
-    open_writes c.self.inside.book c.self.inside.store c.args.call c.finish_task.new.running c.self.invariant.stored
-    (open_ran c.self.inside.book c.args.call c.args.running.now c.finish_task.new.running (subst (λ (b : Booked). IsUnderWay b c.args.call c.args.running.now) (sym c.self.view_is) c.requires.call) c.in_default.ensures.task)
+    whole_writes c.self.inside.book c.args.call c.args.task (subst IsScript (sym c.self.invariant.script) c.self.invariant.sound) (subst (λ (b : Booked). IsWhole b c.args.call c.args.task) (sym c.self.view_is) c.requires.whole)
 
-pub commit-requires-clause-whole : goal.commit-requires-clause-whole
-commit-requires-clause-whole g c =
-    subst (λ (b : Booked). IsWhole b c.args.call c.finish_task.new.running) c.self.view_is (record {
-      call = open_ran c.self.inside.book c.args.call c.args.running.now c.finish_task.new.running (subst (λ (b : Booked). IsUnderWay b c.args.call c.args.running.now) (sym c.self.view_is) c.requires.call) c.in_default.ensures.task;
-      fresh = subst (λ (b : Booked). IsNotStale b c.args.call) (sym c.self.view_is) c.requires.fresh;
-      records = c.in_default.ensures.ok;
-    })
+pub meet_late-requires-clause-call : goal.meet_late-requires-clause-call
+meet_late-requires-clause-call g c =
+    let whole : IsWhole c.self.inside.book c.args.call c.args.task = subst (λ (b : Booked). IsWhole b c.args.call c.args.task) (sym c.self.view_is) c.requires.whole in
+    subst (λ (b : Booked). MayMove b c.args.call) c.self.view_is
+    (stale_moves c.self.inside.book c.args.call c.journal-events.ensures.allowed c.journal-events.ensures.reaches whole.live whole.there (λ l live. (c.in-Stale.ensures l live).0))
 
-pub meet_hit-requires-clause-whole : goal.meet_hit-requires-clause-whole
-meet_hit-requires-clause-whole g c =
-    subst (λ (b : Booked). IsWhole b c.args.call c.finish_task.new.running) c.self.view_is (record {
-      call = open_ran c.self.inside.book c.args.call c.args.running.now c.finish_task.new.running (subst (λ (b : Booked). IsUnderWay b c.args.call c.args.running.now) (sym c.self.view_is) c.requires.call) c.in_default.ensures.task;
-      fresh = subst (λ (b : Booked). IsNotStale b c.args.call) (sym c.self.view_is) c.requires.fresh;
-      records = c.in_default.ensures.ok;
-    })
+pub commit-requires-clause-allowed : goal.commit-requires-clause-allowed
+commit-requires-clause-allowed g c =
+    let live = (subst (λ (b : Booked). IsWhole b c.args.call c.args.task) (sym c.self.view_is) c.requires.whole).live in
+    subst (λ (b : Booked). refusal (work_in b) b.course (C c.args.call) ≡ None) c.self.view_is (c.in-Free.ensures live.0 live.1)
+
+pub returns-in-Stale-clause-repair : goal.returns-in-Stale-clause-repair
+returns-in-Stale-clause-repair g c = c.meet_late.ensures.repair c.args.start.number

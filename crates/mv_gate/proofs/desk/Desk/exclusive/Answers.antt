@@ -1,58 +1,141 @@
-use Rattle.std.proofs.Common.{◌≡◌, ◌<◌, ◌+◌, ◌++◌, ◌∷◌, ℕ, List, [], None, false, length, refl, sym, ap, subst, ◌∙◌}
+use Rattle.std.proofs.Common.{◌≡◌, ◌<◌, ◌+◌, ◌++◌, ◌∷◌, ℕ, List, [], None, false, length, refl, sym, ap, subst, ◌∙◌, arith, rules}
 use Rattle.std.specs.List.{list_any}
 use lib.Dec.{eqb}
 use Rattle.mv_journal.specs.declared.event.Event.TheVariants.{X}
-use Rattle.mv_lawful.specs.Lawful.{refusal}
-use Rattle.mv_seats.specs.Knowing.{Knows}
+use Rattle.mv_lawful.specs.Lawful.{Course, refusal}
 use Rattle.mv_script.specs.declared.script.Script.{Script}
-use Rattle.mv_core.specs.Books.{Booked, work_in, Made, IsSame}
+use Rattle.mv_core.specs.Books.{Booked, work_in, Made, IsSame, IsNotStale}
+use Rattle.mv_core.proofs.Changed.{same_both, allowed_same, room_less, made_after}
 use Rattle.mv_gate.specs.Gates.{IsWhole}
-use Rattle.mv_gate.proofs.Desks.{desk_left, desk_other, order_decided, fresh_call, commit_failed}
-use Rattle.mv_gate.proofs.Holding.{running_of, first_whole}
+use Rattle.mv_gate.proofs.Starts.{entry_there}
+use Rattle.mv_gate.proofs.Desks.{desk_seen, seen_still, desk_same, desk_decided, fresh_call, commit_failed}
+use Rattle.mv_gate.proofs.Holding.{whole_same, fresh_same, turns_same}
+use Rattle.mv_gate.proofs.Committing.{own_decided, records_here, reply_here, changes_here}
 use Rattle.mv_gate.proofs.desk.Desk.exclusive.Goals as goal
 
-pub decide_task-requires-clause-call : goal.decide_task-requires-clause-call
-decide_task-requires-clause-call g c = running_of c.self.inside.book c.self.inside.store c.args.call c.args.running.now c.self.invariant.stored (subst (λ (b : Booked). IsWhole b c.args.call c.args.running.now) (sym c.self.view_is) c.requires.whole).call
+pub settle-requires-clause-live : goal.settle-requires-clause-live
+settle-requires-clause-live g c = (subst (λ (b : Booked). IsWhole b c.args.call c.args.task.now) (sym c.self.view_is) c.requires.whole).live
 
-pub decide_task-requires-clause-missing : goal.decide_task-requires-clause-missing
-decide_task-requires-clause-missing g c = first_whole c.self.inside.book c.args.call c.args.running.now (c.self.invariant.numbers c.args.call) (subst (λ (b : Booked). IsWhole b c.args.call c.args.running.now) (sym c.self.view_is) c.requires.whole)
+pub settle-requires-clause-number : goal.settle-requires-clause-number
+settle-requires-clause-number g c = (subst (λ (b : Booked). IsWhole b c.args.call c.args.task.now) (sym c.self.view_is) c.requires.whole).number
 
-pub decide_task-requires-clause-fresh : goal.decide_task-requires-clause-fresh
-decide_task-requires-clause-fresh g c = (subst (λ (b : Booked). IsWhole b c.args.call c.args.running.now) (sym c.self.view_is) c.requires.whole).fresh
-
-pub decide_task-requires-clause-whole : goal.decide_task-requires-clause-whole
-decide_task-requires-clause-whole g c = (subst (λ (b : Booked). IsWhole b c.args.call c.args.running.now) (sym c.self.view_is) c.requires.whole).records
-
-pub decide_task-requires-clause-allowed : goal.decide_task-requires-clause-allowed
-decide_task-requires-clause-allowed g c = subst (λ (b : Booked). refusal (work_in b) b.course (X c.args.call) ≡ None) (sym c.self.view_is) c.requires.allowed
-
-pub append-requires-clause-call : goal.append-requires-clause-call
-append-requires-clause-call g c =
-    let whole = subst (λ (b : Booked). IsWhole b c.args.call c.args.running.now) (sym c.self.view_is) c.requires.whole in
-    subst (λ (x : Script). c.args.call < length x.calls) c.self.invariant.script whole.call.there
-
-pub append-requires-clause-fresh : goal.append-requires-clause-fresh
-append-requires-clause-fresh g c =
-    subst (λ (xs : List ℕ). list_any (eqb c.args.call) xs ≡ false) (sym c.self.invariant.seen)
-    (fresh_call c.self.inside.book c.args.call c.journal-events.ensures.allowed c.journal-events.ensures.reaches (subst (λ (b : Booked). IsWhole b c.args.call c.args.running.now) (sym c.self.view_is) c.requires.whole).call.live)
+pub reserve-requires : goal.reserve-requires
+reserve-requires g c = record { live = (whole_same c.self.inside.book c.settle.new.self c.args.call c.args.task.now c.settle.ensures.same (subst (λ (b : Booked). IsWhole b c.args.call c.args.task.now) (sym c.self.view_is) c.requires.whole)).live }
 
 pub invariant_of-self : goal.invariant_of-self
-invariant_of-self g c = desk_left g.N.Making.script c.self.inside.book c.decide_task.new.book c.self.inside.store c.decide_task.new.store c.self.inside.pass c.self.invariant c.in_err-commit.ensures.made c.decide_task.ensures.stored
+invariant_of-self g c =
+    desk_same g.N.Making.script c.self.inside.book c.reserve.new.self c.self.inside.ledger c.self.inside.ledger c.self.inside.starts.items c.self.invariant
+    (same_both c.self.inside.book c.settle.new.self c.reserve.new.self c.settle.ensures.same c.reserve.ensures.same) refl refl
+
+pub install-requires-clause-there : goal.install-requires-clause-there
+install-requires-clause-there g c =
+    subst (λ (x : Script). c.args.call < length x.calls) c.self.invariant.script (subst (λ (b : Booked). IsWhole b c.args.call c.args.task.now) (sym c.self.view_is) c.requires.whole).there
+
+pub install-requires-clause-fresh : goal.install-requires-clause-fresh
+install-requires-clause-fresh g c =
+    subst (λ (xs : List ℕ). list_any (eqb c.args.call) xs ≡ false) (sym (c.repair_last.ensures.kept ∙ c.self.invariant.seen))
+    (fresh_call c.self.inside.book c.args.call c.journal-events.ensures.allowed c.journal-events.ensures.reaches (subst (λ (b : Booked). IsWhole b c.args.call c.args.task.now) (sym c.self.view_is) c.requires.whole).live)
+
+pub repair_last-requires-clause-script : goal.repair_last-requires-clause-script
+repair_last-requires-clause-script g c = (same_both c.self.inside.book c.settle.new.self c.reserve.new.self c.settle.ensures.same c.reserve.ensures.same).script ∙ c.self.invariant.script
+
+pub repair_last-requires-clause-seen : goal.repair_last-requires-clause-seen
+repair_last-requires-clause-seen g c =
+    c.self.invariant.seen ∙ sym (ap (λ (s : Course). s.order) (same_both c.self.inside.book c.settle.new.self c.reserve.new.self c.settle.ensures.same c.reserve.ensures.same).course)
+
+pub repair_last-requires-clause-whole : goal.repair_last-requires-clause-whole
+repair_last-requires-clause-whole g c =
+    whole_same c.self.inside.book c.reserve.new.self c.args.call c.args.task.now (same_both c.self.inside.book c.settle.new.self c.reserve.new.self c.settle.ensures.same c.reserve.ensures.same)
+    (subst (λ (b : Booked). IsWhole b c.args.call c.args.task.now) (sym c.self.view_is) c.requires.whole)
+
+pub repair_last-requires-clause-fresh : goal.repair_last-requires-clause-fresh
+repair_last-requires-clause-fresh g c =
+    fresh_same c.self.inside.book c.reserve.new.self c.args.call (same_both c.self.inside.book c.settle.new.self c.reserve.new.self c.settle.ensures.same c.reserve.ensures.same) (subst (λ (b : Booked). IsNotStale b c.args.call) (sym c.self.view_is) c.requires.fresh)
+
+pub invariant_of-self-in_err-repair_last : goal.invariant_of-self-in_err-repair_last
+invariant_of-self-in_err-repair_last g c =
+    desk_same g.N.Making.script c.self.inside.book c.reserve.new.self c.self.inside.ledger c.repair_last.new.ledger c.self.inside.starts.items c.self.invariant
+    (same_both c.self.inside.book c.settle.new.self c.reserve.new.self c.settle.ensures.same c.reserve.ensures.same) c.repair_last.ensures.kept c.repair_last.ensures.commits
+
+pub install-requires-clause-whole : goal.install-requires-clause-whole
+install-requires-clause-whole g c =
+    let s = g.N.Making.script in
+    let same = same_both c.self.inside.book c.settle.new.self c.reserve.new.self c.settle.ensures.same c.reserve.ensures.same in
+    records_here s c.reserve.new.self c.repair_last.new.ledger c.args.call c.repair_last.new.task.log.records (same.script ∙ c.self.invariant.script)
+    (seen_still c.self.inside.book.course.order c.reserve.new.self.course.order c.self.inside.ledger c.repair_last.new.ledger (desk_seen s c.self.inside.book c.self.inside.ledger c.self.inside.starts.items c.self.invariant)
+    (ap (λ (x : Course). x.order) same.course) c.repair_last.ensures.kept c.repair_last.ensures.commits) c.in_ok-repair_last.ensures.latest.records
+
+pub invariant_of-self-in_err-installed : goal.invariant_of-self-in_err-installed
+invariant_of-self-in_err-installed g c =
+    desk_same g.N.Making.script c.self.inside.book c.reserve.new.self c.self.inside.ledger c.install.new.ledger c.self.inside.starts.items c.self.invariant
+    (same_both c.self.inside.book c.settle.new.self c.reserve.new.self c.settle.ensures.same c.reserve.ensures.same) (c.in_err-installed.ensures.err ∙ c.repair_last.ensures.kept) (c.in_err-installed.ensures.stays ∙ c.repair_last.ensures.commits)
+
+pub commit-commit-requires-clause-allowed : goal.commit-commit-requires-clause-allowed
+commit-commit-requires-clause-allowed g c =
+    let same = same_both c.self.inside.book c.settle.new.self c.reserve.new.self c.settle.ensures.same c.reserve.ensures.same in
+    allowed_same (X c.args.call) c.self.inside.book c.reserve.new.self same.script same.course (subst (λ (x : Booked). refusal (work_in x) x.course (X c.args.call) ≡ None) (sym c.self.view_is) c.requires.allowed)
+
+pub commit-commit-requires-clause-reply : goal.commit-commit-requires-clause-reply
+commit-commit-requires-clause-reply g c =
+    let s = g.N.Making.script in
+    let same = same_both c.self.inside.book c.settle.new.self c.reserve.new.self c.settle.ensures.same c.reserve.ensures.same in
+    c.in_ok-installed.ensures.reply
+    ∙ reply_here s c.reserve.new.self c.repair_last.new.ledger c.args.call (same.script ∙ c.self.invariant.script)
+    (seen_still c.self.inside.book.course.order c.reserve.new.self.course.order c.self.inside.ledger c.repair_last.new.ledger (desk_seen s c.self.inside.book c.self.inside.ledger c.self.inside.starts.items c.self.invariant)
+    (ap (λ (x : Course). x.order) same.course) c.repair_last.ensures.kept c.repair_last.ensures.commits)
+
+pub commit-commit-requires-clause-changes : goal.commit-commit-requires-clause-changes
+commit-commit-requires-clause-changes g c =
+    let s = g.N.Making.script in
+    let same = same_both c.self.inside.book c.settle.new.self c.reserve.new.self c.settle.ensures.same c.reserve.ensures.same in
+    c.in_ok-installed.ensures.changes
+    ∙ changes_here s c.reserve.new.self c.repair_last.new.ledger c.args.call (same.script ∙ c.self.invariant.script)
+    (seen_still c.self.inside.book.course.order c.reserve.new.self.course.order c.self.inside.ledger c.repair_last.new.ledger (desk_seen s c.self.inside.book c.self.inside.ledger c.self.inside.starts.items c.self.invariant)
+    (ap (λ (x : Course). x.order) same.course) c.repair_last.ensures.kept c.repair_last.ensures.commits)
+
+pub commit-commit-requires-clause-settled : goal.commit-commit-requires-clause-settled
+commit-commit-requires-clause-settled g c = c.reserve.ensures.same.settled c.args.call c.settle.ensures.settled
+
+pub commit-commit-requires-clause-number : goal.commit-commit-requires-clause-number
+commit-commit-requires-clause-number g c =
+    let same = same_both c.self.inside.book c.settle.new.self c.reserve.new.self c.settle.ensures.same c.reserve.ensures.same in
+    let whole = whole_same c.self.inside.book c.reserve.new.self c.args.call c.args.task.now same (subst (λ (b : Booked). IsWhole b c.args.call c.args.task.now) (sym c.self.view_is) c.requires.whole) in
+    own_decided c.reserve.new.self c.args.call c.repair_last.new.task whole.live (turns_same c.self.inside.book c.reserve.new.self c.args.call same c.self.invariant.turns) c.in_ok-repair_last.ensures.executed
+
+pub commit-commit-requires-clause-room : goal.commit-commit-requires-clause-room
+commit-commit-requires-clause-room g c = room_less c.reserve.new.self c.args.call 2 1 (omega arith) c.in_ok-reserve.ensures.room
+
+pub index_mut-requires : goal.index_mut-requires
+index_mut-requires g c =
+    let lt : c.args.call < length c.self.inside.starts.items =
+    entry_there g.N.Making.script c.self.inside.book.course c.self.inside.starts.items c.args.call c.self.invariant.touched (subst (λ (b : Booked). IsWhole b c.args.call c.args.task.now) (sym c.self.view_is) c.requires.whole).live in
+    search (rules, lt)
 
 pub invariant_of-self-2 : goal.invariant_of-self-2
 invariant_of-self-2 g c =
-    let made : Made (X c.args.call) c.self.inside.book c.decide_task.new.book = c.in_ok-commit.ensures.made.0 in
-    desk_other (X c.args.call) g.N.Making.script c.self.inside.book c.decide_task.new.book c.self.inside.store c.decide_task.new.store c.self.inside.pass c.append.new.self c.self.invariant made (λ x. refl) c.in_ok-commit.ensures.stored
-    (ap (λ (k : Knows). k.role) c.append.ensures ∙ c.self.invariant.role)
-    (ap (λ (k : Knows). k.seen) c.append.ensures ∙ (ap (λ (xs : List ℕ). xs ++ c.args.call ∷ []) c.self.invariant.seen ∙ sym (order_decided c.args.call c.self.inside.book c.decide_task.new.book made)))
+    desk_decided c.args.call g.N.Making.script c.self.inside.book c.commit-commit.new.self c.self.inside.ledger c.install.new.ledger c.self.inside.starts.items c.self.invariant
+    (subst (λ (b : Booked). IsWhole b c.args.call c.args.task.now) (sym c.self.view_is) c.requires.whole).live
+    (made_after (X c.args.call) c.self.inside.book c.reserve.new.self c.commit-commit.new.self (same_both c.self.inside.book c.settle.new.self c.reserve.new.self c.settle.ensures.same c.reserve.ensures.same) c.commit-commit.ensures.made)
+    (c.in_ok-installed.ensures.appended ∙ ap (λ (xs : List ℕ). xs ++ c.args.call ∷ []) c.repair_last.ensures.kept) (c.in_ok-installed.ensures.counted ∙ ap (λ n. n + 1) c.repair_last.ensures.commits)
+
+pub returns-in_err-reserve : goal.returns-in_err-reserve
+returns-in_err-reserve g c =
+    commit_failed _ (X c.args.call) c.from_residual.result c.args.self.now c.reserve.new.self c.from_residual.ensures.1
+    (subst (λ (b : Booked). IsSame b c.reserve.new.self) c.self.view_is (same_both c.self.inside.book c.settle.new.self c.reserve.new.self c.settle.ensures.same c.reserve.ensures.same))
+
+pub returns-in_err-repair_last : goal.returns-in_err-repair_last
+returns-in_err-repair_last g c =
+    commit_failed _ (X c.args.call) c.from_residual-in_err-repair_last.result c.args.self.now c.reserve.new.self c.from_residual-in_err-repair_last.ensures.1
+    (subst (λ (b : Booked). IsSame b c.reserve.new.self) c.self.view_is (same_both c.self.inside.book c.settle.new.self c.reserve.new.self c.settle.ensures.same c.reserve.ensures.same))
+
+pub returns-in_err-installed : goal.returns-in_err-installed
+returns-in_err-installed g c =
+    commit_failed _ (X c.args.call) c.from_residual-in_err-installed.result c.args.self.now c.reserve.new.self c.from_residual-in_err-installed.ensures.1
+    (subst (λ (b : Booked). IsSame b c.reserve.new.self) c.self.view_is (same_both c.self.inside.book c.settle.new.self c.reserve.new.self c.settle.ensures.same c.reserve.ensures.same))
 
 pub returns : goal.returns
-returns g c = (
-  subst (λ (b : Booked). Made (X c.args.call) b c.decide_task.new.book) c.self.view_is c.in_ok-commit.ensures.made.0,
-  c.in_ok-commit.ensures.made.1 ∙ ap (λ (b : Booked). length b.course.order + 1) c.self.view_is,
-)
-
-pub returns-in_err-commit : goal.returns-in_err-commit
-returns-in_err-commit g c =
-    commit_failed _ (X c.args.call) c.from_residual.result c.args.self.now c.decide_task.new.book c.from_residual.ensures.1
-    (subst (λ (b : Booked). IsSame b c.decide_task.new.book) c.self.view_is c.in_err-commit.ensures.made)
+returns g c =
+    let same = same_both c.self.inside.book c.settle.new.self c.reserve.new.self c.settle.ensures.same c.reserve.ensures.same in (
+      subst (λ (b : Booked). Made (X c.args.call) b c.commit-commit.new.self) c.self.view_is (made_after (X c.args.call) c.self.inside.book c.reserve.new.self c.commit-commit.new.self same c.commit-commit.ensures.made),
+      c.commit-commit.ensures.number ∙ (ap (λ (s : Course). length s.order + 1) same.course ∙ ap (λ (b : Booked). length b.course.order + 1) c.self.view_is),
+    )

@@ -1,36 +1,57 @@
-use Rattle.std.proofs.Common.{◌<◌, length, refl, sym, ap, subst}
-use Rattle.std.specs.Prelude.{true}
+use Rattle.std.proofs.Common.{◌<◌, true, length, refl, sym, ap, subst, ◌∙◌, arith, rules}
 use Rattle.mv_journal.specs.declared.event.Event.TheVariants.{M}
 use Rattle.mv_lawful.specs.Lawful.{Course}
-use Rattle.mv_core.specs.Calls.{IsLiveCall}
-use Rattle.mv_core.specs.Books.{Booked, Made}
-use Rattle.mv_core.proofs.Stored.{stored_same}
-use Rattle.mv_gate.specs.Gates.{IsStale, HasRound}
-use Rattle.mv_gate.proofs.Desks.{desk_left, desk_moved}
-use Rattle.mv_gate.proofs.Repaired.{moved_latest}
+use Rattle.mv_values.proofs.Deciding.{always_err}
+use Rattle.mv_core.specs.Books.{Booked, Made, IsSame}
+use Rattle.mv_core.proofs.Changed.{live_now, room_less, made_after}
+use Rattle.mv_gate.specs.Gates.{MayMove, HasRound}
+use Rattle.mv_gate.proofs.Starts.{entry_there, changes_seen}
+use Rattle.mv_gate.proofs.Desks.{desk_seen, starts_last, desk_same, desk_moved}
+use Rattle.mv_gate.proofs.Committing.{move_allowed}
 use Rattle.mv_gate.proofs.desk.Desk.move_up.Goals as goal
 
-pub move_last-requires-clause-live : goal.move_last-requires-clause-live
-move_last-requires-clause-live g c = subst (λ (b : Booked). IsLiveCall b.course c.args.call) (sym c.self.view_is) c.requires.call.live
-
-pub move_last-requires-clause-number : goal.move_last-requires-clause-number
-move_last-requires-clause-number g c = subst (λ (b : Booked). c.args.call < length b.script.calls) (sym c.self.view_is) c.requires.call.there
+pub reserve-requires : goal.reserve-requires
+reserve-requires g c = record { live = (subst (λ (b : Booked). MayMove b c.args.call) (sym c.self.view_is) c.requires.call).live }
 
 pub invariant_of-self : goal.invariant_of-self
-invariant_of-self g c =
-    desk_left g.N.Making.script c.self.inside.book c.move_last.new.book c.self.inside.store c.self.inside.store c.self.inside.pass c.self.invariant c.in_err-task.ensures.same (stored_same c.self.inside.book c.move_last.new.book c.self.inside.store c.self.invariant.stored c.in_err-task.ensures.same)
+invariant_of-self g c = desk_same g.N.Making.script c.self.inside.book c.reserve.new.self c.self.inside.ledger c.self.inside.ledger c.self.inside.starts.items c.self.invariant c.reserve.ensures.same refl refl
+
+pub invariant_of-self-in_err-start : goal.invariant_of-self-in_err-start
+invariant_of-self-in_err-start g c =
+    desk_same g.N.Making.script c.self.inside.book c.reserve.new.self c.self.inside.ledger c.next_start.new.ledger c.self.inside.starts.items c.self.invariant c.reserve.ensures.same c.next_start.ensures.kept c.next_start.ensures.commits
+
+pub restart-requires-clause-allowed : goal.restart-requires-clause-allowed
+restart-requires-clause-allowed g c =
+    move_allowed c.reserve.new.self c.args.call (live_now c.self.inside.book c.self.inside.book c.reserve.new.self c.args.call refl (subst (λ (b : Booked). MayMove b c.args.call) (sym c.self.view_is) c.requires.call).live c.reserve.ensures.same)
+
+pub restart-requires-clause-room : goal.restart-requires-clause-room
+restart-requires-clause-room g c = room_less c.reserve.new.self c.args.call 2 1 (omega arith) c.in_ok-reserve.ensures.room
+
+pub index_mut-requires : goal.index_mut-requires
+index_mut-requires g c =
+    let lt : c.args.call < length c.self.inside.starts.items =
+    entry_there g.N.Making.script c.self.inside.book.course c.self.inside.starts.items c.args.call c.self.invariant.touched (subst (λ (b : Booked). MayMove b c.args.call) (sym c.self.view_is) c.requires.call).live in
+    search (rules, lt)
 
 pub invariant_of-self-2 : goal.invariant_of-self-2
 invariant_of-self-2 g c =
-    desk_moved g.N.Making.script c.self.inside.book c.move_last.new.book c.self.inside.store c.self.inside.pass c.args.call c.self.invariant c.journal-events.ensures.allowed c.journal-events.ensures.reaches
-    (subst (λ (x : Booked). IsLiveCall x.course c.args.call) (sym c.self.view_is) c.requires.call.live) (subst (λ (x : Booked). IsStale x c.args.call) (sym c.self.view_is) c.requires.call.stale)
-    (subst (λ (x : Booked). HasRound true x c.args.call) (sym c.self.view_is) c.requires.left) c.in_ok-task.ensures.made c.in_ok-task.ensures.settled
+    let ok : MayMove c.self.inside.book c.args.call = subst (λ (b : Booked). MayMove b c.args.call) (sym c.self.view_is) c.requires.call in
+    desk_moved c.args.call g.N.Making.script c.self.inside.book c.restart.new.self c.self.inside.ledger c.next_start.new.ledger c.self.inside.starts.items _ c.self.invariant c.journal-events.ensures.allowed c.journal-events.ensures.reaches ok.live ok.past
+    (subst (λ (b : Booked). HasRound true b c.args.call) (sym c.self.view_is) c.requires.left) (made_after (M c.args.call) c.self.inside.book c.reserve.new.self c.restart.new.self c.reserve.ensures.same c.restart.ensures.made)
+    c.next_start.ensures.kept c.next_start.ensures.commits (changes_seen g.N.Making.script c.self.inside.book.course.order c.self.inside.ledger _ c.self.invariant.seen c.self.invariant.commits c.in_ok-start.ensures.touched)
+
+pub returns-in_err-reserve-clause-err : goal.returns-in_err-reserve-clause-err
+returns-in_err-reserve-clause-err g c = always_err _ _ (subst (λ (b : Booked). IsSame b c.reserve.new.self) c.self.view_is c.reserve.ensures.same)
+
+pub returns-in_err-start-clause-err : goal.returns-in_err-start-clause-err
+returns-in_err-start-clause-err g c = always_err _ _ (subst (λ (b : Booked). IsSame b c.reserve.new.self) c.self.view_is c.reserve.ensures.same)
 
 pub returns-clause-ok : goal.returns-clause-ok
-returns-clause-ok g c = subst (λ (b : Booked). Made (M c.args.call) b c.move_last.new.book) c.self.view_is c.in_ok-task.ensures.made
+returns-clause-ok g c =
+    subst (λ (b : Booked). Made (M c.args.call) b c.restart.new.self) c.self.view_is
+    (made_after (M c.args.call) c.self.inside.book c.reserve.new.self c.restart.new.self c.reserve.ensures.same c.restart.ensures.made)
 
-pub returns-clause-latest : goal.returns-clause-latest
-returns-clause-latest g c =
-    moved_latest c.self.inside.book c.move_last.new.book c.args.call (length c.self.inside.book.course.order) c.in_ok-task.task
-    (subst (λ (b : Booked). c.args.call < length b.script.calls) (sym c.self.view_is) c.requires.call.there) c.in_ok-task.ensures.made.script
-    (ap (λ (s : Course). s.order) c.in_ok-task.ensures.made.course) refl c.in_ok-task.ensures.runs c.in_ok-task.ensures.records c.in_ok-task.ensures.executed
+pub returns-clause-last : goal.returns-clause-last
+returns-clause-last g c =
+    starts_last c.self.inside.book.course.order c.restart.new.self c.self.inside.ledger c.in_ok-start.start (desk_seen g.N.Making.script c.self.inside.book c.self.inside.ledger c.self.inside.starts.items c.self.invariant)
+    (ap (λ (s : Course). s.order) c.restart.ensures.made.course ∙ ap (λ (s : Course). s.order) c.reserve.ensures.same.course) c.in_ok-start.ensures.number c.in_ok-start.ensures.whole

@@ -1,23 +1,40 @@
-use Rattle.std.proofs.Common.{◌≡◌}
-use Rattle.std.specs.Prelude.{Result, Ok, Err, IfOk, OnOk}
+use Rattle.std.proofs.Common.{◌≡◌, length, List, Option, ℕ, sym, ap, subst, ◌∙◌}
+use Rattle.std.specs.Prelude.{Result, Ok, Err, IfOk}
 use Rattle.mv_values.specs.declared.memory.NoMemory.{NoMemory}
+use Rattle.mv_script.specs.declared.script.Script.{Script}
 use Rattle.mv_journal.specs.declared.outcome.Outcome.{Outcome}
-use Rattle.mv_lawful.specs.Lawful.{Lawful}
+use Rattle.mv_lawful.specs.Lawful.{Lawful, open_call}
 use Rattle.mv_lawful.specs.Outcomes.{outcome_of}
 use Rattle.mv_seats.specs.Scripts.{Script as BoardScript}
-use Rattle.mv_seats.specs.Knowing.{Knows}
-use Rattle.mv_store.specs.Stored.{Versioned}
+use Rattle.mv_shards.specs.Scripts.{work}
+use Rattle.mv_shards.specs.Ledgers.{Entered}
 use Rattle.mv_core.specs.Books.{Booked, work_in}
-use Rattle.mv_gate.specs.Gates.{work, IsDesk, IsOutcome}
+use Rattle.mv_gate.specs.Gates.{IsDesk, IsOutcome}
+use Rattle.mv_gate.proofs.Desks.{desk_seen, idle_order}
+use Rattle.mv_gate.proofs.Committing.{tables_here}
 use Rattle.mv_gate.proofs.Ending.{outcome_told, journal_told}
 use Rattle.mv_gate.proofs.desk.Desk.outcome.Goals as goal
 
-outcome_from : (s : BoardScript) (b : Booked) (store : Versioned) (gate : Knows) (r : Result Outcome NoMemory) → IsDesk s b store gate → OnOk r (Lawful (work_in b) b.journal) → IfOk r (λ o. o ≡ outcome_of (work_in b) b.journal) → IfOk r (IsOutcome (work s))
-outcome_from s b store gate (Ok o) d lawful is = outcome_told s b store gate o d lawful is
-outcome_from s b store gate (Err e) d lawful is = tt
+outcome_from : (s : BoardScript) (b : Booked) (ledger : Entered) (starts : List (Option (List ℕ))) (r : Result Outcome NoMemory) → IsDesk s b ledger starts → Lawful (work_in b) b.journal → IfOk r (λ o. o ≡ outcome_of (work_in b) b.journal)
+    → IfOk r (IsOutcome (work s))
+outcome_from s b ledger starts (Ok o) d lawful is = outcome_told s b ledger starts o d lawful is
+outcome_from s b ledger starts (Err e) d lawful is = tt
+
+pub last_tables-requires : goal.last_tables-requires
+last_tables-requires g c none =
+    c.self.invariant.seen
+    ∙ idle_order c.self.inside.book c.journal-events.ensures.allowed c.journal-events.ensures.reaches (ap (λ (x : Script). length x.calls) c.self.invariant.script ∙ none)
+
+pub outcome-requires-clause-ended : goal.outcome-requires-clause-ended
+outcome-requires-clause-ended g c = subst (λ (b : Booked). open_call (work_in b) b.course ≡ _) (sym c.self.view_is) c.requires
+
+pub outcome-requires-clause-tables : goal.outcome-requires-clause-tables
+outcome-requires-clause-tables g c =
+    c.in_ok-tables.ensures
+    ∙ tables_here g.N.Making.script c.self.inside.book c.self.inside.ledger c.self.invariant.script (desk_seen g.N.Making.script c.self.inside.book c.self.inside.ledger c.self.inside.starts.items c.self.invariant)
 
 pub returns-clause-outcome : goal.returns-clause-outcome
-returns-clause-outcome g c = outcome_from g.N.Making.script c.self.inside.book c.self.inside.store c.self.inside.pass c.outcome_of.result c.self.invariant c.outcome_of.ensures.lawful c.outcome_of.ensures.outcome
+returns-clause-outcome g c = outcome_from g.N.Making.script c.self.inside.book c.self.inside.ledger c.self.inside.starts.items c.outcome.result c.self.invariant c.outcome.ensures.lawful c.outcome.ensures.outcome
 
 pub returns-clause-journal : goal.returns-clause-journal
-returns-clause-journal g c = journal_told c.args.self c.self.inside.book c.outcome_of.result c.self.view_is c.outcome_of.ensures.outcome
+returns-clause-journal g c = journal_told c.args.self c.self.inside.book c.outcome.result c.self.view_is c.outcome.ensures.outcome

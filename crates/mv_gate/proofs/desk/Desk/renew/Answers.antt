@@ -1,47 +1,79 @@
-use Rattle.std.proofs.Common.{◌<◌, Some, length, sym, subst}
-use Rattle.mv_core.specs.Calls.{IsLiveCall}
-use Rattle.mv_core.specs.Books.{Booked, IsNotStale}
-use Rattle.mv_core.specs.Cores.{Shows}
-use Rattle.mv_core.proofs.Stored.{shows_start, fresh_start, database_shown, only_memory}
-use Rattle.mv_core.proofs.Taking.{runs_back, records_back}
-use Rattle.mv_gate.specs.Gates.{IsUnderWay}
-use Rattle.mv_gate.proofs.Holding.{number_anew, renewed}
+use Rattle.std.proofs.Common.{◌≡◌, ◌<◌, length, refl, sym, ap, subst, ◌∙◌, arith}
+use Rattle.mv_view.specs.Viewing.{Sight}
+use Rattle.mv_lawful.specs.Lawful.{Live}
+use Rattle.mv_script.specs.declared.script.Script.{Script}
+use Rattle.mv_script.specs.Scripts.{IsScript, work_of}
+use Rattle.mv_shards.specs.Scripts.{work}
+use Rattle.mv_core.specs.Calls.{IsLive, IsLiveCall}
+use Rattle.mv_core.specs.Books.{Booked}
+use Rattle.mv_core.proofs.Changed.{same_self}
+use Rattle.mv_gate.specs.Gates.{IsSettledOrWhole, IsWhole, IsPastIn}
+use Rattle.mv_gate.proofs.Desks.{desk_same}
+use Rattle.mv_shards.specs.Histories.{tables_at}
+use Rattle.mv_gate.proofs.Running.{runs_here}
+use Rattle.mv_gate.proofs.Seeing.{asked_late, shown_in}
+use Rattle.mv_gate.proofs.Holding.{renewed}
+use Rattle.mv_gate.proofs.Leaving.{past_in}
 use Rattle.mv_gate.proofs.desk.Desk.renew.Goals as goal
 
-pub whole_task-requires-clause-database : goal.whole_task-requires-clause-database
-whole_task-requires-clause-database g c =
-    let b : Booked = c.self.inside.book in
-    let fresh = subst (λ (x : Booked). IsNotStale x c.args.call) (sym c.self.view_is) c.requires.fresh in
-    let here = subst (λ (x : Booked). IsLiveCall x.course c.args.call) (sym c.self.view_is) c.requires.live in
-    let shown : Shows b c.start-start.result c.new-view.result = subst (λ n. Shows b n c.new-view.result) (sym (c.start-start.ensures.value here.0 here.1))
-    (shows_start b c.self.inside.store c.args.call c.start-start.result c.new-view.result c.self.invariant.stored fresh c.start-start.ensures.value c.start-start.ensures.past c.new-view.ensures here.0 here.1) in
-    database_shown b c.args.call c.start-start.result c.script.result.now c.new-view.result c.self.invariant.stored.script c.script.ensures shown
+pub new_task-requires-clause-script : goal.new_task-requires-clause-script
+new_task-requires-clause-script g c = subst IsScript (sym c.args.beside.now.named) c.number-number.ensures.kept.script
 
-pub no_memory-requires : goal.no_memory-requires
-no_memory-requires g c =
-    let b : Booked = c.self.inside.book in
-    let fresh = subst (λ (x : Booked). IsNotStale x c.args.call) (sym c.self.view_is) c.requires.fresh in
-    let here = subst (λ (x : Booked). IsLiveCall x.course c.args.call) (sym c.self.view_is) c.requires.live in
-    only_memory c.new-view.result c.whole_task.new.view c.in-Err.why (fresh_start b c.self.inside.store c.args.call c.start-start.result c.new-view.result c.self.invariant.stored fresh here c.start-start.ensures.value c.new-view.ensures)
-    c.in-Err.ensures.view.may_refuse
+pub new_task-requires-clause-number : goal.new_task-requires-clause-number
+new_task-requires-clause-number g c =
+    subst (λ (s : Script). c.args.call < length s.calls) (sym c.args.beside.now.named)
+    (subst (λ (s : Script). c.args.call < length s.calls) c.self.invariant.script (subst (λ (b : Booked). c.args.call < length b.script.calls) (sym (c.self.view_is ∙ c.start_of.ensures.same)) c.requires.number))
 
-pub number-requires-clause-number : goal.number-requires-clause-number
-number-requires-clause-number g c =
-    let b : Booked = c.self.inside.book in
-    let fresh = subst (λ (x : Booked). IsNotStale x c.args.call) (sym c.self.view_is) c.requires.fresh in
-    let here = subst (λ (x : Booked). IsLiveCall x.course c.args.call) (sym c.self.view_is) c.requires.live in
-    let shown : Shows b c.start-start.result c.new-view.result = subst (λ n. Shows b n c.new-view.result) (sym (c.start-start.ensures.value here.0 here.1))
-    (shows_start b c.self.inside.store c.args.call c.start-start.result c.new-view.result c.self.invariant.stored fresh c.start-start.ensures.value c.start-start.ensures.past c.new-view.ensures here.0 here.1) in
-    number_anew b c.args.call c.start-start.result c.in-Ok.task.executed c.in-Ok.task c.self.invariant.turns here (c.self.invariant.numbers c.args.call) c.start-start.ensures.value
-    (records_back b c.args.call c.start-start.result c.script.result.now c.new-view.result c.in-Ok.task.log.records c.script.ensures shown c.in-Ok.ensures.records) c.in-Ok.ensures.executed
+pub run_all-requires-clause-script : goal.run_all-requires-clause-script
+run_all-requires-clause-script g c = subst IsScript (sym c.args.beside.now.named) c.number-number.ensures.kept.script
 
-pub returns-in-Ok : goal.returns-in-Ok
-returns-in-Ok g c =
+pub run_all-requires-clause-number : goal.run_all-requires-clause-number
+run_all-requires-clause-number g c =
+    subst (λ (s : Script). c.args.call < length s.calls) (sym c.args.beside.now.named)
+    (subst (λ (s : Script). c.args.call < length s.calls) c.self.invariant.script (subst (λ (b : Booked). c.args.call < length b.script.calls) (sym (c.self.view_is ∙ c.start_of.ensures.same)) c.requires.number))
+
+pub run_all-requires-clause-database : goal.run_all-requires-clause-database
+run_all-requires-clause-database g c =
+    shown_in g.N.Making.script c.in_ok-start.start.knows.seen c.args.call c.in_ok-start.start.number c.args.beside.now.script.now c.new-view.result.sight.database c.number-number.ensures.kept.script c.args.beside.now.named
+    (ap (λ (s : Sight). s.database) c.new-view.ensures.sight)
+
+pub run_all-requires-clause-runs : goal.run_all-requires-clause-runs
+run_all-requires-clause-runs g c = c.in_ok-task.ensures.runs c.new-view.result.sight.database
+
+pub refused-requires : goal.refused-requires
+refused-requires g c =
+    asked_late c.new-view.result.sight c.run_all.new.view.sight _ c.in-Err.why c.number-number.result c.in-Err.ensures.view refl (ap (λ (s : Sight). s.start) c.new-view.ensures.sight ∙ sym c.number-number.ensures.number)
+
+pub returns-in-Ok-clause-whole : goal.returns-in-Ok-clause-whole
+returns-in-Ok-clause-whole g c =
+    let s = g.N.Making.script in
     let b : Booked = c.self.inside.book in
-    let fresh = subst (λ (x : Booked). IsNotStale x c.args.call) (sym c.self.view_is) c.requires.fresh in
-    let here = subst (λ (x : Booked). IsLiveCall x.course c.args.call) (sym c.self.view_is) c.requires.live in
-    let shown : Shows b c.start-start.result c.new-view.result = subst (λ n. Shows b n c.new-view.result) (sym (c.start-start.ensures.value here.0 here.1))
-    (shows_start b c.self.inside.store c.args.call c.start-start.result c.new-view.result c.self.invariant.stored fresh c.start-start.ensures.value c.start-start.ensures.past c.new-view.ensures here.0 here.1) in
-    subst (λ (x : Booked). IsUnderWay x c.args.call (record { task = c.in-Ok.task; count = Some c.number.result })) c.self.view_is
-    (renewed b c.args.call c.start-start.result c.number.result c.in-Ok.task c.self.invariant.turns here (subst (λ (x : Booked). c.args.call < length x.script.calls) (sym c.self.view_is) c.requires.number)
-    c.start-start.ensures.value (runs_back b c.args.call c.start-start.result c.script.result.now c.new-view.result c.in-Ok.task c.script.ensures shown c.in-Ok.ensures.runs) c.in-Ok.ensures.executed c.number.ensures)
+    let seen = c.in_ok-start.start.knows.seen in
+    let n = c.in_ok-start.start.number in
+    subst (λ (x : Booked). IsWhole x c.args.call c.run_all.new.task) (c.self.view_is ∙ c.start_of.ensures.same)
+    (renewed s b c.args.call n seen c.run_all.new.task c.self.invariant.script c.self.invariant.sound c.self.invariant.turns (subst (λ (x : Booked). IsLiveCall x.course c.args.call) (sym (c.self.view_is ∙ c.start_of.ensures.same)) c.requires.live)
+    (subst (λ (x : Booked). c.args.call < length x.script.calls) (sym (c.self.view_is ∙ c.start_of.ensures.same)) c.requires.number)
+    (subst (λ (x : Booked). IsSettledOrWhole x c.args.call) (sym (c.self.view_is ∙ c.start_of.ensures.same)) (c.is_unrepaired.ensures c.if-is_unrepaired.false))
+    (subst (λ (x : Booked). (l : Live) → IsLive x.course c.args.call l → n ≡ l.start) (sym (c.self.view_is ∙ c.start_of.ensures.same)) c.in_ok-start.ensures.number)
+    (c.in_ok-start.ensures.seen ∙ ap (λ (x : Booked). x.course.order) (sym (c.self.view_is ∙ c.start_of.ensures.same)))
+    (runs_here s c.args.beside.now.script.now c.args.call c.new-view.result.sight.database (tables_at s seen n) c.run_all.new.task c.args.beside.now.named (ap (λ (v : Sight). v.database) c.new-view.ensures.sight) c.run_all.ensures.runs) c.in-Ok.ensures.ended
+    (c.in-Ok.ensures.records
+    ∙ (ap (λ (x : Script). ((work_of x).run c.args.call c.new-view.result.sight.database).records) c.args.beside.now.named ∙ ap (λ (v : Sight). ((work s).run c.args.call v.database).records) c.new-view.ensures.sight))
+    (let all = c.run_all.ensures.counts.executed in
+    let none = ap length c.in_ok-task.ensures.records in
+    let zero = c.in_ok-task.ensures.executed in
+    omega (arith, all, none, zero)))
+
+pub invariant_of-self : goal.invariant_of-self
+invariant_of-self g c =
+    desk_same g.N.Making.script c.self.inside.book c.self.inside.book c.self.inside.ledger c.refused.new.self c.self.inside.starts.items c.self.invariant (same_self c.self.inside.book) c.refused.ensures.kept c.refused.ensures.commits
+
+pub invariant_of-self-in-Err : goal.invariant_of-self-in-Err
+invariant_of-self-in-Err g c =
+    desk_same g.N.Making.script c.self.inside.book c.self.inside.book c.self.inside.ledger c.refused.new.self c.self.inside.starts.items c.self.invariant (same_self c.self.inside.book) c.refused.ensures.kept c.refused.ensures.commits
+
+pub returns-clause-past : goal.returns-clause-past
+returns-clause-past g c =
+    subst (λ (x : Booked). IsPastIn x c.args.call) (c.self.view_is ∙ c.start_of.ensures.same)
+    (past_in g.N.Making.script c.self.inside.book c.args.call c.number-number.result c.self.inside.ledger.commits c.self.invariant.script c.self.invariant.commits
+    (λ l at. c.number-number.ensures.number ∙ subst (λ (x : Booked). (m : Live) → IsLive x.course c.args.call m → c.in_ok-start.start.number ≡ m.start) (sym (c.self.view_is ∙ c.start_of.ensures.same)) c.in_ok-start.ensures.number l at) c.in_ok-refused-in-Err.ensures.past)

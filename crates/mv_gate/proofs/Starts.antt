@@ -1,0 +1,156 @@
+-- What the desk keeps of the starts of live calls, after an event.
+use Rattle.std.proofs.Common.{◌≡◌, ◌⊎◌, inl, inr, ℕ, ◌<◌, true, false, List, [], ◌∷◌, ◌++◌, Option, Some, None, length, slice_set, get_or, refl, sym, ap, subst, ◌∙◌, arith, rules, length-append}
+use Rattle.std.specs.Prelude.{slice_get}
+use Rattle.std.proofs.lemmas.List.{length-set}
+use Rattle.std.proofs.lemmas.Option.{slice_get_within, slice_get_read}
+use Rattle.mv_journal.specs.declared.event.Event.TheVariants.{B, A, M, C, X}
+use Rattle.mv_journal.specs.declared.outcome.Mark.TheVariants.{Plain, Exclusive, Moved}
+use Rattle.mv_lawful.specs.Lawful.{Live, Course, begin, again, finish}
+use Rattle.mv_seats.specs.Scripts.{Script as BoardScript}
+use Rattle.mv_shards.specs.Reads.{Started, IsStart}
+use Rattle.mv_shards.specs.Ledgers.{Entered, AreLastChanges}
+use Rattle.mv_shards.proofs.Histories.{touch_front}
+use Rattle.mv_core.specs.Calls.{IsLive, IsLiveCall}
+use Rattle.mv_core.specs.Books.{Booked, Made}
+use Rattle.mv_core.proofs.Journals.{get_last, get_front, get_set, set_there, set_apart, changed_at}
+use Rattle.mv_core.proofs.Taking.{get_end}
+use Rattle.mv_gate.specs.Gates.{HaveTurns, HaveTouched}
+
+-- what a live call has
+abbrev Has : BoardScript → List ℕ → List (Option (List ℕ)) → ℕ → Live → Type 0
+Has s order starts c l = (touched : List ℕ) × (slice_get starts c ≡ Some (Some touched)) × AreLastChanges s order l.start touched
+
+-- no call was changed
+pub touched_same : (s : BoardScript) (old new : Course) (starts : List (Option (List ℕ))) → new.calls ≡ old.calls → new.order ≡ old.order → HaveTouched s old starts → HaveTouched s new starts
+touched_same s old new starts calls order h = record {
+  count = h.count ∙ ap length (sym calls);
+  each = λ c l live. subst (λ (xs : List ℕ). Has s xs starts c l) (sym order) (h.each c l (record { at = ap (λ ls. slice_get ls c) (sym calls) ∙ live.at; live = live.live }));
+}
+
+-- the next call begins
+begun : (s : BoardScript) (course : Course) (starts : List (Option (List ℕ))) (touched : List ℕ) → HaveTouched s course starts → AreLastChanges s course.order (length course.order) touched
+    → HaveTouched s (record course { calls = course.calls ++ begin (length course.order) ∷ [] }) (starts ++ Some touched ∷ [])
+begun s course starts touched h are = record {
+  count = let a = length-append starts (Some touched ∷ []) in let b = length-append course.calls (begin (length course.order) ∷ []) in let n = h.count in omega (arith, a, b, n);
+  each = λ c l live. by c l (get_last course.calls (begin (length course.order)) c l live.at) live.live;
+} where
+  by : (c : ℕ) (l : Live) → (slice_get course.calls c ≡ Some l) ⊎ ((c ≡ length course.calls) × (begin (length course.order) ≡ l)) → l.done ≡ false → Has s course.order (starts ++ Some touched ∷ []) c l
+  by c l (inl at) live = let had = h.each c l (record { at = at; live = live }) in (had.0, get_front starts (Some touched) c (Some had.0) had.1, had.2)
+  by c l (inr new) live = (touched, get_end starts (Some touched) c (new.0 ∙ sym h.count), subst (λ (x : Live). AreLastChanges s course.order x.start touched) new.1 are)
+
+pub touched_begun : (s : BoardScript) (c : ℕ) (old new : Booked) (starts : List (Option (List ℕ))) (touched : List ℕ) → HaveTouched s old.course starts → Made (B c) old new → AreLastChanges s old.course.order (length old.course.order) touched
+    → HaveTouched s new.course (starts ++ Some touched ∷ [])
+touched_begun s c old new starts touched h made are = subst (λ (x : Course). HaveTouched s x (starts ++ Some touched ∷ [])) (sym made.course) (begun s old.course starts touched h are)
+
+-- one call gets a new start, and stays live
+restarted : (s : BoardScript) (course : Course) (starts : List (Option (List ℕ))) (touched : List ℕ) (c : ℕ) (l m : Live) → HaveTouched s course starts → IsLive course c l → AreLastChanges s course.order m.start touched
+    → HaveTouched s (record course { calls = slice_set course.calls c m }) (slice_set starts c (Some touched))
+restarted s course starts touched c l m h live are = record {
+  count = length-set starts c (Some touched) ∙ (h.count ∙ sym (length-set course.calls c m));
+  each = λ d x alive. by d x (get_set course.calls c d m x alive.at) alive.live;
+} where
+  by : (d : ℕ) (x : Live) → ((d ≡ c) × (m ≡ x)) ⊎ ((d ≡ c → ⊥) × (slice_get course.calls d ≡ Some x)) → x.done ≡ false → Has s course.order (slice_set starts c (Some touched)) d x
+  by d x (inl new) alive =
+      let had = h.each c l live in (
+        touched,
+        subst (λ n. slice_get (slice_set starts c (Some touched)) n ≡ Some (Some touched)) (sym new.0) (set_there starts c (Some touched) (Some had.0) had.1),
+        subst (λ (y : Live). AreLastChanges s course.order y.start touched) new.1 are,
+      )
+  by d x (inr other) alive = let had = h.each d x (record { at = other.1; live = alive }) in (had.0, set_apart starts c d (Some touched) other.0 ∙ had.1, had.2)
+
+pub touched_again : (s : BoardScript) (c : ℕ) (old new : Booked) (starts : List (Option (List ℕ))) (touched : List ℕ) → HaveTouched s old.course starts → IsLiveCall old.course c → Made (A c) old new → AreLastChanges s old.course.order (length old.course.order) touched
+    → HaveTouched s new.course (slice_set starts c (Some touched))
+touched_again s c old new starts touched h live made are =
+    let m : Live = again (length old.course.order) Plain live.0 in
+    subst (λ (x : Course). HaveTouched s x (slice_set starts c (Some touched))) (sym (made.course ∙ ap (λ ls. record old.course { calls = ls }) (changed_at old.course.calls c (again (length old.course.order) Plain) live.0 live.1.at)))
+    (restarted s old.course starts touched c live.0 m h live.1 are)
+
+pub touched_moved : (s : BoardScript) (c : ℕ) (old new : Booked) (starts : List (Option (List ℕ))) (touched : List ℕ) → HaveTouched s old.course starts → IsLiveCall old.course c → Made (M c) old new → AreLastChanges s old.course.order (length old.course.order) touched
+    → HaveTouched s new.course (slice_set starts c (Some touched))
+touched_moved s c old new starts touched h live made are =
+    let m : Live = again (length old.course.order) Moved live.0 in
+    subst (λ (x : Course). HaveTouched s x (slice_set starts c (Some touched))) (sym (made.course ∙ ap (λ ls. record old.course { calls = ls }) (changed_at old.course.calls c (again (length old.course.order) Moved) live.0 live.1.at)))
+    (restarted s old.course starts touched c live.0 m h live.1 are)
+
+-- one call commits
+ended : (s : BoardScript) (course : Course) (starts : List (Option (List ℕ))) (c : ℕ) (l m : Live) → HaveTurns course → HaveTouched s course starts → IsLive course c l → m.done ≡ true
+    → HaveTouched s (record course { order = course.order ++ c ∷ []; calls = slice_set course.calls c m }) (slice_set starts c None)
+ended s course starts c l m turns h live done = record {
+  count = length-set starts c None ∙ (h.count ∙ sym (length-set course.calls c m));
+  each = λ d x alive. by d x (get_set course.calls c d m x alive.at) alive.live;
+} where
+  by : (d : ℕ) (x : Live) → ((d ≡ c) × (m ≡ x)) ⊎ ((d ≡ c → ⊥) × (slice_get course.calls d ≡ Some x)) → x.done ≡ false → Has s (course.order ++ c ∷ []) (slice_set starts c None) d x
+  by d x (inl new) alive = let both : true ≡ false = sym done ∙ (ap (λ (y : Live). y.done) new.1 ∙ alive) in absurd (search (rules, both))
+  by d x (inr other) alive =
+      let had = h.each d x (record { at = other.1; live = alive }) in (
+        had.0,
+        set_apart starts c d None other.0 ∙ had.1,
+        λ q lt. had.2 q lt ∙ touch_front s q course.order (course.order ++ c ∷ []) x.start (c ∷ [], refl) (turns d x other.1).past,
+      )
+
+pub touched_committed : (s : BoardScript) (c : ℕ) (old new : Booked) (starts : List (Option (List ℕ))) → HaveTurns old.course → HaveTouched s old.course starts → IsLiveCall old.course c → Made (C c) old new → HaveTouched s new.course (slice_set starts c None)
+touched_committed s c old new starts turns h live made =
+    subst (λ (x : Course). HaveTouched s x (slice_set starts c None))
+    (sym (made.course ∙ ap (λ ls. record old.course { order = old.course.order ++ c ∷ []; calls = ls }) (changed_at old.course.calls c finish live.0 live.1.at)))
+    (ended s old.course starts c live.0 (finish live.0) turns h live.1 refl)
+
+pub touched_decided : (s : BoardScript) (c : ℕ) (old new : Booked) (starts : List (Option (List ℕ))) → HaveTurns old.course → HaveTouched s old.course starts → IsLiveCall old.course c → Made (X c) old new → HaveTouched s new.course (slice_set starts c None)
+touched_decided s c old new starts turns h live made =
+    let f : Live → Live = λ l. finish (again (length old.course.order) Exclusive l) in
+    subst (λ (x : Course). HaveTouched s x (slice_set starts c None))
+    (sym (made.course ∙ ap (λ ls. record old.course { order = old.course.order ++ c ∷ []; calls = ls }) (changed_at old.course.calls c f live.0 live.1.at)))
+    (ended s old.course starts c live.0 (f live.0) turns h live.1 refl)
+
+-- a call moves and commits. Its start after the move is one of the commits
+pub touched_gone : (s : BoardScript) (c : ℕ) (old mid new : Booked) (starts : List (Option (List ℕ))) → HaveTurns old.course → HaveTouched s old.course starts → IsLiveCall old.course c → Made (M c) old mid → Made (C c) mid new
+    → HaveTouched s new.course (slice_set starts c None)
+touched_gone s c old mid new starts turns h live moved committed =
+    let m : Live = again (length old.course.order) Moved live.0 in
+    let calls : mid.course.calls ≡ slice_set old.course.calls c m = ap (λ (x : Course). x.calls) moved.course ∙ changed_at old.course.calls c (again (length old.course.order) Moved) live.0 live.1.at in
+    let order : mid.course.order ≡ old.course.order = ap (λ (x : Course). x.order) moved.course in
+    let there : slice_get mid.course.calls c ≡ Some m = ap (λ ls. slice_get ls c) calls ∙ set_there old.course.calls c m live.0 live.1.at in
+    let gone : new.course.calls ≡ slice_set (slice_set old.course.calls c m) c (finish m) =
+    ap (λ (x : Course). x.calls) committed.course ∙ (changed_at mid.course.calls c finish m there ∙ ap (λ ls. slice_set ls c (finish m)) calls) in
+    let last : new.course.order ≡ old.course.order ++ c ∷ [] = ap (λ (x : Course). x.order) committed.course ∙ ap (λ (xs : List ℕ). xs ++ c ∷ []) order in
+    record {
+      count =
+          length-set starts c None
+          ∙ (h.count ∙ (sym (length-set old.course.calls c m) ∙ (sym (length-set (slice_set old.course.calls c m) c (finish m)) ∙ ap length (sym gone))));
+      each = λ d x alive.
+          subst (λ (xs : List ℕ). Has s xs (slice_set starts c None) d x) (sym last)
+          (by d x (get_set (slice_set old.course.calls c m) c d (finish m) x (ap (λ ls. slice_get ls d) (sym gone) ∙ alive.at)) alive.live);
+    } where
+      by : (d : ℕ) (x : Live) → ((d ≡ c) × (finish (again (length old.course.order) Moved live.0) ≡ x)) ⊎ ((d ≡ c → ⊥) × (slice_get (slice_set old.course.calls c (again (length old.course.order) Moved live.0)) d ≡ Some x)) → x.done ≡ false
+          → Has s (old.course.order ++ c ∷ []) (slice_set starts c None) d x
+      by d x (inl new) alive = let both : true ≡ false = ap (λ (y : Live). y.done) new.1 ∙ alive in absurd (search (rules, both))
+      by d x (inr other) alive =
+          let at : slice_get old.course.calls d ≡ Some x = sym (set_apart old.course.calls c d (again (length old.course.order) Moved live.0) other.0) ∙ other.1 in
+          let had = h.each d x (record { at = at; live = alive }) in (
+            had.0,
+            set_apart starts c d None other.0 ∙ had.1,
+            λ q lt. had.2 q lt ∙ touch_front s q old.course.order (old.course.order ++ c ∷ []) x.start (c ∷ [], refl) (turns d x at).past,
+          )
+
+-- the entry of a live call
+pub entry_there : (s : BoardScript) (course : Course) (starts : List (Option (List ℕ))) (c : ℕ) → HaveTouched s course starts → IsLiveCall course c → c < length starts
+entry_there s course starts c h live = let had = h.each c live.0 live.1 in slice_get_within starts c (Some had.0) had.1
+
+-- as it is read
+pub entry_read : (s : BoardScript) (course : Course) (starts : List (Option (List ℕ))) (c : ℕ) (o : Option (List ℕ)) → HaveTouched s course starts → (live : IsLiveCall course c) → o ≡ get_or starts c o
+    → (touched : List ℕ) × (o ≡ Some touched) × AreLastChanges s course.order (live.0).start touched
+entry_read s course starts c o h live read =
+    let had = h.each c live.0 live.1 in
+    let both : Some (Some had.0) ≡ Some o = sym had.1 ∙ slice_get_read starts (length starts) c o refl (slice_get_within starts c (Some had.0) had.1) read in
+    let one : Some had.0 ≡ o = search (rules, both) in
+    (had.0, sym one, had.2)
+
+-- what a start tells of the shards
+pub start_changes : (s : BoardScript) (start : Started) (touched : List ℕ) (ledger : Entered) → IsStart s start.number start.knows start.touched → touched ≡ start.touched → start.number ≡ ledger.commits → start.knows.seen ≡ ledger.knows.seen
+    → AreLastChanges s ledger.knows.seen ledger.commits touched
+start_changes s start touched ledger k is number seen =
+    subst (λ (t : List ℕ). AreLastChanges s ledger.knows.seen ledger.commits t) (sym is)
+    (subst (λ n. AreLastChanges s ledger.knows.seen n start.touched) number (subst (λ (xs : List ℕ). AreLastChanges s xs start.number start.touched) seen k.touches))
+
+-- in the words of the history that the ledger has seen
+pub changes_seen : (s : BoardScript) (order : List ℕ) (ledger : Entered) (touched : List ℕ) → ledger.knows.seen ≡ order → ledger.commits ≡ length order → AreLastChanges s ledger.knows.seen ledger.commits touched → AreLastChanges s order (length order) touched
+changes_seen s order ledger touched seen commits are = subst (λ n. AreLastChanges s order n touched) commits (subst (λ (xs : List ℕ). AreLastChanges s xs ledger.commits touched) seen are)

@@ -1,0 +1,49 @@
+use Rattle.std.proofs.Common.{true, false, sym, subst, ◌∙◌}
+use Rattle.mv_core.specs.Calls.{IsLiveCall}
+use Rattle.mv_core.specs.Books.{Booked}
+use Rattle.mv_gate.specs.Gates.{HasRound}
+use Rattle.mv_gate.proofs.Committing.{hit_fresh, may_repair, may_decide}
+use Rattle.mv_gate.proofs.Ending.{keeps_same, keeps_both, keeps_again, keeps_commit, keeps_decision, done_committed, done_decided}
+use Rattle.mv_gate.proofs.desk.Desk.repair_left.Goals as goal
+
+pub has_round-requires : goal.has_round-requires
+has_round-requires g c = subst (λ (b : Booked). IsLiveCall b.course c.args.call) (sym c.self.view_is) c.requires.whole.live
+
+pub rerun-requires-clause-fresh : goal.rerun-requires-clause-fresh
+rerun-requires-clause-fresh g c = hit_fresh c.args.self.now c.args.call c.requires.hit
+
+pub rerun-requires-clause-allowed : goal.rerun-requires-clause-allowed
+rerun-requires-clause-allowed g c =
+    let live = c.requires.whole.live in
+    let left = subst (λ (b : Booked). HasRound true b c.args.call) c.self.view_is (λ l at. sym (c.has_round.ensures l at) ∙ c.if-has_round.true) in
+    may_repair c.args.self.now c.args.call live.0 live.1 c.requires.hit (left live.0 live.1)
+
+pub exclusive-requires-clause-fresh : goal.exclusive-requires-clause-fresh
+exclusive-requires-clause-fresh g c = hit_fresh c.args.self.now c.args.call c.requires.hit
+
+pub exclusive-requires-clause-allowed : goal.exclusive-requires-clause-allowed
+exclusive-requires-clause-allowed g c =
+    let live = c.requires.whole.live in
+    let none = subst (λ (b : Booked). HasRound false b c.args.call) c.self.view_is (λ l at. sym (c.has_round.ensures l at) ∙ c.if-has_round.false) in
+    may_decide c.args.self.now c.args.call live.0 live.1 c.requires.hit (none live.0 live.1)
+
+pub returns-in_err-rerun-clause-kept : goal.returns-in_err-rerun-clause-kept
+returns-in_err-rerun-clause-kept g c = keeps_same c.args.self.now c.rerun.new.self c.in_err-rerun.ensures.err
+
+pub returns-in_err-commit-clause-kept : goal.returns-in_err-commit-clause-kept
+returns-in_err-commit-clause-kept g c =
+    keeps_both c.args.self.now c.rerun.new.self c.commit.new.self (keeps_again c.args.call c.args.self.now c.rerun.new.self c.in_ok-rerun.ensures.ok c.requires.whole.live) (keeps_same c.rerun.new.self c.commit.new.self c.in_err-commit.ensures)
+
+pub returns-then-has_round-clause-done : goal.returns-then-has_round-clause-done
+returns-then-has_round-clause-done g c = done_committed c.args.call c.rerun.new.self c.commit.new.self c.in_ok-commit.ensures.0 c.in_ok-rerun.ensures.whole.live
+
+pub returns-then-has_round-clause-kept : goal.returns-then-has_round-clause-kept
+returns-then-has_round-clause-kept g c =
+    keeps_both c.args.self.now c.rerun.new.self c.commit.new.self (keeps_again c.args.call c.args.self.now c.rerun.new.self c.in_ok-rerun.ensures.ok c.requires.whole.live)
+    (keeps_commit c.commit.result c.args.call c.rerun.new.self c.commit.new.self c.commit.ensures c.in_ok-rerun.ensures.whole.live)
+
+pub returns-clause-done : goal.returns-clause-done
+returns-clause-done g c = done_decided c.args.call c.args.self.now c.exclusive.new.self c.in_ok-exclusive.ensures.0 c.requires.whole.live
+
+pub returns-clause-kept : goal.returns-clause-kept
+returns-clause-kept g c = keeps_decision c.exclusive.result c.args.call c.args.self.now c.exclusive.new.self c.exclusive.ensures c.requires.whole.live

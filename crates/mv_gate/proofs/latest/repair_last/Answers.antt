@@ -1,0 +1,58 @@
+use Rattle.std.proofs.Common.{◌<◌, length, refl, sym, ap, subst, ◌∙◌}
+use Rattle.mv_view.specs.Viewing.{Sight}
+use Rattle.mv_changes.specs.Commits.{changes_in}
+use Rattle.mv_repair.specs.Repairing.{changes_since}
+use Rattle.mv_script.specs.declared.script.Script.{Script}
+use Rattle.mv_script.specs.Scripts.{IsScript}
+use Rattle.mv_core.specs.Cores.{IsTaskFor, CanRepair}
+use Rattle.mv_core.proofs.Stored.{can_repair}
+use Rattle.mv_core.proofs.Taking.{task_runs}
+use Rattle.mv_shards.specs.Ledgers.{Entered}
+use Rattle.mv_gate.proofs.Seeing.{asked_late}
+use Rattle.mv_gate.proofs.Committing.{tables_here, latest_of, repaired_of}
+use Rattle.mv_gate.proofs.latest.repair_last.Goals as goal
+
+pub since-since-requires-clause-live : goal.since-since-requires-clause-live
+since-since-requires-clause-live g c = c.requires.whole.live
+
+pub repair_over-requires-clause-script : goal.repair_over-requires-clause-script
+repair_over-requires-clause-script g c = subst IsScript (sym c.args.beside.now.named) c.commits-commits.ensures.kept.script
+
+pub repair_over-requires-clause-number : goal.repair_over-requires-clause-number
+repair_over-requires-clause-number g c = subst (λ (s : Script). c.args.call < length s.calls) (sym (c.args.beside.now.named ∙ sym c.requires.script)) c.requires.whole.there
+
+pub repair_over-requires-clause-call : goal.repair_over-requires-clause-call
+repair_over-requires-clause-call g c =
+    subst (λ (s : Script). IsTaskFor s c.args.call c.args.task.now) (sym (c.args.beside.now.named ∙ sym c.requires.script))
+    (task_runs c.args.book.now.script c.args.call _ c.args.task.now (c.requires.whole.runs c.requires.whole.live.0 c.requires.whole.live.1))
+
+pub repair_over-requires-clause-leads : goal.repair_over-requires-clause-leads
+repair_over-requires-clause-leads g c =
+    let live = c.requires.whole.live in
+    subst (λ (s : Script). CanRepair s c.args.call c.args.task.now (changes_since c.since-since.result.now) c.view-view.result.sight.database) (sym (c.args.beside.now.named ∙ sym c.requires.script))
+    (can_repair c.args.book.now.script c.args.book.now.course.order c.args.call (live.0).start c.args.task.now (changes_in c.since-since.result.now) c.view-view.result.sight.database
+    (subst IsScript (sym c.requires.script) c.commits-commits.ensures.kept.script) (c.requires.whole.runs live.0 live.1) c.requires.whole.ended (c.since-since.ensures.changes live.0 live.1)
+    (ap (λ (s : Sight). s.database) c.view-view.ensures.sight
+    ∙ tables_here g.N.Making.script c.args.book.now c.args.ledger.now c.requires.script (record { seen = c.requires.seen; commits = c.commits-commits.ensures.kept.seen ∙ ap length c.requires.seen })))
+
+pub last_error-requires : goal.last_error-requires
+last_error-requires g c = asked_late c.view-view.result.sight c.repair_over.new.view.sight _ c.in-Err.why c.view-view.new.self.commits c.in-Err.ensures.view refl
+    (ap (λ (s : Sight). s.start) c.view-view.ensures.sight ∙ sym (ap (λ (l : Entered). l.commits) c.view-view.ensures.same))
+
+pub returns-in-Ok-clause-latest : goal.returns-in-Ok-clause-latest
+returns-in-Ok-clause-latest g c =
+    latest_of c.args.book.now c.args.call c.repair_over.new.task c.args.beside.now.script.now c.view-view.result.sight.database (subst IsScript (sym c.requires.script) c.commits-commits.ensures.kept.script) c.requires.whole.there
+    (c.args.beside.now.named ∙ sym c.requires.script)
+    (ap (λ (s : Sight). s.database) c.view-view.ensures.sight
+    ∙ tables_here g.N.Making.script c.args.book.now c.args.ledger.now c.requires.script (record { seen = c.requires.seen; commits = c.commits-commits.ensures.kept.seen ∙ ap length c.requires.seen }))
+    c.in-Ok.ensures.runs c.in-Ok.ensures.records
+
+pub returns-in-Ok-clause-executed : goal.returns-in-Ok-clause-executed
+returns-in-Ok-clause-executed g c =
+    let live = c.requires.whole.live in
+    repaired_of c.args.book.now c.args.call live.0 c.args.task.now c.repair_over.new.task c.since-since.result.now live.1 (c.since-since.ensures.changes live.0 live.1) (c.requires.whole.records live.0 live.1)
+    (latest_of c.args.book.now c.args.call c.repair_over.new.task c.args.beside.now.script.now c.view-view.result.sight.database (subst IsScript (sym c.requires.script) c.commits-commits.ensures.kept.script) c.requires.whole.there
+    (c.args.beside.now.named ∙ sym c.requires.script)
+    (ap (λ (s : Sight). s.database) c.view-view.ensures.sight
+    ∙ tables_here g.N.Making.script c.args.book.now c.args.ledger.now c.requires.script (record { seen = c.requires.seen; commits = c.commits-commits.ensures.kept.seen ∙ ap length c.requires.seen }))
+    c.in-Ok.ensures.runs c.in-Ok.ensures.records).records c.in-Ok.ensures.executed

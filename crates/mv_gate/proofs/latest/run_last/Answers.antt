@@ -1,0 +1,52 @@
+use Rattle.std.proofs.Common.{◌<◌, length, refl, sym, ap, subst, ◌∙◌, arith}
+use Rattle.mv_view.specs.Viewing.{Sight}
+use Rattle.mv_script.specs.declared.script.Script.{Script}
+use Rattle.mv_script.specs.Scripts.{IsScript, work_of}
+use Rattle.mv_shards.specs.Scripts.{work}
+use Rattle.mv_shards.specs.Ledgers.{Entered}
+use Rattle.mv_shards.specs.Histories.{tables_at}
+use Rattle.mv_gate.proofs.Running.{runs_here}
+use Rattle.mv_gate.proofs.Seeing.{asked_late, shown_in}
+use Rattle.mv_gate.proofs.latest.run_last.Goals as goal
+
+pub new_task-requires-clause-script : goal.new_task-requires-clause-script
+new_task-requires-clause-script g c = subst IsScript (sym c.args.beside.now.named) c.commits-commits.ensures.kept.script
+
+pub new_task-requires-clause-number : goal.new_task-requires-clause-number
+new_task-requires-clause-number g c = subst (λ (s : Script). c.args.call < length s.calls) (sym c.args.beside.now.named) c.requires
+
+pub run_all-requires-clause-script : goal.run_all-requires-clause-script
+run_all-requires-clause-script g c = subst IsScript (sym c.args.beside.now.named) c.commits-commits.ensures.kept.script
+
+pub run_all-requires-clause-number : goal.run_all-requires-clause-number
+run_all-requires-clause-number g c = subst (λ (s : Script). c.args.call < length s.calls) (sym c.args.beside.now.named) c.requires
+
+pub run_all-requires-clause-database : goal.run_all-requires-clause-database
+run_all-requires-clause-database g c =
+    shown_in g.N.Making.script c.args.ledger.now.knows.seen c.args.call c.args.ledger.now.commits c.args.beside.now.script.now c.view-view.result.sight.database c.commits-commits.ensures.kept.script c.args.beside.now.named
+    (ap (λ (s : Sight). s.database) c.view-view.ensures.sight)
+
+pub run_all-requires-clause-runs : goal.run_all-requires-clause-runs
+run_all-requires-clause-runs g c = c.in_ok-task.ensures.runs c.view-view.result.sight.database
+
+pub last_error-requires : goal.last_error-requires
+last_error-requires g c = asked_late c.view-view.result.sight c.run_all.new.view.sight _ c.in-Err.why c.view-view.new.self.commits c.in-Err.ensures.view refl
+    (ap (λ (s : Sight). s.start) c.view-view.ensures.sight ∙ sym (ap (λ (l : Entered). l.commits) c.view-view.ensures.same))
+
+pub returns-in-Ok-clause-runs : goal.returns-in-Ok-clause-runs
+returns-in-Ok-clause-runs g c =
+    runs_here g.N.Making.script c.args.beside.now.script.now c.args.call c.view-view.result.sight.database (tables_at g.N.Making.script c.args.ledger.now.knows.seen c.args.ledger.now.commits) c.run_all.new.task c.args.beside.now.named
+    (ap (λ (s : Sight). s.database) c.view-view.ensures.sight) c.run_all.ensures.runs
+
+pub returns-in-Ok-clause-records : goal.returns-in-Ok-clause-records
+returns-in-Ok-clause-records g c =
+    c.in-Ok.ensures.records
+    ∙ (ap (λ (s : Script). ((work_of s).run c.args.call c.view-view.result.sight.database).records) c.args.beside.now.named
+    ∙ ap (λ (v : Sight). ((work g.N.Making.script).run c.args.call v.database).records) c.view-view.ensures.sight)
+
+pub returns-in-Ok-clause-executed : goal.returns-in-Ok-clause-executed
+returns-in-Ok-clause-executed g c =
+    let all = c.run_all.ensures.counts.executed in
+    let none = ap length c.in_ok-task.ensures.records in
+    let zero = c.in_ok-task.ensures.executed in
+    omega (arith, all, none, zero)
