@@ -1,5 +1,5 @@
 -- Whether the next record of the old run stays.
-use Rattle.std.proofs.Common.{◌≡◌, ℕ, suc, ◌+◌, Bool, true, false, not, List, [], ◌∷◌, ◌++◌, Option, Some, None, map, length, if◌then◌else◌, refl, sym, ap, subst, ◌∙◌, arith, append-nil, length-append}
+use Rattle.std.proofs.Common.{◌≡◌, ◌==◌, ℕ, suc, ◌+◌, Bool, true, false, not, List, [], ◌∷◌, ◌++◌, Option, Some, None, map, length, if◌then◌else◌, refl, sym, ap, subst, ◌∙◌, arith, append-nil, length-append}
 use Rattle.std.specs.Prelude.{◌&&◌, ◌||◌, slice_get}
 use Rattle.std.specs.List.{list_any}
 use Rattle.std.specs.Ordering.{is_lt, is_eq, ordering_reverse, nat_cmp}
@@ -8,10 +8,12 @@ use Rattle.std.specs.declared.cmp.Ordering.{Ordering}
 use Rattle.std.specs.declared.cmp.Ordering.TheVariants.{Less, Equal, Greater}
 use Rattle.std.proofs.lemmas.Cmp.{nat_list_cmp_total}
 use Rattle.std.proofs.lemmas.List.{length-map, map-append}
+use Rattle.std.proofs.lemmas.Bool.Decides.{eqb_tells}
 use Rattle.std.proofs.lemmas.List.Folds.{list_any-append}
 use Rattle.mv_record.specs.declared.record.Read.{Read}
 use Rattle.mv_record.specs.declared.record.Record.{Record}
-use Rattle.mv_record.specs.Paths.{IsEarlierPath}
+use Rattle.mv_record.specs.declared.record.Spot.{Spot}
+use Rattle.mv_record.specs.Paths.{paths, IsEarlierPath}
 use Rattle.mv_record.specs.Runs.{IsEarlier, ReadsEarlier, NamesEarlier}
 use Rattle.mv_recorded.specs.Own.{Each}
 use Rattle.mv_recorded.proofs.Held.{get_last}
@@ -20,16 +22,16 @@ use Rattle.mv_history.specs.declared.change.Change.{Change}
 use Rattle.mv_history.specs.Hits.{any_hits, touches}
 use Rattle.mv_history.specs.Kept.{Path, Placed, with_paths, is_path, at, front, path_at, is_kept, reads_stay, other_writes, is_untouched, stays_with, stays}
 use Rattle.mv_alike.proofs.Keeping.{Climbs}
-use Rattle.mv_alike.proofs.Placing.{path_is, apart_back, its_all}
+use Rattle.mv_alike.proofs.Placing.{path_is, path_self, apart_back, its_all}
 use Rattle.mv_repair.specs.declared.walk.OldRun.{OldRun}
 use Rattle.mv_repair.specs.declared.walk.NewRun.{NewRun}
-use Rattle.mv_repair.specs.Walking.{is_before, is_there, writes_at, hits_in, is_touched, is_kept_by, reads_by, record_stays, next_stays, stays_at, IsOld, IsNew}
+use Rattle.mv_repair.specs.Walking.{is_before, is_in_place, writes_at, hits_in, is_touched, is_kept_by, reads_by, record_stays, next_stays, stays_at, IsOld, IsNew}
 use Rattle.mv_recorded.proofs.Inverting.{each_join, each_map}
 use Rattle.mv_alike.proofs.Walking.{earlier_then, climbs_parts, at_past}
-use Rattle.mv_repair.proofs.Lists.{first_dropped, none_dropped, any_of_all}
+use Rattle.mv_repair.proofs.Lists.{first_dropped, any_of_all}
 use Rattle.mv_repair.proofs.Placing.{many_placed}
 use Rattle.mv_repair.proofs.Marking.{controller_is, definers_are}
-use Rattle.mv_repair.proofs.Passing.{all_apart, next_is, old_lower}
+use Rattle.mv_repair.proofs.Passing.{all_apart, coming_paths, next_is, none_comes, old_lower}
 
 -- The old record of a path
 
@@ -50,6 +52,42 @@ after q p h k = nat_list_cmp_total.antisymm p q ∙ by (slice_cmp nat_cmp q p) h
     by Less e f = cc
     by Equal e f = cc
     by Greater e f = refl
+
+-- equal paths aren't one before the other
+pub not_before : (q p : Path) → is_path q p ≡ true → is_before (Some q) p ≡ false
+not_before q p h = by (slice_cmp nat_cmp q p) h
+  where
+    by : (o : Ordering) → is_eq o ≡ true → is_lt o ≡ false
+    by Less e = cc
+    by Equal e = refl
+    by Greater e = refl
+
+-- Places
+
+pub in_own_place : (o : Record) → is_in_place (Some o) o.spot ≡ true
+in_own_place o = and_both (o.spot.statement == o.spot.statement) (is_path o.spot.turns o.spot.turns) (grind (arith, eqb_tells)) (path_self o.spot.turns)
+  where
+    and_both : (x y : Bool) → x ≡ true → y ≡ true → (x && y) ≡ true
+    and_both x y e f = cc
+
+pub in_place_is : (o : Record) (spot : Spot) → is_in_place (Some o) spot ≡ true → o.spot ≡ spot
+in_place_is o spot h = by (o.spot.statement == spot.statement) refl (is_path spot.turns o.spot.turns) refl
+  where
+    spot_of : (a : ℕ) (b : List ℕ) → Spot
+    spot_of a b = record { statement = a; turns = b }
+
+    by : (x : Bool) → (o.spot.statement == spot.statement) ≡ x → (y : Bool) → is_path spot.turns o.spot.turns ≡ y → o.spot ≡ spot
+    by true e true f =
+        let same : o.spot.statement ≡ spot.statement = grind (arith, eqb_tells) in
+        ap (λ n. spot_of n o.spot.turns) same ∙ ap (spot_of spot.statement) (sym (path_is spot.turns o.spot.turns f))
+    by true e false f = absurd (clash (ap (λ x. x && is_path spot.turns o.spot.turns) e ∙ f) h)
+      where
+        clash : is_in_place (Some o) spot ≡ false → is_in_place (Some o) spot ≡ true → ⊥
+        clash k l = cc
+    by false e y f = absurd (clash (ap (λ x. x && is_path spot.turns o.spot.turns) e) h)
+      where
+        clash : is_in_place (Some o) spot ≡ false → is_in_place (Some o) spot ≡ true → ⊥
+        clash k l = cc
 
 -- Reads of earlier records
 
@@ -88,7 +126,8 @@ pub record Decides (changes : List Change) (os : List Record) (kept : List Path)
   pub early_reads : ReadsEarlier (length ns) b.it.reads
   pub beside : IsOld changes os kept (b ∷ more) old
   pub along : IsNew os kept (b ∷ more) ns new
-  pub stops : is_before (slice_get old.paths old.at) b.path ≡ false
+  pub places : (o : Placed) → slice_get os old.at ≡ Some o.it → slice_get (paths os) old.at ≡ Some o.path → is_in_place (Some o.it) ahead.spot ≡ is_path o.path b.path
+  pub stops : is_before (slice_get (paths os) old.at) b.path ≡ false
 
 untouched_is : (o : Record) (kept : List Path) (before ns : List Placed) (old : OldRun) (new : NewRun) (os rs : List Record) → writes_at os old.others ≡ other_writes kept before → writes_at rs new.others ≡ other_writes kept ns
     → not (is_touched o os old.others || is_touched o rs new.others) ≡ is_untouched kept before ns o
@@ -123,48 +162,49 @@ none_stays changes os kept ns b h = ap (λ q. stays_with changes kept (with_path
 
 -- what the walk decides is what the rule says
 pub decided : (changes : List Change) (os : List Record) (kept : List Path) (ns : List Record) (b : Placed) (more : List Placed) (ahead : Ahead) (old : OldRun) (new : NewRun) → Decides changes os kept ns b more ahead old new
-    → stays_at os old new ns ahead b.path ≡ stays changes kept (with_paths os) (with_paths ns) b
+    → stays_at os old new ns ahead ≡ stays changes kept (with_paths os) (with_paths ns) b
 decided changes os kept ns b more ahead old new d = by d.beside.coming refl
   where
     lows : Each (λ (a : Placed). is_path a.path b.path ≡ false) d.beside.passed
     lows = all_apart b.path d.beside.passed (old_lower changes os kept b more old d.beside)
 
     by : (l : List Placed) → d.beside.coming ≡ l
-        → stays_at os old new ns ahead b.path ≡ stays changes kept (with_paths os) (with_paths ns) b
+        → stays_at os old new ns ahead ≡ stays changes kept (with_paths os) (with_paths ns) b
     by [] e =
-        let none : slice_get old.paths old.at ≡ None = none_dropped old.at old.paths (d.beside.paths ∙ ap (map (λ (p : Placed). p.path)) e) in
         let all : with_paths os ≡ d.beside.passed = d.beside.split ∙ (ap (λ l. d.beside.passed ++ l) e ∙ append-nil d.beside.passed) in
-        ap (λ q. is_there q b.path && next_stays os old new ns ahead (slice_get os old.at) (slice_get old.hits old.at)) none
+        ap (λ q. is_in_place q ahead.spot && next_stays os old new ns ahead q (slice_get old.hits old.at)) (none_comes changes os kept (b ∷ more) old d.beside e)
         ∙ sym (none_stays changes os kept ns b (ap (at b.path) all ∙ at_none b.path d.beside.passed lows))
     by (o ∷ cs) e = there (is_path o.path b.path) refl
       where
-        path : slice_get old.paths old.at ≡ Some o.path
-        path = first_dropped old.at old.paths o.path (map (λ (p : Placed). p.path) cs) (d.beside.paths ∙ ap (map (λ (p : Placed). p.path)) e)
+        path : slice_get (paths os) old.at ≡ Some o.path
+        path = first_dropped old.at (paths os) o.path (map (λ (p : Placed). p.path) cs) (coming_paths changes os kept (b ∷ more) old d.beside ∙ ap (map (λ (p : Placed). p.path)) e)
+
+        next : slice_get os old.at ≡ Some o.it
+        next = next_is changes os kept (b ∷ more) old o cs d.beside e
 
         is : with_paths os ≡ d.beside.passed ++ o ∷ cs
         is = d.beside.split ∙ ap (λ l. d.beside.passed ++ l) e
 
         there : (t : Bool) → is_path o.path b.path ≡ t
-            → stays_at os old new ns ahead b.path ≡ stays changes kept (with_paths os) (with_paths ns) b
+            → stays_at os old new ns ahead ≡ stays changes kept (with_paths os) (with_paths ns) b
         there true same =
-            ap (λ q. is_there q b.path && next_stays os old new ns ahead (slice_get os old.at) (slice_get old.hits old.at)) path
-            ∙ (ap (λ t. t && next_stays os old new ns ahead (slice_get os old.at) (slice_get old.hits old.at)) same
-            ∙ (ap (λ q. next_stays os old new ns ahead q (slice_get old.hits old.at)) (next_is changes os kept (b ∷ more) old o cs d.beside e)
+            ap (λ q. is_in_place q ahead.spot && next_stays os old new ns ahead q (slice_get old.hits old.at)) next
+            ∙ (ap (λ t. t && next_stays os old new ns ahead (Some o.it) (slice_get old.hits old.at)) (d.places o next path ∙ same)
             ∙ (ap (λ q. next_stays os old new ns ahead (Some o.it) q)
             (first_dropped old.at old.hits (any_hits changes (map (λ (p : Placed). p.it) d.beside.passed) o.it) (hits_in changes (map (λ (p : Placed). p.it) d.beside.passed ++ o.it ∷ []) (map (λ (p : Placed). p.it) cs))
             (d.beside.hits ∙ ap (λ l. hits_in changes (map (λ (p : Placed). p.it) d.beside.passed) (map (λ (p : Placed). p.it) l)) e))
-            ∙ here_is changes os kept ns b more ahead old new d o cs e same)))
+            ∙ here_is changes os kept ns b more ahead old new d o cs e same))
         there false other =
             let later : IsEarlierPath b.path o.path = after o.path b.path (sym (ap (λ q. is_before q b.path) path) ∙ d.stops) other in
             let rest = (climbs_parts d.beside.passed o cs (subst Climbs is d.climbs)).1 in
             let highs : Each (λ (a : Placed). is_path a.path b.path ≡ false) cs =
             each_map (λ (a : Placed). IsEarlierPath o.path a.path) (λ (a : Placed). is_path a.path b.path ≡ false) cs (λ a k. apart_back b.path a.path (earlier_then b.path o.path a.path later k)) rest in
-            ap (λ q. is_there q b.path && next_stays os old new ns ahead (slice_get os old.at) (slice_get old.hits old.at)) path
-            ∙ (ap (λ t. t && next_stays os old new ns ahead (slice_get os old.at) (slice_get old.hits old.at)) other
+            ap (λ q. is_in_place q ahead.spot && next_stays os old new ns ahead q (slice_get old.hits old.at)) next
+            ∙ (ap (λ t. t && next_stays os old new ns ahead (Some o.it) (slice_get old.hits old.at)) (d.places o next path ∙ other)
             ∙ sym (none_stays changes os kept ns b
             (ap (at b.path) is ∙ at_none b.path (d.beside.passed ++ o ∷ cs) (each_join (λ (a : Placed). is_path a.path b.path ≡ false) d.beside.passed (o ∷ cs) lows (other, highs)))))
 
--- The old record that stays
+-- The old record in the place ahead
 
 pub record Found (changes : List Change) (os : List Record) (kept : List Path) (ns : List Record) (b : Placed) (more : List Placed) (ahead : Ahead) (old : OldRun) (new : NewRun) (d : Decides changes os kept ns b more ahead old new) : Type 0 where
   pub o : Placed
@@ -176,24 +216,18 @@ pub record Found (changes : List Change) (os : List Record) (kept : List Path) (
   pub old_record : slice_get os old.at ≡ Some o.it
 
 pub found_old : (changes : List Change) (os : List Record) (kept : List Path) (ns : List Record) (b : Placed) (more : List Placed) (ahead : Ahead) (old : OldRun) (new : NewRun) → (d : Decides changes os kept ns b more ahead old new)
-    → stays_at os old new ns ahead b.path ≡ true → Found changes os kept ns b more ahead old new d
-found_old changes os kept ns b more ahead old new d h = by d.beside.coming refl
+    → is_in_place (slice_get os old.at) ahead.spot ≡ true → Found changes os kept ns b more ahead old new d
+found_old changes os kept ns b more ahead old new d there = by d.beside.coming refl
   where
-    both : (x y : Bool) → (x && y) ≡ true → x ≡ true
-    both true y e = refl
-    both false y e = e
-
-    there : is_there (slice_get old.paths old.at) b.path ≡ true
-    there = both (is_there (slice_get old.paths old.at) b.path) (next_stays os old new ns ahead (slice_get os old.at) (slice_get old.hits old.at)) h
-
     by : (l : List Placed) → d.beside.coming ≡ l → Found changes os kept ns b more ahead old new d
-    by [] e = absurd (clash (ap (λ q. is_there q b.path) (none_dropped old.at old.paths (d.beside.paths ∙ ap (map (λ (p : Placed). p.path)) e))) there)
+    by [] e = absurd (clash (ap (λ q. is_in_place q ahead.spot) (none_comes changes os kept (b ∷ more) old d.beside e)) there)
       where
-        clash : is_there (slice_get old.paths old.at) b.path ≡ false → is_there (slice_get old.paths old.at) b.path ≡ true → ⊥
+        clash : is_in_place (slice_get os old.at) ahead.spot ≡ false → is_in_place (slice_get os old.at) ahead.spot ≡ true → ⊥
         clash k l = cc
     by (o ∷ cs) e =
-        let path : slice_get old.paths old.at ≡ Some o.path = first_dropped old.at old.paths o.path (map (λ (p : Placed). p.path) cs) (d.beside.paths ∙ ap (map (λ (p : Placed). p.path)) e) in
-        let same : is_path o.path b.path ≡ true = sym (ap (λ q. is_there q b.path) path) ∙ there in
+        let path : slice_get (paths os) old.at ≡ Some o.path = first_dropped old.at (paths os) o.path (map (λ (p : Placed). p.path) cs) (coming_paths changes os kept (b ∷ more) old d.beside ∙ ap (map (λ (p : Placed). p.path)) e) in
+        let next : slice_get os old.at ≡ Some o.it = next_is changes os kept (b ∷ more) old o cs d.beside e in
+        let same : is_path o.path b.path ≡ true = sym (d.places o next path) ∙ (sym (ap (λ q. is_in_place q ahead.spot) next) ∙ there) in
         let is : with_paths os ≡ d.beside.passed ++ o ∷ cs = d.beside.split ∙ ap (λ l. d.beside.passed ++ l) e in
         let past = front_past b.path d.beside.passed o cs (all_apart b.path d.beside.passed (old_lower changes os kept b more old d.beside)) same in
         record {
@@ -203,5 +237,5 @@ found_old changes os kept ns b more ahead old new d h = by d.beside.coming refl
           path = path_is o.path b.path same;
           found = ap (at b.path) is ∙ past.0;
           there = ap (λ l. slice_get l old.at) is ∙ (ap (slice_get (d.beside.passed ++ o ∷ cs)) d.beside.at ∙ get_last d.beside.passed o cs);
-          old_record = next_is changes os kept (b ∷ more) old o cs d.beside e;
+          old_record = next;
         }

@@ -1,5 +1,5 @@
 -- Lists from an index on, and the writes of some records.
-use Rattle.std.proofs.Common.{◌≡◌, ◌<◌, ℕ, zero, suc, ◌+◌, Bool, true, false, List, [], ◌∷◌, ◌++◌, Option, Some, None, length, take, drop, refl, sym, ap, ◌∙◌}
+use Rattle.std.proofs.Common.{◌≡◌, ◌<◌, ℕ, zero, suc, ◌+◌, Bool, true, false, List, [], ◌∷◌, ◌++◌, Option, Some, None, length, take, drop, refl, sym, ap, ◌∙◌, arith}
 use Rattle.std.specs.Prelude.{◌||◌, ◌&&◌, slice_get}
 use Rattle.std.specs.List.{list_any, flat_map}
 use Rattle.std.proofs.lemmas.List.{drop-drop, nil_from_length, take_more}
@@ -29,6 +29,13 @@ none_dropped (suc n) (x ∷ xs) h = none_dropped n xs h
 
 pub next_dropped : {A : Type 0} (n : ℕ) (xs : List A) (y : A) (ys : List A) → drop n xs ≡ y ∷ ys → drop (n + 1) xs ≡ ys
 next_dropped n xs y ys h = sym (drop-drop 1 n xs) ∙ ap (drop 1) h
+
+-- past a front
+pub drop_past : {A : Type 0} (n : ℕ) (xs ys : List A) → n ≡ length xs → drop n (xs ++ ys) ≡ ys
+drop_past zero [] ys e = refl
+drop_past (suc n) [] ys e = absurd (omega (arith, e))
+drop_past zero (x ∷ xs) ys e = absurd (omega (arith, e))
+drop_past (suc n) (x ∷ xs) ys e = drop_past n xs ys (let f : n ≡ length xs = omega (arith, e) in f)
 
 pub each_take : {A : Type 0} (P : A → Type 0) (n : ℕ) (xs : List A) → Each P xs → Each P (take n xs)
 each_take P zero xs h = tt

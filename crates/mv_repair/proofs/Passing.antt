@@ -1,14 +1,15 @@
 -- The old run beside the new one: records that are passed, kept or left.
-use Rattle.std.proofs.Common.{◌≡◌, ◌≤◌, ◌<◌, ℕ, ◌+◌, true, false, List, [], ◌∷◌, ◌++◌, Some, map, if◌then◌else◌, refl, sym, ap, subst, ◌∙◌, arith, append_assoc, append-nil, length-append, Bool, length, take}
+use Rattle.std.proofs.Common.{◌≡◌, ◌≤◌, ◌<◌, ℕ, ◌+◌, true, false, List, [], ◌∷◌, ◌++◌, Some, None, map, drop, if◌then◌else◌, refl, sym, ap, subst, ◌∙◌, arith, append_assoc, append-nil, length-append, Bool, length, take}
 use Rattle.std.specs.Prelude.{slice_get}
 use Rattle.std.specs.Ordering.{nat_cmp}
 use Rattle.std.specs.Cmp.Lexicographic.{slice_cmp}
 use Rattle.std.proofs.lemmas.Grind.{flat_map-append}
 use Rattle.std.proofs.lemmas.List.{length-map, map-append, take-append-le}
+use Rattle.std.proofs.lemmas.Option.{slice_get_past}
 use Rattle.mv_values.specs.declared.patch.Write.{Write}
 use Rattle.mv_values.proofs.Deciding.{less_is}
 use Rattle.mv_record.specs.declared.record.Record.{Record}
-use Rattle.mv_record.specs.Paths.{IsEarlierPath}
+use Rattle.mv_record.specs.Paths.{paths, IsEarlierPath}
 use Rattle.mv_recorded.specs.Own.{Each}
 use Rattle.mv_recorded.proofs.Held.{get_last}
 use Rattle.mv_history.specs.declared.change.Change.{Change}
@@ -18,10 +19,11 @@ use Rattle.mv_alike.proofs.Keeping.{Climbs, among_new}
 use Rattle.mv_alike.proofs.Placing.{apart, its, its_all}
 use Rattle.mv_repair.specs.declared.walk.OldRun.{OldRun}
 use Rattle.mv_repair.specs.Keys.{TableKeys}
-use Rattle.mv_repair.specs.Walking.{any_write, noted, is_before, hits_in, writes_of, next_writes, noted_next, AreKnown, HasLearnt, IsOld, HasPassed, writes_at}
+use Rattle.mv_repair.specs.Walking.{any_write, noted, is_before, hits_in, writes_of, next_writes, next_passed, AreKnown, HasLearnt, IsOld, HasPassed, writes_at}
 use Rattle.mv_recorded.proofs.Inverting.{each_join, each_map}
 use Rattle.mv_alike.proofs.Walking.{earlier_then, climbs_parts}
-use Rattle.mv_repair.proofs.Lists.{first_dropped, none_dropped, next_dropped}
+use Rattle.mv_repair.proofs.Lists.{drop_past, first_dropped, none_dropped, next_dropped}
+use Rattle.mv_repair.proofs.Placing.{many_placed, placed_paths}
 use Rattle.mv_repair.proofs.Marking.{not_among, among_still}
 
 abbrev all_before : List Placed → List Placed → Type 0
@@ -95,18 +97,30 @@ next_is changes os kept rest old o cs h e =
     let at : old.at ≡ length (its h.passed) = h.at ∙ sym (length-map h.passed (λ (p : Placed). p.it)) in
     ap (λ l. slice_get l old.at) all ∙ (ap (slice_get (its h.passed ++ o.it ∷ its cs)) at ∙ get_last (its h.passed) o.it (its cs))
 
+-- the paths of the coming records
+pub coming_paths : (changes : List Change) (os : List Record) (kept : List Path) (rest : List Placed) (old : OldRun) → (h : IsOld changes os kept rest old) → drop old.at (paths os) ≡ map (λ (p : Placed). p.path) h.coming
+coming_paths changes os kept rest old h =
+    ap (drop old.at) (sym (placed_paths os) ∙ (ap (map (λ (p : Placed). p.path)) h.split ∙ map-append (λ (p : Placed). p.path) h.passed h.coming))
+    ∙ drop_past old.at (map (λ (p : Placed). p.path) h.passed) (map (λ (p : Placed). p.path) h.coming) (h.at ∙ sym (length-map h.passed (λ (p : Placed). p.path)))
+
+-- if none comes, there is no next one
+pub none_comes : (changes : List Change) (os : List Record) (kept : List Path) (rest : List Placed) (old : OldRun) → (h : IsOld changes os kept rest old) → h.coming ≡ [] → slice_get os old.at ≡ None
+none_comes changes os kept rest old h e =
+    let all : length os ≡ length h.passed = sym (many_placed os) ∙ ap length (h.split ∙ (ap (λ l. h.passed ++ l) e ∙ append-nil h.passed)) in
+    slice_get_past os old.at (omega (arith, all, h.at))
+
 -- One record that is passed
 
-pub passed_next : (os : List Record) (old : OldRun) (p : Path) → is_before (slice_get old.paths old.at) p ≡ true → HasPassed os old p (record (noted_next os old) { at = old.at + 1 })
+pub passed_next : (os : List Record) (old : OldRun) (p : Path) → is_before (slice_get (paths os) old.at) p ≡ true → HasPassed os old p (next_passed os old)
 passed_next os old p yes' changes kept b more is later h = by h.coming refl
   where
-    by : (l : List Placed) → h.coming ≡ l → IsOld changes os kept (b ∷ more) (record (noted_next os old) { at = old.at + 1 })
-    by [] e = absurd (clash (ap (λ o. is_before o p) (none_dropped old.at old.paths (h.paths ∙ ap (map (λ (p : Placed). p.path)) e))) yes')
+    by : (l : List Placed) → h.coming ≡ l → IsOld changes os kept (b ∷ more) (next_passed os old)
+    by [] e = absurd (clash (ap (λ o. is_before o p) (none_dropped old.at (paths os) (coming_paths changes os kept (b ∷ more) old h ∙ ap (map (λ (p : Placed). p.path)) e))) yes')
       where
-        clash : is_before (slice_get old.paths old.at) p ≡ false → is_before (slice_get old.paths old.at) p ≡ true → ⊥
+        clash : is_before (slice_get (paths os) old.at) p ≡ false → is_before (slice_get (paths os) old.at) p ≡ true → ⊥
         clash k l = cc
     by (o ∷ cs) e =
-        let path : slice_get old.paths old.at ≡ Some o.path = first_dropped old.at old.paths o.path (map (λ (p : Placed). p.path) cs) (h.paths ∙ ap (map (λ (p : Placed). p.path)) e) in
+        let path : slice_get (paths os) old.at ≡ Some o.path = first_dropped old.at (paths os) o.path (map (λ (p : Placed). p.path) cs) (coming_paths changes os kept (b ∷ more) old h ∙ ap (map (λ (p : Placed). p.path)) e) in
         let less : IsEarlierPath o.path b.path = subst (IsEarlierPath o.path) (sym is) (less_is (slice_cmp nat_cmp o.path p) (sym (ap (λ q. is_before q p) path) ∙ yes')) in
         let behind : Each (λ k. Each (λ (a : Placed). IsEarlierPath k a.path) (o ∷ cs)) kept = subst (λ l. Each (λ k. Each (λ (a : Placed). IsEarlierPath k a.path) l) kept) e h.behind in
         let written : writes_of (slice_get os old.at) ≡ o.it.writes = ap writes_of (next_is changes os kept (b ∷ more) old o cs h e) in
@@ -115,7 +129,6 @@ passed_next os old p yes' changes kept b more is later h = by h.coming refl
           coming = cs;
           split = h.split ∙ (ap (λ l. h.passed ++ l) e ∙ sym (append_assoc h.passed (o ∷ []) cs));
           at = omega (arith, h.at, length-append h.passed (o ∷ []));
-          paths = next_dropped old.at old.paths o.path (map (λ (p : Placed). p.path) cs) (h.paths ∙ ap (map (λ (p : Placed). p.path)) e);
           hits = next_dropped old.at old.hits (any_hits changes (its h.passed) o.it) (hits_in changes (its h.passed ++ o.it ∷ []) (its cs)) (h.hits ∙ ap (λ l. hits_in changes (its h.passed) (its l)) e)
               ∙ ap (λ l. hits_in changes l (its cs)) (sym (map-append (λ (p : Placed). p.it) h.passed (o ∷ [])));
           others =
@@ -140,7 +153,6 @@ learnt_old changes os kept rest old keys known learnt h = record {
   coming = h.coming;
   split = h.split;
   at = h.at;
-  paths = h.paths;
   hits = h.hits;
   others = h.others;
   within = learnt.within;
@@ -164,7 +176,6 @@ old_kept changes os kept b more old o cs climbs h e same later =
       coming = cs;
       split = is ∙ sym (append_assoc h.passed (o ∷ []) cs);
       at = omega (arith, h.at, length-append h.passed (o ∷ []));
-      paths = next_dropped old.at old.paths o.path (map (λ (p : Placed). p.path) cs) (h.paths ∙ ap (map (λ (p : Placed). p.path)) e);
       hits = next_dropped old.at old.hits (any_hits changes (its h.passed) o.it) (hits_in changes (its h.passed ++ o.it ∷ []) (its cs)) (h.hits ∙ ap (λ l. hits_in changes (its h.passed) (its l)) e)
           ∙ ap (λ l. hits_in changes l (its cs)) (sym (map-append (λ (p : Placed). p.it) h.passed (o ∷ [])));
       others =
@@ -179,13 +190,36 @@ old_kept changes os kept b more old o cs climbs h e same later =
       behind = each_join (λ k. Each (λ (a : Placed). IsEarlierPath k a.path) cs) kept (b.path ∷ []) (behind_rest o cs kept behind) (same_before b.path o.path cs (sym same) (climbs_at os [] h.passed o cs climbs is), tt);
     }
 
+-- the old record of a path that is executed anew
+pub old_met : (changes : List Change) (os : List Record) (kept : List Path) (b : Placed) (more : List Placed) (old : OldRun) (o : Placed) (cs : List Placed)
+    → (h : IsOld changes os kept (b ∷ more) old) → h.coming ≡ o ∷ cs → o.path ≡ b.path → Each (λ (c : Placed). IsEarlierPath b.path c.path) more → IsOld changes os kept more (next_passed os old)
+old_met changes os kept b more old o cs h e same later =
+    let behind : Each (λ k. Each (λ (a : Placed). IsEarlierPath k a.path) (o ∷ cs)) kept = subst (λ l. Each (λ k. Each (λ (a : Placed). IsEarlierPath k a.path) l) kept) e h.behind in
+    let written : writes_of (slice_get os old.at) ≡ o.it.writes = ap writes_of (next_is changes os kept (b ∷ more) old o cs h e) in
+    record {
+      passed = h.passed ++ o ∷ [];
+      coming = cs;
+      split = h.split ∙ (ap (λ l. h.passed ++ l) e ∙ sym (append_assoc h.passed (o ∷ []) cs));
+      at = omega (arith, h.at, length-append h.passed (o ∷ []));
+      hits = next_dropped old.at old.hits (any_hits changes (its h.passed) o.it) (hits_in changes (its h.passed ++ o.it ∷ []) (its cs)) (h.hits ∙ ap (λ l. hits_in changes (its h.passed) (its l)) e)
+          ∙ ap (λ l. hits_in changes l (its cs)) (sym (map-append (λ (p : Placed). p.it) h.passed (o ∷ [])));
+      others =
+          subst (λ w. writes_at os (noted (any_write w) old.at old.others) ≡ other_writes kept (h.passed ++ o ∷ [])) (sym written)
+          (noted_writes os old.at old.others o.it.writes written
+          ∙ (ap (λ ws. ws ++ o.it.writes) h.others
+          ∙ (ap (λ ws. other_writes kept h.passed ++ ws) (sym (one_other kept o (not_among kept o.path (behind_first o cs kept behind)))) ∙ sym (others_both kept h.passed (o ∷ [])))));
+      within = noted_longer old.known old.at old.others (any_write (next_writes os old)) h.within;
+      known = subst (λ l. AreKnown old.keys (writes_at os l)) (sym (noted_take old.known old.at old.others (any_write (next_writes os old)) h.within)) h.known;
+      below = each_join (λ (a : Placed). Each (λ (c : Placed). IsEarlierPath a.path c.path) more) h.passed (o ∷ []) (lower_rest b more h.passed h.below) (same_before o.path b.path more same later, tt);
+      behind = behind_rest o cs kept behind;
+    }
+
 pub old_left : (changes : List Change) (os : List Record) (kept : List Path) (b : Placed) (more : List Placed) (old : OldRun) → IsOld changes os kept (b ∷ more) old → IsOld changes os kept more old
 old_left changes os kept b more old h = record {
   passed = h.passed;
   coming = h.coming;
   split = h.split;
   at = h.at;
-  paths = h.paths;
   hits = h.hits;
   others = h.others;
   within = h.within;

@@ -1,8 +1,9 @@
 -- The paths of records, one record more.
-use Rattle.std.proofs.Common.{◌≡◌, ℕ, zero, suc, ◌+◌, List, [], ◌∷◌, ◌++◌, Option, Some, None, map, length, take, drop, nat_lt, if◌then◌else◌, refl, sym, ap, ◌∙◌, arith, length-append}
+use Rattle.std.proofs.Common.{◌≡◌, ◌<◌, ◌≤◌, ℕ, zero, suc, ◌+◌, Bool, true, false, List, [], ◌∷◌, ◌++◌, Option, Some, map, length, take, drop, nat_lt, if◌then◌else◌, refl, sym, ap, ◌∙◌, arith, append-nil, append_assoc, length-append}
 use Rattle.std.specs.Prelude.{slice_get}
-use Rattle.std.specs.Option.{option_and_then}
-use Rattle.std.proofs.lemmas.List.{length-map, map_push, nil_from_length}
+use Rattle.std.specs.Option.{option_and_then, option_map}
+use Rattle.std.proofs.lemmas.List.{length-map, nil_from_length, take_all}
+use Rattle.std.proofs.lemmas.Option.{slice_get_past, slice_get_within, slice_get-map}
 use Rattle.mv_record.specs.declared.record.Record.{Record}
 use Rattle.mv_record.specs.declared.record.Spot.{Spot}
 use Rattle.mv_record.specs.Paths.{Nest, path, inside, nest_of, nests_behind, paths}
@@ -10,7 +11,6 @@ use Rattle.mv_recorded.proofs.Nesting.{many_nests}
 use Rattle.mv_history.specs.Kept.{Path, Placed, zip_paths, with_paths, next_placed}
 use Rattle.mv_history.proofs.Joining.{placed_front}
 use Rattle.mv_repair.specs.Walking.{path_behind}
-use Rattle.mv_repair.proofs.Lists.{got_there}
 
 -- How many there are
 
@@ -44,54 +44,79 @@ placed_more xs r =
     let none : it.0 ≡ [] = nil_from_length it.0 (omega (arith, long, length-append (with_paths xs) (next_placed xs r ∷ it.0), many_placed xs)) in
     it.1 ∙ ap (λ l. with_paths xs ++ next_placed xs r ∷ l) none
 
-pub paths_more : (xs : List Record) (r : Record) → paths (xs ++ r ∷ []) ≡ paths xs ++ path_behind xs r.spot r.parent ∷ []
-paths_more xs r =
-    sym (placed_paths (xs ++ r ∷ []))
-    ∙ (ap (map (λ (p : Placed). p.path)) (placed_more xs r)
-    ∙ (map_push (λ (p : Placed). p.path) (with_paths xs) (next_placed xs r) ∙ ap (λ l. l ++ path_behind xs r.spot r.parent ∷ []) (placed_paths xs)))
+-- The path of one record
 
--- the path of the record that was got
-pub path_next : (rs : List Record) (n : ℕ) (r : Record) (before : List Record) (known : List Path) (statement : ℕ) (turns : List ℕ) (parent : Option ℕ) (p : Path) → slice_get rs n ≡ Some r → before ≡ take n rs → known ≡ paths (take n rs)
-    → statement ≡ r.spot.statement → turns ≡ r.spot.turns → parent ≡ r.parent → p ≡ path_behind before (record { statement = statement; turns = turns }) parent → known ++ p ∷ [] ≡ paths (take (n + 1) rs)
-path_next rs n r before known statement turns parent p there front all s t c is =
-    ap (λ l. l ++ p ∷ []) all
-    ∙ (ap (λ q. paths (take n rs) ++ q ∷ []) at
-    ∙ (sym (paths_more (take n rs) r) ∙ ap paths (sym (got_there rs n r there))))
+-- the nest of a record among the first ones
+nest_got : (ns : List Nest) (rs : List Record) (before n : ℕ) (r : Record) → n < before → slice_get rs n ≡ Some r
+    → slice_get (nests_behind ns (take before rs)) n ≡ Some (nest_of (ns ++ nests_behind ns (take n rs)) r)
+nest_got ns [] before n r lt h = cc
+nest_got ns (x ∷ rs) zero n r lt h = absurd (omega (arith, lt))
+nest_got ns (x ∷ rs) (suc k) zero r lt h =
+    let same : x ≡ r = cc in
+    ap (λ (z : Record). Some (nest_of ns z)) same ∙ ap (λ l. Some (nest_of l r)) (sym (append-nil ns))
+nest_got ns (x ∷ rs) (suc k) (suc n) r lt h =
+    let it : Nest = nest_of ns x in
+    nest_got (ns ++ it ∷ []) rs k n r (omega (arith, lt)) h
+    ∙ ap (λ l. Some (nest_of l r)) (append_assoc ns (it ∷ []) (nests_behind (ns ++ it ∷ []) (take n rs)))
+
+pub none_around : (rs : List Record) (before n : ℕ) (turns : List ℕ) → before ≤ n → [] ≡ inside (option_and_then (slice_get (nests_behind [] (take before rs))) (Some n)) turns
+none_around rs before n turns le =
+    let many = many_nests [] (take before rs) in
+    let few : length (take before rs) ≤ before = short before rs in
+    ap (λ o. inside o turns) (sym (slice_get_past (nests_behind [] (take before rs)) n (omega (arith, le, many, few))))
+  where
+    short : {A : Type 0} (n : ℕ) (xs : List A) → length (take n xs) ≤ n
+    short zero xs = omega arith
+    short (suc n) [] = omega arith
+    short (suc n) (x ∷ xs) = let k = short n xs in omega (arith, k)
+
+-- the part of a path that a statement around adds, behind the parts that those around it added
+pub around_is : (rs : List Record) (before n : ℕ) (r : Record) (start mid new : List ℕ) (turns : List ℕ) → n < before → slice_get rs n ≡ Some r
+    → mid ≡ start ++ inside (option_and_then (slice_get (nests_behind [] (take n rs))) r.parent) r.spot.turns
+    → new ≡ (if nat_lt (length r.spot.turns) (length turns) then mid ++ r.spot.statement ∷ drop (length r.spot.turns) turns else mid)
+    → new ≡ start ++ inside (option_and_then (slice_get (nests_behind [] (take before rs))) (Some n)) turns
+around_is rs before n r start mid new turns lt there outer is =
+    is
+    ∙ (ap (λ m. if nat_lt (length r.spot.turns) (length turns) then m ++ r.spot.statement ∷ drop (length r.spot.turns) turns else m) outer
+    ∙ (by (nat_lt (length r.spot.turns) (length turns)) (inside (option_and_then (slice_get (nests_behind [] (take n rs))) r.parent) r.spot.turns) (r.spot.statement ∷ drop (length r.spot.turns) turns)
+    ∙ ap (λ o. start ++ inside o turns) (sym (nest_got [] rs before n r lt there))))
+  where
+    by : (b : Bool) (part own : List ℕ) → (if b then (start ++ part) ++ own else (start ++ part)) ≡ start ++ (if b then part ++ own else part)
+    by true part own = append_assoc start part own
+    by false part own = refl
+
+-- the same of what `push_around` has
+pub around_got : (rs : List Record) (before n : ℕ) (r : Record) (start mid new turns ts us : List ℕ) (statement : ℕ) (parent c : Option ℕ) → n < before → slice_get rs n ≡ Some r → c ≡ Some n → parent ≡ r.parent
+    → ts ≡ r.spot.turns → us ≡ r.spot.turns → statement ≡ r.spot.statement → mid ≡ start ++ inside (option_and_then (slice_get (nests_behind [] (take n rs))) parent) ts
+    → new ≡ (if nat_lt (length us) (length turns) then mid ++ statement ∷ drop (length us) turns else mid)
+    → new ≡ start ++ inside (option_and_then (slice_get (nests_behind [] (take before rs))) c) turns
+around_got rs before n r start mid new turns ts us statement parent c lt there holder above outside within number outer is =
+    around_is rs before n r start mid new turns lt there mid_is new_is ∙ ap (λ o. start ++ inside (option_and_then (slice_get (nests_behind [] (take before rs))) o) turns) (sym holder)
+  where
+    mid_is : mid ≡ start ++ inside (option_and_then (slice_get (nests_behind [] (take n rs))) r.parent) r.spot.turns
+    mid_is = outer
+        ∙ (ap (λ o. start ++ inside (option_and_then (slice_get (nests_behind [] (take n rs))) o) ts) above
+        ∙ ap (λ l. start ++ inside (option_and_then (slice_get (nests_behind [] (take n rs))) r.parent) l) outside)
+
+    new_is : new ≡ (if nat_lt (length r.spot.turns) (length turns) then mid ++ r.spot.statement ∷ drop (length r.spot.turns) turns else mid)
+    new_is = is
+        ∙ (ap (λ m. if nat_lt (length us) (length turns) then mid ++ m ∷ drop (length us) turns else mid) number
+        ∙ ap (λ l. if nat_lt (length l) (length turns) then mid ++ r.spot.statement ∷ drop (length l) turns else mid) within)
+
+-- the path of the record with this number
+pub path_got : (rs : List Record) (n : ℕ) (r : Record) → slice_get rs n ≡ Some r → slice_get (paths rs) n ≡ Some (path_behind (take n rs) r.spot r.parent)
+path_got rs n r there =
+    slice_get-map path (nests_behind [] rs) n
+    ∙ ap (option_map path) (ap (λ l. slice_get (nests_behind [] l) n) (sym (take_all (length rs) rs (omega arith))) ∙ nest_got [] rs (length rs) n r (slice_get_within rs n r there) there)
+
+pub path_is_got : (rs : List Record) (n : ℕ) (r : Record) (statement : ℕ) (turns : List ℕ) (parent : Option ℕ) (p : Path) → slice_get rs n ≡ Some r
+    → statement ≡ r.spot.statement → turns ≡ r.spot.turns → parent ≡ r.parent → p ≡ path_behind (take n rs) (record { statement = statement; turns = turns }) parent → slice_get (paths rs) n ≡ Some p
+path_is_got rs n r statement turns parent p there s t c is = path_got rs n r there ∙ ap (λ q. Some q) (sym at)
   where
     spot : (a : ℕ) (b : List ℕ) → Spot
     spot a b = record { statement = a; turns = b }
 
     at : p ≡ path_behind (take n rs) r.spot r.parent
     at = is
-        ∙ (ap (λ (l : List Record). path_behind l (spot statement turns) parent) front
         ∙ (ap (λ a. path_behind (take n rs) (spot a turns) parent) s
-        ∙ (ap (λ b. path_behind (take n rs) (spot r.spot.statement b) parent) t ∙ ap (path_behind (take n rs) r.spot) c)))
-
--- The path of one record
-
-inside_at : (ns : List Nest) (rs : List Record) (n : ℕ) (p : Path) (r : Record) → slice_get (map path (nests_behind ns rs)) n ≡ Some p → slice_get rs n ≡ Some r
-    → (nest : Nest) × (slice_get (nests_behind ns rs) n ≡ Some nest) × (p ≡ nest.around ++ r.spot.statement ∷ []) × (nest.spot ≡ r.spot)
-inside_at ns [] n p r h k = cc
-inside_at ns (x ∷ rs) zero p r h k =
-    let same : x ≡ r = cc in
-    let it : path (nest_of ns x) ≡ p = cc in
-    (nest_of ns x, refl, sym it ∙ ap (λ (z : Record). (nest_of ns x).around ++ z.spot.statement ∷ []) same, ap (λ (z : Record). z.spot) same)
-inside_at ns (x ∷ rs) (suc n) p r h k = inside_at (ns ++ nest_of ns x ∷ []) rs n p r h k
-
-pub around_is : (rs : List Record) (n : ℕ) (p : Path) (r : Record) (known : List Path) (turns got : List ℕ) → known ≡ paths rs → slice_get known n ≡ Some p → slice_get rs n ≡ Some r
-    → ((a : List ℕ) (m : ℕ) → p ≡ a ++ m ∷ [] → got ≡ (if nat_lt (length r.spot.turns) (length turns) then a ++ m ∷ drop (length r.spot.turns) turns else a))
-    → got ≡ inside (option_and_then (slice_get (nests_behind [] rs)) (Some n)) turns
-around_is rs n p r known turns got is hp hr f =
-    let it = inside_at [] rs n p r (ap (λ l. slice_get l n) (sym is) ∙ hp) hr in
-    let nest : Nest = it.0 in
-    f nest.around r.spot.statement it.2
-    ∙ (ap (λ (s : Spot). if nat_lt (length s.turns) (length turns) then nest.around ++ s.statement ∷ drop (length s.turns) turns else nest.around) (sym it.3)
-    ∙ ap (λ o. inside o turns) (sym it.1))
-
-pub none_around : (rs : List Record) (n : ℕ) (known : List Path) (turns : List ℕ) → known ≡ paths rs → slice_get known n ≡ None → [] ≡ inside (option_and_then (slice_get (nests_behind [] rs)) (Some n)) turns
-none_around rs n known turns is h = ap (λ o. inside o turns) (sym (behind [] rs n (ap (λ l. slice_get l n) (sym is) ∙ h)))
-  where
-    behind : (ns : List Nest) (rs : List Record) (n : ℕ) → slice_get (map path (nests_behind ns rs)) n ≡ None → slice_get (nests_behind ns rs) n ≡ None
-    behind ns [] n h = refl
-    behind ns (x ∷ rs) zero h = cc
-    behind ns (x ∷ rs) (suc n) h = behind (ns ++ nest_of ns x ∷ []) rs n h
+        ∙ (ap (λ b. path_behind (take n rs) (spot r.spot.statement b) parent) t ∙ ap (path_behind (take n rs) r.spot) c))

@@ -3,7 +3,6 @@ use Rattle.std.proofs.Common.{◌≡◌, ℕ, ◌+◌, ◌*◌, Bool, true, Opti
 use Rattle.mv_values.specs.declared.calls.Call.{Call}
 use Rattle.mv_values.specs.Tables.{Tables}
 use Rattle.mv_record.specs.declared.record.Record.{Record}
-use Rattle.mv_record.specs.Paths.{paths}
 use Rattle.mv_record.specs.Runs.{writes_in}
 use Rattle.mv_record.specs.Writes.{AreRising}
 use Rattle.mv_view.specs.Viewing.{Sight}
@@ -14,7 +13,7 @@ use Rattle.mv_exec.specs.declared.task.Task.{Task}
 use Rattle.mv_exec.specs.Running.{IsTaskOf, IsTaskOn, IsSameCall, IsUnchanged}
 use Rattle.mv_exec.proofs.Fronts.{ends_exactly, one_run}
 use Rattle.mv_history.specs.declared.change.Change.{Change}
-use Rattle.mv_history.specs.Kept.{Path, Placed, with_paths, executions, kept_paths}
+use Rattle.mv_history.specs.Kept.{Placed, with_paths, executions, kept_paths}
 use Rattle.mv_alike.proofs.Placing.{its_all}
 use Rattle.mv_repair.specs.declared.walk.OldRun.{OldRun}
 use Rattle.mv_repair.specs.declared.walk.NewRun.{NewRun}
@@ -22,7 +21,6 @@ use Rattle.mv_repair.specs.Keys.{TableKeys}
 use Rattle.mv_repair.specs.Repairing.{IsRepairable, queried, HasQueried}
 use Rattle.mv_repair.specs.Walking.{hits_in, IsOld, IsNew, IsUnderway}
 use Rattle.mv_repair.proofs.Asking.{keys_within, queried_once}
-use Rattle.mv_repair.proofs.Placing.{placed_paths}
 
 -- A call that has ended has all records of its full run
 
@@ -34,7 +32,7 @@ all_of g call db task rise on ended =
 -- The beginning
 
 pub begins : (g : Graph) (changes : List Change) (db : Tables) (was task : Task) (old : OldRun) (new : NewRun) → IsRepairable g was changes db → IsSameCall g was task → task.log.records ≡ [] → task.executed ≡ 0 → task.log.past ≡ was.log.records → task.log.kept ≡ 0
-    → old ≡ record { paths = paths was.log.records; hits = hits_in changes [] was.log.records; at = 0; others = []; keys = []; known = 0 } → new ≡ record { paths = []; kept = []; others = []; keys = []; known = 0 }
+    → old ≡ record { hits = hits_in changes [] was.log.records; at = 0; others = []; keys = []; known = 0 } → new ≡ record { kept = []; others = []; keys = []; known = 0 }
     → IsUnderway g changes db was.log.records task old new
 begins g changes db was task old new r same none zero past kept old_is new_is = record {
   call = r.call;
@@ -55,7 +53,6 @@ begins g changes db was task old new r same none zero past kept old_is new_is = 
         coming = with_paths was.log.records;
         split = refl;
         at = refl;
-        paths = sym (placed_paths was.log.records);
         hits = ap (hits_in changes []) (sym (its_all was.log.records));
         others = refl;
         within = omega arith;
@@ -65,36 +62,34 @@ begins g changes db was task old new r same none zero past kept old_is new_is = 
       }));
   along =
       subst (λ (rs : List Record). IsNew was.log.records (kept_paths was.log.records rs changes) rest rs new) (sym none)
-      (subst (IsNew was.log.records [] rest []) (sym new_is) (record { paths = refl; marks = tt; others = refl; numbers = tt; within = omega arith; known = tt; behind = tt }));
+      (subst (IsNew was.log.records [] rest []) (sym new_is) (record { marks = tt; others = refl; numbers = tt; within = omega arith; known = tt; behind = tt }));
   count = subst (λ (rs : List Record). task.executed + length (kept_paths was.log.records rs changes) ≡ length rs) (sym none) (omega (arith, zero));
 }
   where
     rest : List Placed
     rest = with_paths (meaning_of g r.call db).records
 
-same_old : (ps qs : List Path) (hs is : List Bool) (ns : List ℕ) (ks : List TableKeys) → ps ≡ qs → hs ≡ is → ns ≡ [] → ks ≡ []
-    → ◌≡◌ {A = OldRun} (record { paths = ps; hits = hs; at = 0; others = ns; keys = ks; known = 0 }) (record { paths = qs; hits = is; at = 0; others = []; keys = []; known = 0 })
-same_old ps qs hs is ns ks k l m n =
-    ap (λ x. (let o : OldRun = record { paths = x; hits = hs; at = 0; others = ns; keys = ks; known = 0 } in o)) k
-    ∙ (ap (λ x. (let o : OldRun = record { paths = qs; hits = x; at = 0; others = ns; keys = ks; known = 0 } in o)) l
-    ∙ (ap (λ x. (let o : OldRun = record { paths = qs; hits = is; at = 0; others = x; keys = ks; known = 0 } in o)) m
-    ∙ ap (λ x. (let o : OldRun = record { paths = qs; hits = is; at = 0; others = []; keys = x; known = 0 } in o)) n))
+same_old : (hs is : List Bool) (ns : List ℕ) (ks : List TableKeys) → hs ≡ is → ns ≡ [] → ks ≡ []
+    → ◌≡◌ {A = OldRun} (record { hits = hs; at = 0; others = ns; keys = ks; known = 0 }) (record { hits = is; at = 0; others = []; keys = []; known = 0 })
+same_old hs is ns ks l m n =
+    ap (λ x. (let o : OldRun = record { hits = x; at = 0; others = ns; keys = ks; known = 0 } in o)) l
+    ∙ (ap (λ x. (let o : OldRun = record { hits = is; at = 0; others = x; keys = ks; known = 0 } in o)) m
+    ∙ ap (λ x. (let o : OldRun = record { hits = is; at = 0; others = []; keys = x; known = 0 } in o)) n)
 
-same_new : (ps : List Path) (ks : List (Option ℕ)) (ns : List ℕ) (ms : List TableKeys) → ps ≡ [] → ks ≡ [] → ns ≡ [] → ms ≡ []
-    → ◌≡◌ {A = NewRun} (record { paths = ps; kept = ks; others = ns; keys = ms; known = 0 }) (record { paths = []; kept = []; others = []; keys = []; known = 0 })
-same_new ps ks ns ms h k l m =
-    ap (λ x. (let o : NewRun = record { paths = x; kept = ks; others = ns; keys = ms; known = 0 } in o)) h
-    ∙ (ap (λ x. (let o : NewRun = record { paths = []; kept = x; others = ns; keys = ms; known = 0 } in o)) k
-    ∙ (ap (λ x. (let o : NewRun = record { paths = []; kept = []; others = x; keys = ms; known = 0 } in o)) l
-    ∙ ap (λ x. (let o : NewRun = record { paths = []; kept = []; others = []; keys = x; known = 0 } in o)) m))
+same_new : (ks : List (Option ℕ)) (ns : List ℕ) (ms : List TableKeys) → ks ≡ [] → ns ≡ [] → ms ≡ []
+    → ◌≡◌ {A = NewRun} (record { kept = ks; others = ns; keys = ms; known = 0 }) (record { kept = []; others = []; keys = []; known = 0 })
+same_new ks ns ms k l m =
+    ap (λ x. (let o : NewRun = record { kept = x; others = ns; keys = ms; known = 0 } in o)) k
+    ∙ (ap (λ x. (let o : NewRun = record { kept = []; others = x; keys = ms; known = 0 } in o)) l
+    ∙ ap (λ x. (let o : NewRun = record { kept = []; others = []; keys = x; known = 0 } in o)) m)
 
 -- what `repair` makes
-pub begun : (g : Graph) (changes : List Change) (db : Tables) (was task : Task) (ps : List Path) (hs : List Bool) (ns : List ℕ) (us : List TableKeys) (qs : List Path) (ks : List (Option ℕ)) (ms : List ℕ) (vs : List TableKeys)
+pub begun : (g : Graph) (changes : List Change) (db : Tables) (was task : Task) (hs : List Bool) (ns : List ℕ) (us : List TableKeys) (ks : List (Option ℕ)) (ms : List ℕ) (vs : List TableKeys)
     → IsRepairable g was changes db → IsSameCall g was task → task.log.records ≡ [] → task.executed ≡ 0 → task.log.past ≡ was.log.records → task.log.kept ≡ 0
-    → ps ≡ paths was.log.records → hs ≡ hits_in changes [] was.log.records → ns ≡ [] → us ≡ [] → qs ≡ [] → ks ≡ [] → ms ≡ [] → vs ≡ []
-    → IsUnderway g changes db was.log.records task (record { paths = ps; hits = hs; at = 0; others = ns; keys = us; known = 0 }) (record { paths = qs; kept = ks; others = ms; keys = vs; known = 0 })
-begun g changes db was task ps hs ns us qs ks ms vs r same none zero past kept b c d u e f h v =
-    begins g changes db was task _ _ r same none zero past kept (same_old ps (paths was.log.records) hs (hits_in changes [] was.log.records) ns us b c d u) (same_new qs ks ms vs e f h v)
+    → hs ≡ hits_in changes [] was.log.records → ns ≡ [] → us ≡ [] → ks ≡ [] → ms ≡ [] → vs ≡ []
+    → IsUnderway g changes db was.log.records task (record { hits = hs; at = 0; others = ns; keys = us; known = 0 }) (record { kept = ks; others = ms; keys = vs; known = 0 })
+begun g changes db was task hs ns us ks ms vs r same none zero past kept c d u f h v =
+    begins g changes db was task _ _ r same none zero past kept (same_old hs (hits_in changes [] was.log.records) ns us c d u) (same_new ks ms vs f h v)
 
 -- nothing was queried yet
 pub none_queried : (os ns : List Record) (changes : List Change) (vain : ℕ) (now : Sight) → HasQueried os ns changes vain now now

@@ -1,5 +1,5 @@
 -- Defines the walk of a repair: the new run record by record, with the old run beside it. This project's own.
-use Rattle.std.specs.Prelude.{◌≡◌, ◌<◌, ◌≤◌, ℕ, ◌+◌, ◌==◌, Bool, true, false, not, ◌&&◌, ◌||◌, List, [], ◌∷◌, ◌++◌, Option, Some, None, map, length, take, drop, slice_get}
+use Rattle.std.specs.Prelude.{◌≡◌, ◌<◌, ◌≤◌, ◌⊎◌, ℕ, ◌+◌, ◌==◌, Bool, true, false, not, ◌&&◌, ◌||◌, List, [], ◌∷◌, ◌++◌, Option, Some, None, map, length, take, drop, slice_get}
 use Rattle.std.specs.List.{list_any, flat_map}
 use Rattle.std.specs.Option.{option_and_then}
 use Rattle.std.specs.Ordering.{is_lt, nat_cmp}
@@ -38,10 +38,10 @@ abbrev pub is_before : Option Path → Path → Bool
 is_before None p = false
 is_before (Some q) p = is_lt (slice_cmp nat_cmp q p)
 
--- there is a path, and it is the other one
-abbrev pub is_there : Option Path → Path → Bool
-is_there None p = false
-is_there (Some q) p = is_path q p
+-- there is a record, and it is in this place
+abbrev pub is_in_place : Option Record → Spot → Bool
+is_in_place None spot = false
+is_in_place (Some o) spot = (o.spot.statement == spot.statement) && is_path spot.turns o.spot.turns
 
 -- Hits and writes
 
@@ -151,9 +151,9 @@ next_stays os old new ns ahead (Some o) (Some hit) = record_stays os old new ns 
 next_stays os old new ns ahead (Some o) None = false
 next_stays os old new ns ahead None hit = false
 
--- the next old record has this path, and stays
-abbrev pub stays_at : List Record → OldRun → NewRun → List Record → Ahead → Path → Bool
-stays_at os old new ns ahead p = is_there (slice_get old.paths old.at) p && next_stays os old new ns ahead (slice_get os old.at) (slice_get old.hits old.at)
+-- the next old record is in the place ahead, and stays
+abbrev pub stays_at : List Record → OldRun → NewRun → List Record → Ahead → Bool
+stays_at os old new ns ahead = is_in_place (slice_get os old.at) ahead.spot && next_stays os old new ns ahead (slice_get os old.at) (slice_get old.hits old.at)
 
 -- How the walk goes on
 
@@ -165,13 +165,22 @@ next_writes os old = writes_of (slice_get os old.at)
 abbrev pub noted_next : List Record → OldRun → OldRun
 noted_next os old = record old { others = noted (any_write (next_writes os old)) old.at old.others }
 
--- the new run has one record more, with this path, which keeps this old one
-abbrev pub added : Path → Option ℕ → NewRun → NewRun
-added path old new = record new { paths = new.paths ++ path ∷ []; kept = new.kept ++ old ∷ [] }
+-- the next record of the old run is passed
+abbrev pub next_passed : List Record → OldRun → OldRun
+next_passed os old = record (noted_next os old) { at = old.at + 1 }
 
--- the new run has one record more, with this path and number, which is executed and may make writes
-abbrev pub renewed : Path → ℕ → Bool → NewRun → NewRun
-renewed path number writes new = record (added path None new) { others = noted writes number new.others }
+-- the next record of the old run is passed too, if it is in the place of one that is executed
+abbrev pub left_behind : Bool → List Record → OldRun → OldRun
+left_behind false os old = old
+left_behind true os old = next_passed os old
+
+-- the new run has one record more, which keeps this old one
+abbrev pub added : Option ℕ → NewRun → NewRun
+added old new = record new { kept = new.kept ++ old ∷ [] }
+
+-- the new run has one record more, with this number, which is executed and may make writes
+abbrev pub renewed : ℕ → Bool → NewRun → NewRun
+renewed number writes new = record (added None new) { others = noted writes number new.others }
 
 -- The state of the walk
 
@@ -182,7 +191,6 @@ pub record IsOld (changes : List Change) (os : List Record) (kept : List Path) (
   pub coming : List Placed
   pub split : with_paths os ≡ passed ++ coming
   pub at : old.at ≡ length passed
-  pub paths : drop old.at old.paths ≡ map (λ (p : Placed). p.path) coming
   pub hits : drop old.at old.hits ≡ hits_in changes (map (λ (p : Placed). p.it) passed) (map (λ (p : Placed). p.it) coming)
   pub others : writes_at os old.others ≡ other_writes kept passed
   pub within : old.known ≤ length old.others
@@ -204,7 +212,6 @@ AreMarked kept os (b ∷ bs) [] = ⊥
 -- the new run has the first records `ns`, of which those with the paths `kept` were kept. Kept paths are before those of
 -- the rest of the new run.
 pub record IsNew (os : List Record) (kept : List Path) (rest : List Placed) (ns : List Record) (new : NewRun) : Type 0 where
-  pub paths : new.paths ≡ paths ns
   pub marks : AreMarked kept (with_paths os) (with_paths ns) new.kept
   pub others : writes_at ns new.others ≡ other_writes kept (with_paths ns)
   pub numbers : Each (λ n. n < length ns) new.others
@@ -231,11 +238,16 @@ pub record IsUnderway (g : Graph) (changes : List Change) (db : Tables) (os : Li
   pub along : IsNew os (kept_paths os task.log.records changes) rest task.log.records new
   pub count : task.executed + length (kept_paths os task.log.records changes) ≡ length task.log.records
 
--- some of these records with paths before this one were passed. This is right if the next record of the new run has this path.
+-- some of these records with paths before this one were passed. This is right if the next record of the new run has
+-- this path.
 abbrev pub HasPassed : List Record → OldRun → Path → OldRun → Type 0
 HasPassed os old p new =
     (changes : List Change) (kept : List Path) (b : Placed) (more : List Placed) → b.path ≡ p → Each (λ (c : Placed). IsEarlierPath b.path c.path) more
     → IsOld changes os kept (b ∷ more) old → IsOld changes os kept (b ∷ more) new
+
+-- the record with this number is in this place, or its path isn't before the path of that
+abbrev pub IsComeTo : List Record → ℕ → Spot → Path → Type 0
+IsComeTo os at spot p = (is_in_place (slice_get os at) spot ≡ true) ⊎ (is_before (slice_get (paths os) at) p ≡ false)
 
 -- the keys of all others of the new run are known, if they are many
 pub record HasCaughtUp (ns : List Record) (old new : NewRun) : Type 0 where
@@ -244,11 +256,11 @@ pub record HasCaughtUp (ns : List Record) (old new : NewRun) : Type 0 where
   pub still : (os : List Record) (kept : List Path) (rest : List Placed) → IsNew os kept rest ns old → IsNew os kept rest ns new
 
 -- the next record of the old run was kept
-pub record HasKept (g : Graph) (task : Task) (old : OldRun) (new : NewRun) (path : Path) (task' : Task) (old' : OldRun) (new' : NewRun) : Type 0 where
+pub record HasKept (g : Graph) (task : Task) (old : OldRun) (new : NewRun) (task' : Task) (old' : OldRun) (new' : NewRun) : Type 0 where
   pub given : Record
   pub there : slice_get task.log.past old.at ≡ Some given
   pub old_is : old' ≡ record old { at = old.at + 1 }
-  pub new_is : new' ≡ added path (Some old.at) new
+  pub new_is : new' ≡ added (Some old.at) new
   pub adopted : HasAdopted g task given task'
   pub goes_on : GoesOnWith g task given task'
   pub past : task'.log.past ≡ task.log.past

@@ -1,6 +1,6 @@
 //! The paths of records.
 
-ghost use Rattle.std.specs.Prelude.{◌≡◌, ◌<◌, ◌+◌, ℕ, ◌++◌, ◌∷◌, [], List as Seq, drop, length, nat_lt, slice_get, take, IfOk, OnOk, if◌then◌else◌};
+ghost use Rattle.std.specs.Prelude.{◌≡◌, ◌<◌, ◌≤◌, ◌++◌, ◌∷◌, [], Some, drop, length, nat_lt, slice_get, take, IfOk, OnOk, if◌then◌else◌};
 ghost use Rattle.std.specs.Option.{option_and_then, option_copied};
 ghost use Rattle.std.specs.Ordering.{is_lt, nat_cmp};
 ghost use Rattle.std.specs.Cmp.Lexicographic.{slice_cmp};
@@ -9,7 +9,6 @@ ghost use Rattle.mv_history.specs.Kept.{is_path};
 ghost use Rattle.mv_repair.specs.Walking.{path_behind};
 
 use mv_log::records::Records;
-use mv_values::list::List;
 use mv_values::memory::NoMemory;
 use smallvec::SmallVec;
 use std::alloc::Global;
@@ -68,7 +67,7 @@ pub(crate) fn item<T>(items: &[T], at: usize) -> Option<&T>
     items.get(at)
 }
 
-/// Whether two paths are equal.
+/// Whether two lists of numbers are equal.
 pub(crate) fn is_path(a: &[u32], b: &[u32]) -> bool
     ensures { result ≡ is_path a.now b.now }
 {
@@ -82,94 +81,74 @@ pub(crate) fn is_earlier(a: &[u32], b: &[u32]) -> bool
     a.cmp(b).is_lt()
 }
 
-/// Returns the part of a path from the enclosing statements. The innermost of these has a path, and is in `depth` FORs;
-/// `turns` has the iterations of the statement itself.
-fn around(alloc: Global, path: &[u32], depth: usize, turns: &[u32]) -> Result<Path, NoMemory>
-    ensures { IfOk result (λ p. (outer : Seq ℕ) (n : ℕ) → path.now ≡ outer ++ n ∷ [] → p ≡ (if nat_lt depth (length turns.now) then outer ++ n ∷ drop depth turns.now else outer)) }
+/// Adds the number of a FOR, and the iterations of it and of the FORs inside it: those after the first `depth`. If there
+/// are none, the statement is no FOR and adds nothing.
+fn push_for(path: &mut Path, statement: u16, depth: usize, turns: &[u32]) -> Result<(), NoMemory>
+    ensures { OnOk result (path.new ≡ (if nat_lt depth (length turns.now) then path.old ++ statement ∷ drop depth turns.now else path.old)) }
 {
-    let mut part = Path::new(alloc);
     if depth < turns.len() {
-        part.append(path)?;
-        part.append(&turns[depth..])?;
-    } else {
-        let len = path.len().saturating_sub(1);
-        part.append(&path[..len])?;
+        path.push(statement as u32)?;
+        path.append(&turns[depth..])?;
     }
-    Ok(part)
+    Ok(())
 }
 
-/// Returns the part of a path from the enclosing statements, given the number of the innermost one's record. The first
-/// records have the `known` paths.
-fn around_of(
-    alloc: Global,
+/// Adds the part of a path from the enclosing statements, given the number of the innermost one's record, which is among
+/// the first `before` records, and the iterations. Costs a step for each enclosing statement.
+fn push_around(
+    path: &mut Path,
     records: &Records<'_>,
-    known: &[Path],
+    before: usize,
     parent: Option<u32>,
     turns: &[u32],
-) -> Result<Path, NoMemory>
-    requires { known.now ≡ paths records.now }
-    ensures { IfOk result (λ p. p ≡ inside (option_and_then (slice_get (nests_behind [] records.now)) parent) turns.now) }
+) -> Result<(), NoMemory>
+    requires { before ≤ length records.now }
+    ensures { OnOk result (path.new ≡ path.old ++ inside (option_and_then (slice_get (nests_behind [] (take before records.now))) parent) turns.now) }
 {
     let Some(number) = parent else {
-        return Ok(Path::new(alloc));
+        return Ok(());
     };
-    let Some(path) = known.get(number as usize) else {
-        return Ok(Path::new(alloc));
-    };
-    let holder = records.get(number as usize);
-    let part = around(alloc, path.as_slice(), holder.turns().len(), turns)?;
-    Ok(part)
+    let number = number as usize;
+    if number >= before {
+        return Ok(());
+    }
+    let holder = records.get(number);
+    push_around(path, records, number, holder.parent(), holder.turns())?;
+    push_for(path, holder.statement(), holder.turns().len(), turns)
 }
 
-/// Returns the path of the record of this statement in these iterations, given the number of its controller. The records
-/// before it have the `known` paths.
+/// Returns the path of the record of this statement in these iterations, given the number of its controller. It comes
+/// after the first `before` records.
 pub(crate) fn path_of(
     alloc: Global,
     records: &Records<'_>,
-    known: &[Path],
+    before: usize,
     statement: u16,
     turns: &[u32],
     parent: Option<u32>,
 ) -> Result<Path, NoMemory>
-    requires { known.now ≡ paths records.now }
-    ensures { IfOk result (λ p. p ≡ path_behind records.now (record { statement = statement; turns = turns.now }) parent) }
+    requires { before ≤ length records.now }
+    ensures { IfOk result (λ p. p ≡ path_behind (take before records.now) (record { statement = statement; turns = turns.now }) parent) }
 {
-    let mut path = around_of(alloc, records, known, parent, turns)?;
+    let mut path = Path::new(alloc);
+    push_around(&mut path, records, before, parent, turns)?;
     path.push(statement as u32)?;
     Ok(path)
 }
 
-/// Returns the path of the record with this number. The records before it have the `known` paths.
-fn path_at(
-    alloc: Global,
-    records: &Records<'_>,
-    number: usize,
-    known: &[Path],
-) -> Result<Path, NoMemory>
-    requires within { number < length records.now }
-    requires known { known.now ≡ paths (take number records.now) }
-    ensures { IfOk result (λ p. known.now ++ p ∷ [] ≡ paths (take (number + 1) records.now)) }
+/// Returns the path of the record with this number.
+pub(crate) fn path_at(alloc: Global, records: &Records<'_>, number: usize) -> Result<Path, NoMemory>
+    requires { number < length records.now }
+    ensures { IfOk result (λ p. slice_get (paths records.now) number ≡ Some p) }
 {
     let record = records.get(number);
     let path = path_of(
         alloc,
-        &records.first(number),
-        known,
+        records,
+        number,
         record.statement(),
         record.turns(),
         record.parent(),
     )?;
     Ok(path)
-}
-
-/// Returns the paths of the records of a run.
-pub(crate) fn paths_of(alloc: Global, records: &Records<'_>) -> Result<List<Path>, NoMemory>
-    ensures { IfOk result (λ ps. ps ≡ paths records.now) }
-{
-    let mut all = List::with_room(alloc, records.len())?;
-    for number in 0..records.len() {
-        let path = path_at(alloc, records, number, all.as_slice())?;
-        all.push(path)?;
-    }
-    Ok(all)
 }

@@ -2,7 +2,6 @@
 
 ghost use Rattle.std.specs.Prelude.{◌≡◌, ◌<◌, ◌≤◌, false, true, length, slice_get, IfOk, OnOk, OnErr};
 ghost use Rattle.mv_values.specs.declared.calls.Call.{Call};
-ghost use Rattle.mv_record.specs.Paths.{paths};
 ghost use Rattle.mv_record.specs.Runs.{writes_in};
 ghost use Rattle.mv_record.specs.Databases.{IsDatabaseOf};
 ghost use Rattle.mv_effect.specs.Looking.{AskedAtMost, OnlyAsks, different};
@@ -10,16 +9,14 @@ ghost use Rattle.mv_graph.specs.Nodes.{IsSound, meaning_of};
 ghost use Rattle.mv_exec.specs.Running.{IsRunning, IsRunningOn, IsSameCall, IsSameCallOn, IsTaskOf, IsTaskOn, IsUnchanged, HasRun, refusals};
 ghost use Rattle.mv_history.specs.Kept.{executions};
 ghost use Rattle.mv_repair.specs.Repairing.{changes_since, IsRepairable, HasQueried};
-ghost use Rattle.mv_repair.specs.Walking.{any_write, path_behind, writes_of, renewed, HasKept};
+ghost use Rattle.mv_repair.specs.Walking.{any_write, writes_of, renewed, HasKept};
 ghost use Rattle.mv_repair.specs.Stepping.{HasStepped, IsOnWay};
 
 use crate::hits::hits_of;
 use crate::keys::Keys;
-use crate::paths::{Path, path_of, paths_of};
 use crate::touch::has_writes;
 use crate::walk::{NewRun, OldRun, stays};
 use mv_changes::recent::Committed;
-use mv_exec::ahead::Ahead;
 use mv_exec::running::{adopt, next, peek};
 use mv_exec::task::Task;
 use mv_graph::graph::Graph;
@@ -38,30 +35,13 @@ fn narrow(number: usize) -> Result<u32, NoMemory>
     Ok(number as u32)
 }
 
-/// Returns the path of the record that is ahead of the new run.
-fn path_ahead(alloc: Global, task: &Task, new: &NewRun, ahead: &Ahead) -> Result<Path, NoMemory>
-    requires { new.now.paths ≡ paths task.now.log.records }
-    ensures { IfOk result (λ p. p ≡ path_behind task.now.log.records ahead.now.spot ahead.now.parent) }
-{
-    let path = path_of(
-        alloc,
-        &task.records(),
-        new.paths.as_slice(),
-        ahead.statement(),
-        ahead.turns(),
-        ahead.parent(),
-    )?;
-    Ok(path)
-}
-
-/// Keeps the next record of the old run as the next one of the new run, which has this path.
+/// Keeps the next record of the old run as the next one of the new run.
 fn keep(
     alloc: Global,
     graph: &Graph,
     task: &mut Task,
     old: &mut OldRun,
     new: &mut NewRun,
-    path: Path,
 ) -> Result<(), NoMemory>
     requires sound { IsSound graph.now }
     requires running { IsRunning graph.now task.old }
@@ -69,23 +49,22 @@ fn keep(
     requires there { old.old.at < length task.old.log.past }
     requires rises { task.old.log.kept ≤ old.old.at }
     ensures call { IsSameCall graph.now task.old task.new }
-    ensures kept { OnOk result (HasKept graph.now task.old old.old new.old path task.new old.new new.new) }
+    ensures kept { OnOk result (HasKept graph.now task.old old.old new.old task.new old.new new.new) }
     ensures err { OnErr result (IsUnchanged task.old task.new) }
 {
     let number = narrow(old.at)?;
-    new.add(path, Some(number))?;
+    new.add(Some(number))?;
     adopt(alloc, graph, task, number)?;
     old.at += 1;
     Ok(())
 }
 
-/// Executes the next record of the new run, which has this path.
+/// Executes the next record of the new run.
 fn renew<V: View>(
     alloc: Global,
     graph: &Graph,
     task: &mut Task,
     new: &mut NewRun,
-    path: Path,
     view: &mut V,
 ) -> Result<(), Refused>
     requires sound { IsSound graph.now }
@@ -95,7 +74,7 @@ fn renew<V: View>(
     ensures call { IsSameCall graph.now task.old task.new }
     ensures goes_on { IsSameCallOn graph.now (V.sight view.old).database task.old task.new }
     ensures ran { OnOk result (HasRun task.old task.new (V.sight view.old) (V.sight view.new)) }
-    ensures new { OnOk result (new.new ≡ renewed path (length task.old.log.records) (any_write (writes_of (slice_get task.new.log.records (length task.old.log.records)))) new.old) }
+    ensures new { OnOk result (new.new ≡ renewed (length task.old.log.records) (any_write (writes_of (slice_get task.new.log.records (length task.old.log.records)))) new.old) }
     ensures past { task.new.log.past ≡ task.old.log.past }
     ensures kept { task.new.log.kept ≡ task.old.log.kept }
     ensures err { OnErr result (IsUnchanged task.old task.new) }
@@ -103,13 +82,13 @@ fn renew<V: View>(
     ensures bounded { AskedAtMost 1 (different (writes_in task.old.log.records)) (V.sight view.old) (V.sight view.new) }
 {
     let number = task.records().len();
-    new.add_executed(path, number)?;
+    new.add_executed(number)?;
     next(alloc, graph, task, view)?;
     new.settle(has_writes(&task.records(), number));
     Ok(())
 }
 
-/// Adds the next record of the new run: the old one with its path if that stays, or else one that is executed.
+/// Adds the next record of the new run: the old one in its place if that stays, or else one that is executed.
 fn step<V: View>(
     alloc: Global,
     graph: &Graph,
@@ -130,15 +109,15 @@ fn step<V: View>(
     let Some(ahead) = peek(alloc, graph, task)? else {
         unreachable!();
     };
-    let path = path_ahead(alloc, task, new, &ahead)?;
-    old.pass(alloc, &task.past(), path.as_slice())?;
+    let is_there = old.pass(alloc, task, &ahead)?;
     new.catch_up(alloc, &task.records())?;
-    let keeps = stays(alloc, task, old, new, &ahead, path.as_slice())?;
+    let keeps = stays(alloc, task, old, new, &ahead, is_there)?;
     if keeps {
-        keep(alloc, graph, task, old, new, path)?;
+        keep(alloc, graph, task, old, new)?;
         return Ok(());
     }
-    renew(alloc, graph, task, new, path, view)
+    old.leave(&task.past(), is_there)?;
+    renew(alloc, graph, task, new, view)
 }
 
 /// Repairs a call that has ended: runs it again on the view's database, to which the changes of the commits lead. The
@@ -154,9 +133,10 @@ fn step<V: View>(
 /// No item of a kept record is moved, and only its own writes and the variables that it sets are copied. The records of
 /// the run before the repair stay in the log. `past` lends them until the call begins again.
 ///
-/// Each record costs a comparison of paths, and one of its definers. A record with a predicate also costs what `validate`
-/// does for the commits. If few earlier records with writes don't stay, it costs a trial of the predicate on each of
-/// their writes. Else it costs a search for their keys, and the trials only if the predicate admits one of the keys.
+/// Each record costs a comparison of places, and one of its definers. Where the runs diverge it costs the paths of some
+/// records, a step for each statement around them. A record with a predicate also costs what `validate` does for the
+/// commits. If few earlier records with writes don't stay, it costs a trial of the predicate on each of their writes.
+/// Else it costs a search for their keys, and the trials only if the predicate admits one of the keys.
 pub fn repair<V: View>(
     alloc: Global,
     graph: &Graph,
@@ -177,10 +157,8 @@ pub fn repair<V: View>(
     ensures view { OnlyAsks (V.sight view.old) (V.sight view.new) result }
 {
     let hits = hits_of(alloc, &task.records(), task.undo(), since)?;
-    let paths = paths_of(alloc, &task.records())?;
     task.begin_repair();
     let mut old = OldRun {
-        paths,
         hits,
         at: 0,
         others: List::new(alloc),
@@ -188,7 +166,6 @@ pub fn repair<V: View>(
         known: 0,
     };
     let mut new = NewRun {
-        paths: List::new(alloc),
         kept: List::new(alloc),
         others: List::new(alloc),
         keys: Keys::new(alloc),

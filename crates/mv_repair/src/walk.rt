@@ -1,11 +1,11 @@
 //! The walk of a repair: the new run record by record, with the old run beside it.
 
-ghost use Rattle.std.specs.Prelude.{◌≡◌, ◌<◌, ◌≤◌, ◌&&◌, ◌||◌, not, ◌+◌, ℕ, List as Seq, None, Some, true, false, length, slice_get, IfOk, OnOk};
-ghost use Rattle.std.specs.Option.{option_copied};
-ghost use Rattle.mv_repair.specs.Walking.{noted, is_before, is_there, is_kept_by, kept_as, next_stays, reads_by, same_definer, stays_at, is_touched, noted_next, added, renewed, AreKnownIfMany, HasCaughtUp, HasPassed};
+ghost use Rattle.std.specs.Prelude.{◌≡◌, ◌<◌, ◌≤◌, ◌&&◌, ◌||◌, not, ℕ, List as Seq, Some, true, false, length, slice_get, IfOk, OnOk};
+ghost use Rattle.mv_record.specs.Paths.{paths};
+ghost use Rattle.mv_repair.specs.Walking.{noted, path_behind, is_before, is_in_place, is_kept_by, kept_as, next_stays, reads_by, same_definer, stays_at, is_touched, noted_next, next_passed, left_behind, added, renewed, AreKnownIfMany, HasCaughtUp, HasPassed, IsComeTo};
 
 use crate::keys::Keys;
-use crate::paths::{Path, is_earlier, is_path, item};
+use crate::paths::{Path, is_earlier, is_path, item, path_at, path_of};
 use crate::touch::{has_writes, is_touched, learn, record_at};
 use mv_exec::ahead::Ahead;
 use mv_exec::task::Task;
@@ -19,7 +19,6 @@ use std::alloc::Global;
 /// The old run of a call. Its records are the task's past.
 #[derive(Drop)]
 pub(crate) struct OldRun {
-    pub(crate) paths: List<Path>,
     /// Whether a change hits the record.
     pub(crate) hits: List<bool>,
     /// The number of its next record. Those before it were kept or passed.
@@ -35,7 +34,6 @@ pub(crate) struct OldRun {
 /// The new run of a call.
 #[derive(Drop)]
 pub(crate) struct NewRun {
-    pub(crate) paths: List<Path>,
     /// For each record the number of the old record that it keeps.
     pub(crate) kept: List<Option<u32>>,
     /// The numbers of the executed records that made writes.
@@ -46,39 +44,50 @@ pub(crate) struct NewRun {
     pub(crate) known: usize,
 }
 
-/// Whether there is a path and it is before the other one.
-fn is_before(next: Option<&Path>, path: &[u32]) -> bool
-    ensures { result ≡ is_before (option_copied next.entry) path.now }
+/// Whether a record is in the place ahead.
+fn is_in_place(record: &RecordRef<'_>, ahead: &Ahead) -> bool
+    ensures { result ≡ is_in_place (Some record.now) ahead.now.spot }
 {
-    match next {
-        Some(next) => is_earlier(next.as_slice(), path),
-        None => false,
-    }
+    record.statement() == ahead.statement() && is_path(ahead.turns(), record.turns())
 }
 
-/// Whether there is a path and it is the other one.
-fn is_there(next: Option<&Path>, path: &[u32]) -> bool
-    ensures { result ≡ is_there (option_copied next.entry) path.now }
+/// Returns the path of the record that is ahead of the new run.
+fn path_ahead(alloc: Global, task: &Task, ahead: &Ahead) -> Result<Path, NoMemory>
+    ensures { IfOk result (λ p. p ≡ path_behind task.now.log.records ahead.now.spot ahead.now.parent) }
 {
-    match next {
-        Some(next) => is_path(next.as_slice(), path),
-        None => false,
-    }
+    let records = task.records();
+    let path = path_of(
+        alloc,
+        &records,
+        records.len(),
+        ahead.statement(),
+        ahead.turns(),
+        ahead.parent(),
+    )?;
+    Ok(path)
 }
 
 impl OldRun {
-    /// Whether the next record has a path before this one.
-    fn is_before(&self, path: &[u32]) -> bool
-        ensures { result ≡ is_before (slice_get self.now.paths self.now.at) path.now }
+    /// Whether the next record is in the place ahead. `past` has the records of the old run.
+    fn is_at(&self, past: &Records<'_>, ahead: &Ahead) -> bool
+        ensures { result ≡ is_in_place (slice_get past.now self.now.at) ahead.now.spot }
     {
-        is_before(item(self.paths.as_slice(), self.at), path)
+        match record_at(past, self.at) {
+            Some(record) => is_in_place(&record, ahead),
+            None => false,
+        }
     }
 
-    /// Whether the next record has this path.
-    fn is_at(&self, path: &[u32]) -> bool
-        ensures { result ≡ is_there (slice_get self.now.paths self.now.at) path.now }
+    /// Whether there is a next record and its path is before this one. `past` has the records of the old run.
+    fn is_before(&self, alloc: Global, past: &Records<'_>, path: &[u32]) -> Result<bool, NoMemory>
+        ensures is { IfOk result (λ it. it ≡ is_before (slice_get (paths past.now) self.now.at) path.now) }
+        ensures there { IfOk result (λ it. it ≡ true → self.now.at < length past.now) }
     {
-        is_there(item(self.paths.as_slice(), self.at), path)
+        if self.at >= past.len() {
+            return Ok(false);
+        }
+        let own = path_at(alloc, past, self.at)?;
+        Ok(is_earlier(own.as_slice(), path))
     }
 
     /// Notes the next record among the others, if it made writes. `past` has the records of the old run.
@@ -91,25 +100,22 @@ impl OldRun {
         Ok(())
     }
 
-    /// Passes the records with paths before this one. The new run doesn't keep them. `past` has the records of the old
-    /// run.
-    fn pass_before(&mut self, past: &Records<'_>, path: &[u32]) -> Result<(), NoMemory>
-        requires { self.old.known ≤ length self.old.others }
-        ensures passed { OnOk result (HasPassed past.now self.old path.now self.new) }
-        ensures stops { OnOk result (is_before (slice_get self.new.paths self.new.at) path.now ≡ false) }
-        ensures on { OnOk result (self.old.at ≤ self.new.at) }
-        ensures within { OnOk result (self.new.known ≤ length self.new.others) }
+    /// Passes the next record. The new run doesn't keep it. `past` has the records of the old run.
+    fn pass_next(&mut self, past: &Records<'_>) -> Result<(), NoMemory>
+        requires { self.old.at < length past.now }
+        ensures { OnOk result (self.new ≡ next_passed past.now self.old) }
     {
-        while self.at < self.paths.len() && self.is_before(path) {
-            self.note(past)?;
-            self.at += 1;
+        if self.at >= past.len() {
+            unreachable!();
         }
+        self.note(past)?;
+        self.at += 1;
         Ok(())
     }
 
-    /// Passes the records with paths before this one. The new run doesn't keep them. Then the keys of all others are
-    /// known, if they are many. `past` has the records of the old run.
-    pub(crate) fn pass(
+    /// Passes the records with paths before this one. The new run doesn't keep them. `past` has the records of the old
+    /// run.
+    fn pass_before(
         &mut self,
         alloc: Global,
         past: &Records<'_>,
@@ -117,31 +123,82 @@ impl OldRun {
     ) -> Result<(), NoMemory>
         requires { self.old.known ≤ length self.old.others }
         ensures passed { OnOk result (HasPassed past.now self.old path.now self.new) }
-        ensures stops { OnOk result (is_before (slice_get self.new.paths self.new.at) path.now ≡ false) }
+        ensures stops { OnOk result (is_before (slice_get (paths past.now) self.new.at) path.now ≡ false) }
+        ensures on { OnOk result (self.old.at ≤ self.new.at) }
+        ensures within { OnOk result (self.new.known ≤ length self.new.others) }
+    {
+        while self.is_before(alloc, past, path)? {
+            self.pass_next(past)?;
+        }
+        Ok(())
+    }
+
+    /// Passes the records with paths before that of the record ahead. The new run doesn't keep them. Works paths out only
+    /// if the next record isn't in the place ahead. Returns whether the next record is there then.
+    fn come_to(&mut self, alloc: Global, task: &Task, ahead: &Ahead) -> Result<bool, NoMemory>
+        requires { self.old.known ≤ length self.old.others }
+        ensures passed { OnOk result (HasPassed task.now.log.past self.old (path_behind task.now.log.records ahead.now.spot ahead.now.parent) self.new) }
+        ensures stops { OnOk result (IsComeTo task.now.log.past self.new.at ahead.now.spot (path_behind task.now.log.records ahead.now.spot ahead.now.parent)) }
+        ensures at { IfOk result (λ it. it ≡ is_in_place (slice_get task.now.log.past self.new.at) ahead.now.spot) }
+        ensures on { OnOk result (self.old.at ≤ self.new.at) }
+        ensures within { OnOk result (self.new.known ≤ length self.new.others) }
+    {
+        let past = task.past();
+        if self.is_at(&past, ahead) {
+            return Ok(true);
+        }
+        let path = path_ahead(alloc, task, ahead)?;
+        self.pass_before(alloc, &past, path.as_slice())?;
+        Ok(self.is_at(&past, ahead))
+    }
+
+    /// Passes the records with paths before that of the record ahead. The new run doesn't keep them. Then the keys of all
+    /// others are known, if they are many. Returns whether the next record is in the place ahead.
+    pub(crate) fn pass(
+        &mut self,
+        alloc: Global,
+        task: &Task,
+        ahead: &Ahead,
+    ) -> Result<bool, NoMemory>
+        requires { self.old.known ≤ length self.old.others }
+        ensures passed { OnOk result (HasPassed task.now.log.past self.old (path_behind task.now.log.records ahead.now.spot ahead.now.parent) self.new) }
+        ensures stops { OnOk result (IsComeTo task.now.log.past self.new.at ahead.now.spot (path_behind task.now.log.records ahead.now.spot ahead.now.parent)) }
+        ensures at { IfOk result (λ it. it ≡ is_in_place (slice_get task.now.log.past self.new.at) ahead.now.spot) }
         ensures on { OnOk result (self.old.at ≤ self.new.at) }
         ensures all { OnOk result (16 < length self.new.others → self.new.known ≡ length self.new.others) }
     {
-        self.pass_before(past, path)?;
+        let is_there = self.come_to(alloc, task, ahead)?;
         let others = self.others.as_slice();
-        self.known = learn(alloc, &mut self.keys, self.known, past, others)?;
+        self.known = learn(alloc, &mut self.keys, self.known, &task.past(), others)?;
+        Ok(is_there)
+    }
+
+    /// Passes the next record too, if it is in the place of one that will be executed. `past` has the records of the old
+    /// run.
+    pub(crate) fn leave(&mut self, past: &Records<'_>, is_there: bool) -> Result<(), NoMemory>
+        requires { is_there ≡ true → self.old.at < length past.now }
+        ensures { OnOk result (self.new ≡ left_behind is_there past.now self.old) }
+    {
+        if is_there {
+            self.pass_next(past)?;
+        }
         Ok(())
     }
 }
 
 impl NewRun {
-    /// Adds a record with this path. It keeps the old record with this number, if any.
-    pub(crate) fn add(&mut self, path: Path, old: Option<u32>) -> Result<(), NoMemory>
-        ensures { OnOk result (self.new ≡ added path old self.old) }
+    /// Adds a record. It keeps the old record with this number, if any.
+    pub(crate) fn add(&mut self, old: Option<u32>) -> Result<(), NoMemory>
+        ensures { OnOk result (self.new ≡ added old self.old) }
     {
-        self.paths.push(path)?;
         self.kept.push(old)
     }
 
-    /// Adds a record with this path and number, which will be executed and may make writes.
-    pub(crate) fn add_executed(&mut self, path: Path, number: usize) -> Result<(), NoMemory>
-        ensures { OnOk result (self.new ≡ renewed path number true self.old) }
+    /// Adds a record with this number, which will be executed and may make writes.
+    pub(crate) fn add_executed(&mut self, number: usize) -> Result<(), NoMemory>
+        ensures { OnOk result (self.new ≡ renewed number true self.old) }
     {
-        self.add(path, None)?;
+        self.add(None)?;
         self.others.push(number)
     }
 
@@ -271,20 +328,22 @@ fn next_stays(
     Ok(!is_touched_by_others(alloc, &record, task, old, new)?)
 }
 
-/// Whether the next record of the old run stays as the record that is ahead of the new run, which has this path.
+/// Whether the next record of the old run stays as the record that is ahead of the new run. `is_there` tells whether they
+/// have the same place.
 pub(crate) fn stays(
     alloc: Global,
     task: &Task,
     old: &OldRun,
     new: &NewRun,
     ahead: &Ahead,
-    path: &[u32],
+    is_there: bool,
 ) -> Result<bool, NoMemory>
     requires old { AreKnownIfMany old.now.keys task.now.log.past old.now.others }
     requires new { AreKnownIfMany new.now.keys task.now.log.records new.now.others }
-    ensures { IfOk result (λ stays. stays ≡ stays_at task.now.log.past old.now new.now task.now.log.records ahead.now path.now) }
+    requires there { is_there ≡ is_in_place (slice_get task.now.log.past old.now.at) ahead.now.spot }
+    ensures { IfOk result (λ stays. stays ≡ stays_at task.now.log.past old.now new.now task.now.log.records ahead.now) }
 {
-    if !old.is_at(path) {
+    if !is_there {
         return Ok(false);
     }
     next_stays(alloc, task, old, new, ahead)

@@ -1,7 +1,6 @@
 use Rattle.std.proofs.Common.{◌≡◌, true, [], List, refl, sym, ap, rules, subst, ◌∙◌}
 use Rattle.mv_values.specs.Tables.{Tables}
 use Rattle.mv_record.specs.declared.record.Record.{Record}
-use Rattle.mv_record.specs.Paths.{paths}
 use Rattle.mv_undo.specs.declared.owned.Owned.{Owned}
 use Rattle.mv_undo.specs.Owning.{HasWritesOf}
 use Rattle.mv_exec.specs.Running.{refusals}
@@ -20,11 +19,11 @@ hits_of-requires g c =
 pub loop-alloc-init : goal.loop-alloc-init
 loop-alloc-init g c = record {
   underway =
-      begun c.args.graph.now (changes_since c.args.since.now) (g.V.View.sight c.args.view.now).database c.args.task.now c.begin_repair.new.self c.in_ok-paths.paths c.in_ok-hits.hits c.new.result c.new-2.result c.new-3.result c.new-4.result
-      c.new-5.result c.new-6.result
+      begun c.args.graph.now (changes_since c.args.since.now) (g.V.View.sight c.args.view.now).database c.args.task.now c.begin_repair.new.self c.in_ok-hits.hits c.new.result c.new-2.result c.new-3.result c.new-4.result
+      c.new-5.result
       c.requires.leads (λ call is. c.begin_repair.ensures.call c.args.graph.now call is) c.begin_repair.ensures.records c.begin_repair.ensures.executed c.begin_repair.ensures.past c.begin_repair.ensures.kept
-      (c.in_ok-paths.ensures ∙ ap paths c.records-2.ensures) (c.in_ok-hits.ensures ∙ ap (λ (rs : List Record). hits_in (changes_since c.args.since.now) [] rs) c.records.ensures) c.new.ensures c.new-2.ensures c.new-3.ensures c.new-4.ensures
-      c.new-5.ensures c.new-6.ensures;
+      (c.in_ok-hits.ensures ∙ ap (λ (rs : List Record). hits_in (changes_since c.args.since.now) [] rs) c.records.ensures) c.new.ensures c.new-2.ensures c.new-3.ensures c.new-4.ensures
+      c.new-5.ensures;
   call = λ call is. c.begin_repair.ensures.call c.args.graph.now call is;
   queried = none_queried c.args.task.now.log.records c.begin_repair.new.self.log.records (changes_since c.args.since.now) 0 (g.V.View.sight c.args.view.now);
   same = record { database = refl; start = refl; may_be_stale = refl };

@@ -1,0 +1,4 @@
+use Rattle.mv_repair.proofs.paths.+push_around.Given as goal
+
+abbrev pub decreases-push_around : goal.decreases-push_around
+decreases-push_around l = l.before
