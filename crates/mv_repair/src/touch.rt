@@ -159,9 +159,6 @@ pub(crate) fn is_touched(
     ensures { IfOk result (λ touched. touched ≡ is_touched record.now records.now numbers.now) }
 {
     let preds = record.preds();
-    if preds.len() == 0 {
-        return Ok(false);
-    }
     if numbers.len() > FEW && !admits_some(alloc, &preds, keys)? {
         return Ok(false);
     }

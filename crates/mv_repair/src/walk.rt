@@ -275,7 +275,7 @@ fn reads_stay(kept: &[Option<u32>], olds: &[VarRead], news: &[VarRead]) -> bool
     true
 }
 
-/// Whether a write of the others of either run touches the record.
+/// Whether a write of the others of either run touches the record. None touches one without predicates.
 fn is_touched_by_others(
     alloc: Global,
     record: &RecordRef<'_>,
@@ -287,6 +287,9 @@ fn is_touched_by_others(
     requires new { AreKnownIfMany new.now.keys task.now.log.records new.now.others }
     ensures { IfOk result (λ touched. touched ≡ (is_touched record.now task.now.log.past old.now.others || is_touched record.now task.now.log.records new.now.others)) }
 {
+    if record.preds().len() == 0 {
+        return Ok(false);
+    }
     let past = task.past();
     if is_touched(alloc, record, &past, old.others.as_slice(), &old.keys)? {
         return Ok(true);

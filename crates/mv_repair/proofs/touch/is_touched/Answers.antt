@@ -1,14 +1,11 @@
-use Rattle.std.proofs.Common.{◌≡◌, ◌∙◌, false, List, length, ap, rules, sym, subst}
+use Rattle.std.proofs.Common.{◌≡◌, ◌∙◌, false, List, ap, rules, sym, subst}
 use Rattle.std.specs.Prelude.{slice_get}
 use Rattle.std.specs.List.{list_any}
 use Rattle.mv_values.specs.declared.pred.Pred.{Pred}
 use Rattle.mv_history.specs.Hits.{touches}
 use Rattle.mv_repair.specs.Walking.{any_touch, writes_at, writes_of}
-use Rattle.mv_repair.proofs.Lists.{any_of_all, untouched}
+use Rattle.mv_repair.proofs.Lists.{any_of_all}
 use Rattle.mv_repair.proofs.touch.is_touched.Goals as goal
-
-pub returns-then-len-eq0 : goal.returns-then-len-eq0
-returns-then-len-eq0 c = sym (untouched c.args.record.now c.args.records.now c.args.numbers.now (ap length (sym c.preds-preds.ensures) ∙ (sym c.len.ensures ∙ c.if-len-eq0.true)))
 
 pub returns-then-not-branch : goal.returns-then-not-branch
 returns-then-not-branch c =
