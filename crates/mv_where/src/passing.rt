@@ -1,12 +1,12 @@
 //! Passes a text through.
 
-ghost use Rattle.std.specs.Prelude.{◌++◌, IfOk, OnOk};
+ghost use Rattle.std.specs.Prelude.{◌≡◌, ◌++◌, Some, take, drop, IfOk, OnOk};
 ghost use Rattle.std.specs.Option.{ForSome};
 ghost use Rattle.mv_edge.specs.Edge.{Reads, Writes};
 
 use crate::fault::Fault;
 use mv_edge::edge::{Sink, Source};
-use mv_edge::reading::{ReadFault, read_all};
+use mv_edge::reading::{MOST, ReadFault, read_all};
 use mv_edge::writing::write_all;
 use mv_values::list::List;
 use mv_values::memory::NoMemory;
@@ -33,12 +33,16 @@ pub fn front_of<S: Source>(alloc: Global, source: &mut S) -> Result<List<u8>, Fa
     Ok(front)
 }
 
-/// Returns the front of a text and what is left in its source, up to 16,777,217 bytes more.
+/// Returns the front of a text and the bytes that are left in its source, at most `MOST`. The bytes after these stay in the
+/// source.
 pub fn with_rest<S: Source>(
     alloc: Global,
     front: List<u8>,
     source: &mut S,
-) -> Result<List<u8>, Fault> {
+) -> Result<List<u8>, Fault>
+    ensures text { IfOk result (λ text. ForSome (S.left source.old) (λ rest. text ≡ front ++ take MOST rest)) }
+    ensures rest { OnOk result (ForSome (S.left source.old) (λ rest. S.left source.new ≡ Some (drop MOST rest))) }
+{
     let mut text = front;
     match read_all(alloc, source) {
         Ok(rest) => text.append(rest.as_slice())?,
