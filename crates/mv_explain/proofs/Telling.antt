@@ -10,7 +10,7 @@ use Rattle.mv_journal.specs.declared.event.Event.{Event}
 use Rattle.mv_journal.specs.declared.event.Event.TheVariants.{B, S, A, M, C, X, G}
 use Rattle.mv_lawful.specs.declared.fault.Wrong.TheVariants as wrong
 use Rattle.mv_lawful.specs.Work.{Work}
-use Rattle.mv_lawful.specs.Lawful.{Course, beginning, after, refusal, is_stale, open_call, wrong_from, wrong_with}
+use Rattle.mv_lawful.specs.Lawful.{Course, beginning, after, is_stale, open_call, wrong_from, wrong_with}
 use Rattle.mv_script.specs.declared.script.Script.{Script}
 use Rattle.mv_script.specs.Scripts.{work_of}
 use Rattle.mv_core.specs.declared.drive.DriveFault.{DriveFault}
