@@ -1,68 +1,54 @@
 //! Calls that run alone, one after another, and the full runs of all calls between them.
 
-ghost use Rattle.std.specs.Prelude.{All};
-ghost use Rattle.mv_graph.specs.Nodes.{IsSound};
-ghost use Rattle.mv_record.specs.Databases.{IsDatabaseOf, IsProgram};
+ghost use Rattle.std.specs.Prelude.{◌≡◌, IfOk};
+ghost use Rattle.mv_record.specs.Databases.{IsProgram};
 
-use crate::kept::Point;
+use crate::hits::Point;
 use mv_catalog::resolved::Program;
-use mv_compile::compile::compile;
-use mv_exec::running::finish;
-use mv_exec::task::Task;
-use mv_graph::graph::Graph;
 use mv_journal::event::Event;
-use mv_log::log::Log;
+use mv_record::record::Record;
 use mv_recorded::laws::databases_are_kept;
+use mv_recorder::calls::run_call;
 use mv_serial::calls::{Serial, run_alone};
-use mv_values::calls::{Call, Reply};
+use mv_table::table::{Table, Tables};
+use mv_values::calls::Reply;
 use mv_values::copied::Copied;
 use mv_values::list::List;
+use mv_values::memory::NoMemory;
 use mv_values::rows::Database;
-use mv_view::plain::Plain;
 use std::alloc::Global;
-use std::mem;
 use std::test::Fail;
 
-/// Returns a call that has run alone on a database.
-fn full_run(alloc: Global, graphs: &[Graph], call: &Call, tables: &Database) -> Result<Task, Fail>
-    requires sound { All IsSound graphs.now }
-    requires databases { All (λ graph. IsDatabaseOf graph.tables tables.now) graphs.now }
+/// Returns the tables of a database.
+fn tables_of(alloc: Global, database: &Database) -> Result<Tables, NoMemory>
+    ensures { IfOk result (λ tables. tables ≡ database.now) }
 {
-    let Some(graph) = graphs.get(call.procedure as usize) else {
-        return Err("no graph".into());
-    };
-    if call.arguments.len() != graph.procedure.params.len() {
-        return Err("another number of arguments".into());
+    let mut tables = List::new(alloc);
+    for rows in database.as_slice() {
+        tables.push(Table::of(alloc, rows)?)?;
     }
-    let mut task = Task::new(alloc, graph, call, Log::new(alloc))?;
-    finish(alloc, graph, &mut task, &mut Plain::new(tables)).or(Err("no end"))?;
-    Ok(task)
+    Ok(tables)
 }
 
-/// Returns each of these calls after it has run alone on a database.
-fn full_runs(
-    alloc: Global,
-    graphs: &[Graph],
-    calls: &[Call],
-    tables: &Database,
-) -> Result<List<Task>, Fail>
-    requires sound { All IsSound graphs.now }
-    requires databases { All (λ graph. IsDatabaseOf graph.tables tables.now) graphs.now }
+/// Returns the records of a call that runs alone on the opening tables of its program.
+fn full_run(alloc: Global, program: &Program, call: u32) -> Result<List<Record>, NoMemory>
+    requires { IsProgram program.now }
 {
-    let mut runs = List::new(alloc);
-    for call in calls {
-        runs.push(full_run(alloc, graphs, call, tables)?)?;
-    }
-    Ok(runs)
+    let tables = tables_of(alloc, &program.opening)?;
+    let recording = run_call(alloc, program, call, tables)?;
+    Ok(recording.records)
 }
 
 /// Returns the opening tables of a program, and the records of each call on them.
-fn point_of(alloc: Global, program: &Program) -> Result<Point, Fail>
+fn point_of(alloc: Global, program: &Program) -> Result<Point, NoMemory>
     requires { IsProgram program.now }
 {
-    let graphs = compile(alloc, &program.resolved)?;
-    let calls = program.resolved.calls.as_slice();
-    let runs = full_runs(alloc, graphs.as_slice(), calls, &program.opening)?;
+    let mut runs = List::new(alloc);
+    let mut call: u32 = 0;
+    for _ in program.resolved.calls.as_slice() {
+        runs.push(full_run(alloc, program, call)?)?;
+        call = call.saturating_add(1);
+    }
     let tables = program.opening.copy(alloc)?;
     Ok(Point { tables, runs })
 }

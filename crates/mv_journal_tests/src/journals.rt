@@ -1,6 +1,6 @@
 //! Random journals that are lawful.
 
-use crate::scripts::byte;
+use crate::scripts::{any_script, byte};
 use mv_accept::accept::accept;
 use mv_core::drive::DriveFault;
 use mv_core::engine::Core;
@@ -9,6 +9,7 @@ use mv_top::script::prepare;
 use mv_values::calls::Options;
 use mv_values::list::List;
 use mv_values::memory::NoMemory;
+use rand_core::SeedableRng;
 use rand_xoshiro::SplitMix64;
 use std::alloc::Global;
 use std::test::Fail;
@@ -48,7 +49,7 @@ fn make_events(alloc: Global, random: &mut SplitMix64, core: &mut Core) -> Resul
 }
 
 /// Returns random options: no more than three rounds, and in half of all cases a horizon of no more than five commits.
-pub(crate) fn any_options(random: &mut SplitMix64) -> Options {
+fn any_options(random: &mut SplitMix64) -> Options {
     let rounds = byte(random) as u32 % 4;
     let horizon = match byte(random) % 12 {
         commits @ 0..=5 => Some(commits as u32),
@@ -58,7 +59,7 @@ pub(crate) fn any_options(random: &mut SplitMix64) -> Options {
 }
 
 /// Returns a lawful journal of a script.
-pub(crate) fn any_journal(
+fn any_journal(
     alloc: Global,
     random: &mut SplitMix64,
     script: &[u8],
@@ -71,4 +72,25 @@ pub(crate) fn any_journal(
     let mut events = List::new(alloc);
     events.append(core.journal())?;
     Ok(events)
+}
+
+/// A random script, options, and a lawful journal of it.
+#[derive(Drop)]
+pub(crate) struct Case {
+    pub(crate) script: List<u8>,
+    pub(crate) options: Options,
+    pub(crate) events: List<Event>,
+}
+
+/// Returns the case of a seed.
+pub(crate) fn any_case(alloc: Global, seed: u64) -> Result<Case, Fail> {
+    let mut random = SplitMix64::seed_from_u64(seed);
+    let options = any_options(&mut random);
+    let script = any_script(alloc, &mut random)?;
+    let events = any_journal(alloc, &mut random, script.as_slice(), options)?;
+    Ok(Case {
+        script,
+        options,
+        events,
+    })
 }

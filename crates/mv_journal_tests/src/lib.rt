@@ -1,9 +1,12 @@
 //! Random journals of random scripts. The text that `replay` makes of each is compared with what calls that run alone, in
-//! the order of the commits, and comparisons of their full runs give. The crate has nothing else.
+//! the order of the commits, and comparisons of their full runs give. So are the causes of the repairs. The crate has nothing
+//! else.
 #![tactic(auto)]
 
 #[cfg(test)]
 mod alone;
+#[cfg(test)]
+mod hits;
 #[cfg(test)]
 mod journals;
 #[cfg(test)]
@@ -11,8 +14,14 @@ mod kept;
 #[cfg(test)]
 mod live;
 #[cfg(test)]
+mod reasons;
+#[cfg(test)]
+mod repairs;
+#[cfg(test)]
 mod replays;
 #[cfg(test)]
 mod rounds;
 #[cfg(test)]
 mod scripts;
+#[cfg(test)]
+mod whys;

@@ -1,9 +1,8 @@
 //! The texts of random journals.
 
 use crate::alone::run_commits;
-use crate::journals::{any_journal, any_options};
+use crate::journals::{Case, any_case};
 use crate::rounds::history_of;
-use crate::scripts::any_script;
 use mv_accept::accept::accept;
 use mv_journal::event::{Event, write_event};
 use mv_journal::outcome::Outcome;
@@ -12,8 +11,6 @@ use mv_top::answer::replay;
 use mv_values::calls::Options;
 use mv_values::list::List;
 use mv_values::memory::NoMemory;
-use rand_core::SeedableRng;
-use rand_xoshiro::SplitMix64;
 use std::alloc::Global;
 use std::str;
 use std::test::Fail;
@@ -64,11 +61,12 @@ fn replays(alloc: Global, options: Options, input: &[u8], want: &[u8]) -> Result
 
 /// Checks a random journal of a random script, and returns its lines.
 fn goes_right(alloc: Global, seed: u64) -> Result<List<u8>, Fail> {
-    let mut random = SplitMix64::seed_from_u64(seed);
-    let options = any_options(&mut random);
-    let script = any_script(alloc, &mut random)?;
+    let Case {
+        script,
+        options,
+        events,
+    } = any_case(alloc, seed)?;
     let script = script.as_slice();
-    let events = any_journal(alloc, &mut random, script, options)?;
     let lines = lines_of(alloc, events.as_slice())?;
     let want = plain_text(alloc, script, events)?;
     let input = joined(alloc, &[script, b"JOURNAL <<\n", lines.as_slice(), b">>\n"])?;

@@ -1,6 +1,7 @@
 //! The rounds of calls, with the numbers of records that full runs give them.
 
-use crate::kept::{Point, TwoRuns, executed, records_at};
+use crate::hits::{Point, records_at};
+use crate::kept::{TwoRuns, executed, twins_of};
 use mv_journal::event::Event;
 use mv_journal::outcome::{HistoryLine, Mark, Round};
 use mv_values::list::List;
@@ -38,7 +39,8 @@ fn add_round(
         from: from.unwrap_or(start),
         to: start,
     };
-    let count = Some(executed(alloc, &runs)?);
+    let twins = twins_of(alloc, &runs)?;
+    let count = Some(executed(alloc, twins.as_slice())?.len());
     story.rounds.push(Round { start, count, mark })
 }
 
