@@ -1,15 +1,18 @@
 -- What bytes stand for fits together with them.
-use Rattle.std.proofs.Common.{◌≡◌, ◌≤◌, ℕ, List, [], length, sym, subst}
+use Rattle.std.proofs.Common.{◌≡◌, ◌≤◌, ℕ, List, [], length, sym, subst, ◌∙◌}
 use Rattle.mv_ast.specs.declared.tree.Script.{Script}
 use Rattle.mv_ast.specs.Keys.{HasKeys}
 use Rattle.mv_ast.specs.Lexemes.{lexemes}
 use Rattle.mv_ast.specs.Limits.{script_passes}
 use Rattle.mv_ast.proofs.Keyed.{keyed}
 use Rattle.mv_ast.proofs.Limited.{kept}
+use Rattle.mv_catalog.specs.declared.resolved.Program.{Program}
 use Rattle.mv_catalog.specs.declared.resolved.Resolved.{Resolved}
+use Rattle.mv_catalog.specs.Text.{FitsText}
+use Rattle.mv_resolve.proofs.Whole.{fits_text}
 use Rattle.mv_opening.specs.Opening.{FitTogether}
 use Rattle.mv_opening.proofs.Together.{fits_together, few_calls}
-use Rattle.mv_accept.specs.Accepting.{Spells, StandsFor, most_calls}
+use Rattle.mv_accept.specs.Accepting.{Spells, StandsFor, Accepts, most_calls}
 
 pub fitting : (bytes : List ℕ) (resolved : Resolved) → StandsFor bytes resolved → FitTogether resolved bytes
 fitting bytes resolved s =
@@ -27,3 +30,9 @@ kept_limits bytes script s = kept bytes (lexemes bytes s.0) script s.2.late
 
 pub has_keys : (bytes : List ℕ) (script : Script) → Spells bytes script → HasKeys script
 has_keys bytes script s = keyed bytes s.0 script s.2.grammar
+
+-- so the program of accepted bytes is consistent
+pub accepted_fits : (bytes : List ℕ) (program : Program) → Accepts bytes program → FitsText program.resolved
+accepted_fits bytes program a =
+    let script : Script = a.1.0 in
+    subst FitsText (sym (a.2.0 ∙ a.1.2.1)) (fits_text script a.1.2.0 (kept_limits bytes script a.1.1) (has_keys bytes script a.1.1))

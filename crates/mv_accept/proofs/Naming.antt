@@ -33,26 +33,37 @@ same_kind kind.DoubleName kind.DoubleName e = refl
 same_kind kind.WrongType kind.WrongType e = refl
 same_kind kind.KeyAssigned kind.KeyAssigned e = refl
 same_kind kind.Late kind.Late e = refl
+same_kind kind.Writes kind.Writes e = refl
 same_kind kind.UnknownName kind.DoubleName e = absurd (omega (arith, e))
 same_kind kind.UnknownName kind.WrongType e = absurd (omega (arith, e))
 same_kind kind.UnknownName kind.KeyAssigned e = absurd (omega (arith, e))
 same_kind kind.UnknownName kind.Late e = absurd (omega (arith, e))
+same_kind kind.UnknownName kind.Writes e = absurd (omega (arith, e))
 same_kind kind.DoubleName kind.UnknownName e = absurd (omega (arith, e))
 same_kind kind.DoubleName kind.WrongType e = absurd (omega (arith, e))
 same_kind kind.DoubleName kind.KeyAssigned e = absurd (omega (arith, e))
 same_kind kind.DoubleName kind.Late e = absurd (omega (arith, e))
+same_kind kind.DoubleName kind.Writes e = absurd (omega (arith, e))
 same_kind kind.WrongType kind.UnknownName e = absurd (omega (arith, e))
 same_kind kind.WrongType kind.DoubleName e = absurd (omega (arith, e))
 same_kind kind.WrongType kind.KeyAssigned e = absurd (omega (arith, e))
 same_kind kind.WrongType kind.Late e = absurd (omega (arith, e))
+same_kind kind.WrongType kind.Writes e = absurd (omega (arith, e))
 same_kind kind.KeyAssigned kind.UnknownName e = absurd (omega (arith, e))
 same_kind kind.KeyAssigned kind.DoubleName e = absurd (omega (arith, e))
 same_kind kind.KeyAssigned kind.WrongType e = absurd (omega (arith, e))
 same_kind kind.KeyAssigned kind.Late e = absurd (omega (arith, e))
+same_kind kind.KeyAssigned kind.Writes e = absurd (omega (arith, e))
 same_kind kind.Late kind.UnknownName e = absurd (omega (arith, e))
 same_kind kind.Late kind.DoubleName e = absurd (omega (arith, e))
 same_kind kind.Late kind.WrongType e = absurd (omega (arith, e))
 same_kind kind.Late kind.KeyAssigned e = absurd (omega (arith, e))
+same_kind kind.Late kind.Writes e = absurd (omega (arith, e))
+same_kind kind.Writes kind.UnknownName e = absurd (omega (arith, e))
+same_kind kind.Writes kind.DoubleName e = absurd (omega (arith, e))
+same_kind kind.Writes kind.WrongType e = absurd (omega (arith, e))
+same_kind kind.Writes kind.KeyAssigned e = absurd (omega (arith, e))
+same_kind kind.Writes kind.Late e = absurd (omega (arith, e))
 
 there : (P : Fault → Type 0) (fs front : List Fault) (f : Fault) (back : List Fault) → fs ≡ front ++ f ∷ back → All P fs → P f
 there P fs front f back e h =
@@ -88,6 +99,7 @@ tells_fault script (naming.DoubleName token) h = inr (record { token = token; ki
 tells_fault script (naming.WrongType token) h = inr (record { token = token; kind = kind.WrongType }, h, refl)
 tells_fault script (naming.KeyAssigned token) h = inr (record { token = token; kind = kind.KeyAssigned }, h, refl)
 tells_fault script (naming.Late token) h = inr (record { token = token; kind = kind.Late }, h, refl)
+tells_fault script (naming.Writes token) h = inr (record { token = token; kind = kind.Writes }, h, refl)
 tells_fault script naming.NoMemory h = inl refl
 
 -- Names and types

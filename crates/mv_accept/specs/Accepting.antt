@@ -70,6 +70,7 @@ refusal_at kind.DoubleName token = why.DoubleName token
 refusal_at kind.WrongType token = why.WrongType token
 refusal_at kind.KeyAssigned token = why.KeyAssigned token
 refusal_at kind.Late token = why.Late token
+refusal_at kind.Writes token = why.Writes token
 
 -- why a script can't be resolved: its first fault of names and types
 abbrev pub HasFault : Script → Refusal → Type 0

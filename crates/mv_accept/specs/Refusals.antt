@@ -3,7 +3,7 @@ use Rattle.std.specs.Prelude.{ℕ, List, ◌++◌, codes, decimal}
 use Rattle.mv_ast.specs.declared.limit.Which.{Which}
 use Rattle.mv_ast.specs.declared.limit.Which.TheVariants as limit
 use Rattle.mv_accept.specs.declared.refusal.Refusal.{Refusal}
-use Rattle.mv_accept.specs.declared.refusal.Refusal.TheVariants.{TooLong, Byte, Token, Syntax, Limit, UnknownName, DoubleName, WrongType, KeyAssigned, Late, Field, Width, Duplicate, OpenBlock}
+use Rattle.mv_accept.specs.declared.refusal.Refusal.TheVariants.{TooLong, Byte, Token, Syntax, Limit, UnknownName, DoubleName, WrongType, KeyAssigned, Late, Writes, Field, Width, Duplicate, OpenBlock}
 
 abbrev pub number_of : Refusal → ℕ
 number_of TooLong = 1
@@ -16,6 +16,7 @@ number_of (DoubleName token) = 7
 number_of (WrongType token) = 8
 number_of (KeyAssigned token) = 9
 number_of (Late token) = 10
+number_of (Writes token) = 24
 number_of (Field table row column) = 11
 number_of (Width table row) = 12
 number_of (Duplicate table row) = 13
@@ -49,6 +50,7 @@ line_of (DoubleName token) = codes "refused 7 double name at token " ++ decimal 
 line_of (WrongType token) = codes "refused 8 wrong type at token " ++ decimal token
 line_of (KeyAssigned token) = codes "refused 9 key assigned at token " ++ decimal token
 line_of (Late token) = codes "refused 10 late at token " ++ decimal token
+line_of (Writes token) = codes "refused 24 write at token " ++ decimal token
 line_of (Field table row column) = codes "refused 11 table " ++ table ++ codes " row " ++ decimal row ++ codes " column " ++ decimal column
 line_of (Width table row) = codes "refused 12 table " ++ table ++ codes " row " ++ decimal row
 line_of (Duplicate table row) = codes "refused 13 table " ++ table ++ codes " row " ++ decimal row

@@ -30,6 +30,7 @@ of_naming (naming.DoubleName token) = Refused (why.DoubleName token)
 of_naming (naming.WrongType token) = Refused (why.WrongType token)
 of_naming (naming.KeyAssigned token) = Refused (why.KeyAssigned token)
 of_naming (naming.Late token) = Refused (why.Late token)
+of_naming (naming.Writes token) = Refused (why.Writes token)
 of_naming naming.NoMemory = NoMemory
 
 -- the error is that of this fault of the rows, unless memory ran out

@@ -96,6 +96,7 @@ impl From<NameFault> for NotAccepted {
                 token,
             }),
             NameFault::Late { token } => NotAccepted::Refused(Refusal::Late { token }),
+            NameFault::Writes { token } => NotAccepted::Refused(Refusal::Writes { token }),
             NameFault::NoMemory => NotAccepted::NoMemory,
         }
     }

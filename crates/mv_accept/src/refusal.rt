@@ -32,6 +32,8 @@ pub enum Refusal {
     KeyAssigned { token: u32 },
     /// An item comes after one of a later kind, or it is a second journal.
     Late { token: u32 },
+    /// A READ ONLY procedure changes this table.
+    Writes { token: u32 },
     /// The field of a copy isn't a value of its column's type.
     Field { table: Txt, row: u32, column: u32 },
     /// The record of a copy doesn't have one field for each column of its table.
@@ -43,7 +45,7 @@ pub enum Refusal {
 }
 
 impl Refusal {
-    /// Returns the number of the refusal, from 1 to 14.
+    /// Returns the number of the refusal: from 1 to 14, or 24.
     pub fn number(&self) -> u32
         ensures { result ≡ number_of self.now }
     {
@@ -58,6 +60,7 @@ impl Refusal {
             Refusal::WrongType { .. } => 8,
             Refusal::KeyAssigned { .. } => 9,
             Refusal::Late { .. } => 10,
+            Refusal::Writes { .. } => 24,
             Refusal::Field { .. } => 11,
             Refusal::Width { .. } => 12,
             Refusal::Duplicate { .. } => 13,
@@ -91,6 +94,7 @@ impl Refusal {
                 numbered(alloc, b"refused 9 key assigned at token ", *token)
             }
             Refusal::Late { token } => numbered(alloc, b"refused 10 late at token ", *token),
+            Refusal::Writes { token } => numbered(alloc, b"refused 24 write at token ", *token),
             Refusal::Field { table, row, column } => field_line(alloc, table, *row, *column),
             Refusal::Width { table, row } => row_line(alloc, b"refused 12 table ", table, *row),
             Refusal::Duplicate { table, row } => row_line(alloc, b"refused 13 table ", table, *row),

@@ -104,7 +104,7 @@ module _ (bytes : List ℕ) (R : Inner) (size : ℕ) where
   unfolding procedure
   procedure_shown =
       before (before (apply (λ body. ⊤)
-      (before (apply (λ vars. ⊤) (apply (λ params. ⊤) (apply (λ name. ⊤) (before (given procedure_of (λ name n params p vars v body b. tt))) any) any) any))
+      (before (apply (λ vars. ⊤) (apply (λ read_only. ⊤) (apply (λ params. ⊤) (apply (λ name. ⊤) (before (given procedure_of (λ name n params p read_only r vars v body b. tt))) any) any) any) any))
       any))
 
   block_shown : Shows (block bytes) (LiesIn size)

@@ -151,9 +151,13 @@ module _ (bytes : List ℕ) where
   unfoldable pub declaration : Part VarDef
   declaration = give var_def_of ◂ one word.Declare ⊛ variable ◂ one word.Equal ⊛ literal ◂ one word.Semicolon
 
-  -- procedure = PROCEDURE name ( [ param { , param } ] ) { declaration } BEGIN { stmt } END ;
+  -- [ READ ONLY ]
+  unfoldable pub read_only : Part Bool
+  read_only = either (one word.Read ▸ one word.Only ▸ give true) (give false)
+
+  -- procedure = PROCEDURE name ( [ param { , param } ] ) [ READ ONLY ] { declaration } BEGIN { stmt } END ;
   unfoldable pub procedure : Part ItemKind
-  procedure = give procedure_of ◂ one word.Procedure ⊛ name ⊛ in_parens (or_none (commas param)) ⊛ many declaration
+  procedure = give procedure_of ◂ one word.Procedure ⊛ name ⊛ in_parens (or_none (commas param)) ⊛ read_only ⊛ many declaration
       ◂ one word.Begin ⊛ many statement ◂ one word.End ◂ one word.Semicolon
 
   -- Block or OpenBlock

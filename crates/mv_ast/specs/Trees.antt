@@ -45,8 +45,8 @@ param_of n k = record { name = n; kind = k }
 abbrev pub var_def_of : Name → Lit → VarDef
 var_def_of n initial = record { name = n; initial = initial }
 
-abbrev pub procedure_of : Name → List Param → List VarDef → List Stmt → ItemKind
-procedure_of n params vars body = item.Proc (record { name = n; params = params; vars = vars; body = body })
+abbrev pub procedure_of : Name → List Param → Bool → List VarDef → List Stmt → ItemKind
+procedure_of n params read_only vars body = item.Proc (record { name = n; params = params; read_only = read_only; vars = vars; body = body })
 
 abbrev pub lit_rows_of : ℕ → List LitRow → LitRows
 lit_rows_of token rows = record { token = token; rows = rows }

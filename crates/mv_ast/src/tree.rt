@@ -76,10 +76,12 @@ pub struct LitRow {
     pub values: List<Lit>,
 }
 
+/// A procedure. `read_only` tells whether it is declared READ ONLY.
 #[derive(Drop)]
 pub struct ProcDef {
     pub name: Name,
     pub params: List<Param>,
+    pub read_only: bool,
     pub vars: List<VarDef>,
     pub body: List<Stmt>,
 }

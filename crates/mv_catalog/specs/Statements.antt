@@ -1,5 +1,5 @@
 -- Well-formed statements: all numbers refer to existing things, and types agree. The rules are this project's own.
-use Rattle.std.specs.Prelude.{◌≡◌, ◌≢◌, ◌<◌, ⊤, ℕ, ◌+◌, List, [], ◌∷◌, ◌++◌, length, map, Option, Some, None, slice_get, nat_eq, if◌then◌else◌, All, AllPairs, Contains}
+use Rattle.std.specs.Prelude.{◌≡◌, ◌≢◌, ◌<◌, ⊤, ℕ, ◌+◌, Bool, true, false, ◌||◌, List, [], ◌∷◌, ◌++◌, length, map, Option, Some, None, slice_get, nat_eq, if◌then◌else◌, All, AllPairs, Contains}
 use Rattle.std.specs.List.{AllZip}
 use Rattle.mv_values.specs.declared.schema.Column.{Column}
 use Rattle.mv_values.specs.declared.schema.TableInfo.{TableInfo}
@@ -149,6 +149,33 @@ rows_of ss = together (map rows_in ss)
 abbrev pub CountsFrom : ℕ → List ℕ → Type 0
 CountsFrom n [] = ⊤
 CountsFrom n (m ∷ ms) = (m ≡ n) × CountsFrom (n + 1) ms
+
+-- Changes of tables
+
+abbrev pub any : List Bool → Bool
+any [] = false
+any (b ∷ bs) = b || any bs
+
+-- whether a statement may change a table: it is an INSERT, an UPDATE or a DELETE, or holds one
+abbrev pub changes_step : RStmt-F Bool → Bool
+changes_step (ForSelect row distinct columns table conds sorts body) = any body
+changes_step (ForRows row over body) = any body
+changes_step (Branch test ys ns) = any ys || any ns
+changes_step (Insert table values) = true
+changes_step (Update table items conds) = true
+changes_step (Delete table conds) = true
+changes_step (Assign to right) = false
+changes_step (Select columns to table conds sorts offset) = false
+changes_step (Total agg to table conds) = false
+changes_step (Print values) = false
+changes_step (Rollback reason) = false
+
+abbrev pub may_change : RStmt → Bool
+may_change = fold-RStmt Bool changes_step
+
+-- whether one of the statements may
+abbrev pub any_change : List RStmt → Bool
+any_change ss = any (map may_change ss)
 
 -- Sizes of statements
 

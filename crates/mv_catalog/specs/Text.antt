@@ -1,5 +1,5 @@
 -- Well-formed programs: all numbers refer to existing things, types agree, and limits hold. This project's own.
-use Rattle.std.specs.Prelude.{◌≡◌, ◌≢◌, ◌<◌, ◌≤◌, ⊤, List, [], ◌∷◌, ◌++◌, length, map, Some, slice_get, All, AllPairs}
+use Rattle.std.specs.Prelude.{◌≡◌, ◌≢◌, ◌<◌, ◌≤◌, ⊤, true, false, List, [], ◌∷◌, ◌++◌, length, map, Some, slice_get, All, AllPairs}
 use Rattle.std.specs.List.{AllZip}
 use Rattle.mv_values.specs.declared.schema.ColType.{ColType}
 use Rattle.mv_values.specs.declared.schema.ColType.TheVariants as column
@@ -16,7 +16,7 @@ use Rattle.mv_catalog.specs.declared.resolved.ProcInfo.{ProcInfo}
 use Rattle.mv_catalog.specs.declared.resolved.CopyInfo.{CopyInfo}
 use Rattle.mv_catalog.specs.declared.resolved.Resolved.{Resolved}
 use Rattle.mv_catalog.specs.Types.{int, Var, fixed, declared, rows, Vars, kind_of_column, kind_of_value}
-use Rattle.mv_catalog.specs.Statements.{all_well, IsWell, rows_of, CountsFrom, size_of}
+use Rattle.mv_catalog.specs.Statements.{all_well, IsWell, rows_of, CountsFrom, any_change, size_of}
 
 -- Values and rows
 
@@ -67,7 +67,8 @@ IsShort (value.Int z) = ⊤
 IsShort (value.Text t) = length t ≤ 4000
 
 -- a procedure has at most 16 parameters, 64 declared variables and 1,000 statements, nested ones included. Its defaults
--- are short, its statements are well formed, and its loop rows are numbered in the order of the text after `:found`.
+-- are short, its statements are well formed, and its loop rows are numbered in the order of the text after `:found`. If it
+-- is READ ONLY, no statement changes a table.
 pub record IsProcedure (tables : List TableInfo) (p : ProcInfo) : Type 0 where
   pub few : length p.params ≤ 16
   pub declared : length p.defaults ≤ 64
@@ -75,6 +76,7 @@ pub record IsProcedure (tables : List TableInfo) (p : ProcInfo) : Type 0 where
   pub short : size_of p.body ≤ 1000
   pub body : all_well (IsWell tables) p.body (vars_of p)
   pub loops : CountsFrom (length (own_vars p)) (rows_of p.body)
+  pub reads : p.read_only ≡ true → any_change p.body ≡ false
 
 -- Calls
 

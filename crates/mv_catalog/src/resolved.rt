@@ -19,11 +19,13 @@ pub enum ParamInfo {
     Many(List<ColType>),
 }
 
-/// A procedure. `defaults` holds the initial values of its declared variables.
+/// A procedure. `read_only` tells whether it is declared READ ONLY, and `defaults` holds the initial values of its declared
+/// variables.
 #[derive(Drop)]
 pub struct ProcInfo {
     pub name: Txt,
     pub params: List<ParamInfo>,
+    pub read_only: bool,
     pub defaults: List<Value>,
     pub body: List<RStmt>,
 }

@@ -306,6 +306,7 @@ pub fn copy_procedure(alloc: Global, procedure: &ProcInfo) -> Result<ProcInfo, N
     Ok(ProcInfo {
         name,
         params,
+        read_only: procedure.read_only,
         defaults,
         body,
     })

@@ -1,6 +1,6 @@
 -- What is known of the statements of a procedure before it runs: a node for each, in the order of the text, and what a
 -- graph means.
-use Rattle.std.specs.Prelude.{◌≡◌, ◌≤◌, ℕ, ◌+◌, List, [], ◌∷◌, ◌++◌, Option, Some, None, All, map, length}
+use Rattle.std.specs.Prelude.{◌≡◌, ◌≤◌, ℕ, ◌+◌, Bool, List, [], ◌∷◌, ◌++◌, Option, Some, None, All, map, length}
 use Rattle.mv_catalog.specs.Statements.{size, total_size}
 use Rattle.mv_catalog.specs.Text.{IsTable, IsProcedure}
 use Rattle.mv_catalog.specs.declared.resolved.ProcInfo.{ProcInfo}
@@ -148,6 +148,10 @@ pub record IsGraph (g : Graph) : Type 0 where
 -- its meaning is its procedure's
 abbrev pub meaning_of : Graph → Behavior
 meaning_of g = meaning g.tables g.procedure
+
+-- no call of it changes a table: its procedure is READ ONLY
+abbrev pub is_read_only : Graph → Bool
+is_read_only g = g.procedure.read_only
 
 -- its tables and its procedure fit together, as those of a program do, and its nodes and steps are those of its procedure
 pub record IsSound (g : Graph) : Type 0 where

@@ -3,6 +3,7 @@
 ghost use Rattle.std.specs.Prelude.{◌≡◌, ◌==◌};
 ghost use Rattle.std.specs.List.{list_any};
 ghost use Rattle.std.specs.Option.{option_copied};
+ghost use Rattle.mv_graph.specs.Nodes.{is_read_only};
 ghost use Rattle.mv_graph.specs.Edges.{is_number, is_same, node_at, has_common, comes_to, edges, edges_of};
 
 use mv_catalog::resolved::{ProcInfo, RStmt};
@@ -123,6 +124,13 @@ fn comes_to(from: u16, earlier: &Node, to: u16, later: &Node) -> bool
 }
 
 impl Graph {
+    /// Whether the procedure is READ ONLY. Then no call of it changes a table.
+    pub fn read_only(&self) -> bool
+        ensures { result ≡ is_read_only self.now }
+    {
+        self.procedure.read_only
+    }
+
     /// Returns the statement with this number, counted from 1.
     fn node(&self, number: u16) -> Option<&Node>
         ensures { option_copied result ≡ node_at self.now number }

@@ -26,6 +26,7 @@ use Rattle.mv_names.specs.First.{unknown, wrong, when}
 use Rattle.mv_names.specs.Named.{Text, is_named, first_named}
 use Rattle.mv_names.specs.Items.{parts_of, lates}
 use Rattle.mv_names.specs.Scope.{scope_of, found}
+use Rattle.mv_names.specs.Writes.{writes}
 use Rattle.mv_names.specs.Statements.{doubles, table_named, missing_table, statements}
 
 -- Literals
@@ -92,7 +93,7 @@ declarations p =
     name_doubles (found.name ∷ []) p ++ flat_map (λ (q : Param). param_columns q.kind) p.params ++ flat_map initial p.vars
 
 abbrev pub procedure : List TableDef → ProcDef → List Fault
-procedure tables p = declarations p ++ statements tables p.body (scope_of p)
+procedure tables p = declarations p ++ statements tables p.body (scope_of p) ++ writes p
 
 -- Copies and calls
 

@@ -2,7 +2,7 @@
 use Rattle.std.specs.Prelude.{◌≡◌, ℕ, Bool, true, false, ◌&&◌, ◌||◌, List, [], ◌∷◌, ◌++◌, Option, Some, None, nat_lt, ◌==◌, All}
 use Rattle.mv_names.specs.declared.fault.Fault.{Fault}
 use Rattle.mv_names.specs.declared.fault.FaultKind.{FaultKind}
-use Rattle.mv_names.specs.declared.fault.FaultKind.TheVariants.{UnknownName, DoubleName, WrongType, KeyAssigned, Late}
+use Rattle.mv_names.specs.declared.fault.FaultKind.TheVariants.{UnknownName, DoubleName, WrongType, KeyAssigned, Late, Writes}
 
 -- the order of the kinds
 abbrev pub rank : FaultKind → ℕ
@@ -11,6 +11,7 @@ rank DoubleName = 1
 rank WrongType = 2
 rank KeyAssigned = 3
 rank Late = 4
+rank Writes = 5
 
 abbrev pub is_before : Fault → Fault → Bool
 is_before f g = nat_lt f.token g.token || (f.token == g.token && nat_lt (rank f.kind) (rank g.kind))
@@ -39,6 +40,9 @@ key_set token = record { token = token; kind = KeyAssigned }
 
 abbrev pub late : ℕ → Fault
 late token = record { token = token; kind = Late }
+
+abbrev pub writing : ℕ → Fault
+writing token = record { token = token; kind = Writes }
 
 -- the fault if the test holds
 abbrev pub when : Bool → Fault → List Fault

@@ -5,5 +5,6 @@ pub mod Items
 pub mod Scope
 pub mod Typing
 pub mod Statements
+pub mod Writes
 pub mod Faults
 pub mod Index

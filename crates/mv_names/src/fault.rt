@@ -21,6 +21,8 @@ pub enum FaultKind {
     KeyAssigned,
     /// An item after an item of a later kind, or a second journal.
     Late,
+    /// A table that a READ ONLY procedure changes.
+    Writes,
 }
 
 /// A fault at a token. `token` is the token's number.
@@ -40,6 +42,7 @@ fn rank_of(kind: FaultKind) -> u8
         FaultKind::WrongType => 2,
         FaultKind::KeyAssigned => 3,
         FaultKind::Late => 4,
+        FaultKind::Writes => 5,
     }
 }
 
@@ -99,6 +102,16 @@ impl Fault {
         Fault {
             token,
             kind: FaultKind::Late,
+        }
+    }
+
+    /// Returns a fault for a table that a READ ONLY procedure changes.
+    pub(crate) fn writing(token: u32) -> Fault
+        ensures { result ≡ kinds.writing token }
+    {
+        Fault {
+            token,
+            kind: FaultKind::Writes,
         }
     }
 }

@@ -15,6 +15,7 @@ use crate::nested::Scope;
 use crate::scope::{Binding, Entry, FOUND, Field, ValueType};
 use crate::statements::check_table;
 use crate::tables::Table;
+use crate::writes::check_writes;
 use mv_ast::tree::{
     Arg, CallDef, ColDef, CopyDef, Lit, LitRow, Name, Param, ParamKind, ProcDef, VarDef,
 };
@@ -322,7 +323,7 @@ pub(crate) fn check_procedure(
     check_declarations(alloc, procedure, faults)?;
     let mut scope = names_of_procedure(alloc, procedure)?;
     check_statements(alloc, tables, procedure.body.as_slice(), &mut scope, faults)?;
-    Ok(())
+    check_writes(procedure, faults)
 }
 
 // Copies and calls

@@ -14,3 +14,4 @@ pub mod parts;
 pub mod scope;
 mod statements;
 pub mod tables;
+mod writes;

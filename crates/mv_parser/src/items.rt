@@ -3,7 +3,7 @@
 ghost use Rattle.std.specs.Prelude.{◌≡◌, drop};
 ghost use Rattle.mv_ast.specs.declared.lexeme.Terminal.TheVariants as word;
 ghost use Rattle.mv_ast.specs.Parts.{one};
-ghost use Rattle.mv_ast.specs.Grammar.{◌◂◌, in_parens, col_def, many, or_none, commas, columns, table, param, param_kind, declaration, procedure, arg, create, copy, call, journal, an_item};
+ghost use Rattle.mv_ast.specs.Grammar.{◌◂◌, in_parens, col_def, many, or_none, commas, columns, table, param, param_kind, read_only, declaration, procedure, arg, create, copy, call, journal, an_item};
 ghost use Rattle.mv_parser.specs.Reading.{inside, read};
 ghost use Rattle.mv_parser.specs.Answers.{ReadsPart};
 
@@ -128,6 +128,19 @@ impl Reader<'_> {
         self.followed(params, at, Terminal::Close)
     }
 
+    /// Parses an optional READ ONLY. Returns whether it is there.
+    #[tactic(auto, unfolding(mv_ast::specs::Grammar::read_only))]
+    fn read_only(&self, at: usize) -> Result<(bool, usize), Failure>
+        ensures { ReadsPart self.now at read_only result }
+    {
+        if !self.has(at, Terminal::Read) {
+            return Ok((false, at));
+        }
+        let (_, at) = self.one(at, Terminal::Read)?;
+        let (_, at) = self.one(at, Terminal::Only)?;
+        Ok((true, at))
+    }
+
     /// Parses DECLARE.
     #[tactic(auto, unfolding(mv_ast::specs::Grammar::declaration))]
     fn declaration(&self, at: usize) -> Result<(VarDef, usize), Failure>
@@ -166,12 +179,14 @@ impl Reader<'_> {
         let (_, at) = self.one(at, Terminal::Procedure)?;
         let (name, at) = self.name(at)?;
         let (params, at) = self.params_in_parens(at)?;
+        let (read_only, at) = self.read_only(at)?;
         let (vars, at) = self.declarations(at)?;
         let (_, at) = self.one(at, Terminal::Begin)?;
         let (body, at) = self.statements(at)?;
         let procedure = ProcDef {
             name,
             params,
+            read_only,
             vars,
             body,
         };

@@ -34,14 +34,14 @@ use Rattle.mv_ast.specs.Trees.{table_of, procedure_of, copy_of, journal_of, scri
 use Rattle.mv_ast.specs.Texts.{spelling}
 use Rattle.mv_ast.specs.Grammar as rule
 use Rattle.mv_ast.specs.Grammar.{inner, added, place, closed_of, open_of, ◌⊛◌}
-use Rattle.mv_print.specs.Printing.{Piece, key, line_end, name_piece, name_pieces, listed, row_pieces, column_pieces, column_and_comma, values_pieces, param_kind_pieces, param_pieces, declared_pieces, statements_pieces, block_piece, span_piece, arg_pieces, item_pieces, pieces_of, script_pieces}
+use Rattle.mv_print.specs.Printing.{Piece, key, line_end, name_piece, name_pieces, listed, row_pieces, column_pieces, column_and_comma, values_pieces, param_kind_pieces, param_pieces, declared_pieces, read_only_pieces, statements_pieces, block_piece, span_piece, arg_pieces, item_pieces, pieces_of, script_pieces}
 use Rattle.mv_print.specs.Same.{placeless_row, placeless_column, placeless_param_kind, placeless_param, placeless_variable, placeless_argument, placeless_span, placeless_kind, placeless, span_bytes, block_bytes, SameButPlaces}
 use Rattle.mv_print.proofs.Light.{kinds, Light, light_plain}
 use Rattle.mv_print.proofs.Building.{marks, light_both, light_nothing, turns_then, Fits, Spelled, Sound, Sounds, sounds_joined, AllGood, each_apart, apart, one_spelled, none_spelled, Reading, Readings, Prints, Turned, Turns, Gives, gives_give, gives_one, gives_both, gives_next, gives_either, gives_any, both_read, joined_added, turns_give, turns_next, turns_either, turns_left, turns_as}
 use Rattle.mv_print.proofs.Sounding.{sound_key}
 use Rattle.mv_print.proofs.Meaning.{Meant, Good, meant, closed_bytes, open_bytes, bare_bytes}
-use Rattle.mv_print.proofs.Turning.{plain_key, skip_open, skip_close, skip_end_line, skip, skip_end, behind_key, place_key, turns_parens, turns_many, turns_commas}
-use Rattle.mv_print.proofs.Rules.{Rule, same2, same3, same4, rule_name, rule_variable, rule_literal, rule_row, rule_type, rule_column}
+use Rattle.mv_print.proofs.Turning.{plain_key, skip_open, skip_close, skip_end_line, skip, skip_end, behind_key, behind_keys, place_key, turns_parens, turns_many, turns_commas}
+use Rattle.mv_print.proofs.Rules.{Rule, same2, same3, same4, same5, rule_name, rule_variable, rule_literal, rule_row, rule_type, rule_column}
 use Rattle.mv_print.proofs.Sentences.{way_inside}
 
 regroup_table : (cs ns rows : List Piece) (a b c e : Piece) → (((((cs ++ a ∷ []) ++ b ∷ []) ++ ns) ++ c ∷ []) ++ rows) ++ e ∷ [] ≡ cs ++ a ∷ b ∷ (ns ++ c ∷ (rows ++ e ∷ []))
@@ -51,11 +51,12 @@ regroup_table cs ns rows a b c e =
     ∙ (append_assoc ((cs ++ a ∷ []) ++ b ∷ []) ns (c ∷ (rows ++ e ∷ []))
     ∙ (append_assoc (cs ++ a ∷ []) (b ∷ []) (ns ++ c ∷ (rows ++ e ∷ [])) ∙ append_assoc cs (a ∷ []) (b ∷ (ns ++ c ∷ (rows ++ e ∷ []))))))
 
-regroup_procedure : (ps vs body : List Piece) (a b c : Piece) → ((((ps ++ vs) ++ a ∷ []) ++ body) ++ b ∷ []) ++ c ∷ [] ≡ ps ++ (vs ++ a ∷ (body ++ b ∷ c ∷ []))
-regroup_procedure ps vs body a b c =
-    append_assoc ((((ps ++ vs) ++ a ∷ []) ++ body)) (b ∷ []) (c ∷ [])
-    ∙ (append_assoc ((ps ++ vs) ++ a ∷ []) body (b ∷ c ∷ [])
-    ∙ (append_assoc (ps ++ vs) (a ∷ []) (body ++ b ∷ c ∷ []) ∙ append_assoc ps vs (a ∷ (body ++ b ∷ c ∷ []))))
+regroup_procedure : (ps rs vs body : List Piece) (a b c : Piece) → (((((ps ++ rs) ++ vs) ++ a ∷ []) ++ body) ++ b ∷ []) ++ c ∷ [] ≡ ps ++ (rs ++ (vs ++ a ∷ (body ++ b ∷ c ∷ [])))
+regroup_procedure ps rs vs body a b c =
+    append_assoc (((((ps ++ rs) ++ vs) ++ a ∷ []) ++ body)) (b ∷ []) (c ∷ [])
+    ∙ (append_assoc (((ps ++ rs) ++ vs) ++ a ∷ []) body (b ∷ c ∷ [])
+    ∙ (append_assoc ((ps ++ rs) ++ vs) (a ∷ []) (body ++ b ∷ c ∷ [])
+    ∙ (append_assoc (ps ++ rs) vs (a ∷ (body ++ b ∷ c ∷ [])) ∙ append_assoc ps rs (vs ++ a ∷ (body ++ b ∷ c ∷ [])))))
 
 -- an item with no block
 abbrev no_block : ItemKind → ItemKind × List ℕ
@@ -219,15 +220,20 @@ module _ (bytes text : List ℕ) (d : ℕ) where
   way_params : Way (rule.in_parens (rule.or_none (rule.commas (rule.param bytes)))) (rule.in_parens (rule.or_none (rule.commas (rule.param text)))) param_list (map placeless_param)
   way_params = turns_parens (turns_either (turns_commas way_param (λ p ps. refl)) (turns_give refl refl))
 
+  way_read_only : Way (rule.read_only bytes) (rule.read_only text) read_only_pieces (λ b. b)
+  unfolding rule.read_only
+  way_read_only = turns_either (behind_keys (plain_key word.Read) (plain_key word.Only) (turns_give refl refl)) (turns_give refl refl)
+
   way_procedure : Turns (Good bytes) bytes text d (rule.procedure bytes) (rule.procedure text) Created SameKind
   unfolding rule.procedure
   way_procedure =
       skip_end_line (turns_next {fq = statements_pieces} (turns_many (way_inside bytes text d) (λ vs. refl)) (skip_open (sound_key word.Begin) (record { opens = refl; ends = refl })
-      (turns_next {fq = λ vs. together (map declared_pieces vs)} (turns_many way_declaration (λ vs. refl)) (turns_next way_params (turns_next (rule_name bytes text d) (skip (plain_key word.Procedure)
-      (turns_give (λ n params vars body. ap (λ r. key word.Create ∷ key word.Procedure ∷ name_piece n ∷ r)
-      (regroup_procedure (param_list params) (together (map declared_pieces vars)) (statements_pieces body) (key word.Begin) (key word.End) line_end
-      ∙ ap (λ r. key word.Open ∷ r) (append_assoc (listed param_pieces params) (key word.Close ∷ []) (together (map declared_pieces vars) ++ key word.Begin ∷ (statements_pieces body ++ key word.End ∷ line_end ∷ [])))))
-      (λ a a' h b b' i c c' j e e' k. ap no_block (same4 procedure_of h i j k)))))))))
+      (turns_next {fq = λ vs. together (map declared_pieces vs)} (turns_many way_declaration (λ vs. refl)) (turns_next {fq = read_only_pieces} way_read_only (turns_next way_params (turns_next (rule_name bytes text d) (skip (plain_key word.Procedure)
+      (turns_give (λ n params read_only vars body. ap (λ r. key word.Create ∷ key word.Procedure ∷ name_piece n ∷ r)
+      (regroup_procedure (param_list params) (read_only_pieces read_only) (together (map declared_pieces vars)) (statements_pieces body) (key word.Begin) (key word.End) line_end
+      ∙ ap (λ r. key word.Open ∷ r) (append_assoc (listed param_pieces params) (key word.Close ∷ [])
+      (read_only_pieces read_only ++ (together (map declared_pieces vars) ++ key word.Begin ∷ (statements_pieces body ++ key word.End ∷ line_end ∷ []))))))
+      (λ a a' h b b' i r r' q c c' j e e' k. ap no_block (same5 procedure_of h i q j k))))))))))
 
   way_create : Turns (Good bytes) bytes text d (rule.create bytes) (rule.create text) (λ i ps. ps ≡ pieces_of bytes i) (λ i j. placeless bytes i ≡ placeless text j)
   unfolding rule.create

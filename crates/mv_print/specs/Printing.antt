@@ -407,10 +407,14 @@ param_pieces p = variable_piece p.name ∷ param_kind_pieces p.kind
 abbrev pub declared_pieces : VarDef → List Piece
 declared_pieces v = key word.Declare ∷ variable_piece v.name ∷ key word.Equal ∷ (literal_pieces v.initial ++ key word.Semicolon ∷ [])
 
+abbrev pub read_only_pieces : Bool → List Piece
+read_only_pieces true = key word.Read ∷ key word.Only ∷ []
+read_only_pieces false = []
+
 abbrev pub procedure_pieces : ProcDef → List Piece
 procedure_pieces p =
-    key word.Create ∷ key word.Procedure ∷ name_piece p.name ∷ key word.Open ∷ (listed param_pieces p.params ++ key word.Close ∷ (together (map declared_pieces p.vars)
-    ++ key word.Begin ∷ (statements_pieces p.body ++ key word.End ∷ line_end ∷ [])))
+    key word.Create ∷ key word.Procedure ∷ name_piece p.name ∷ key word.Open ∷ (listed param_pieces p.params ++ key word.Close ∷ (read_only_pieces p.read_only
+    ++ (together (map declared_pieces p.vars) ++ key word.Begin ∷ (statements_pieces p.body ++ key word.End ∷ line_end ∷ []))))
 
 -- a block: its bytes between the lines `<<` and `>>`; an open block has no line `>>`
 abbrev pub block_piece : List ℕ → Bool → Piece

@@ -115,7 +115,7 @@ abbrev pub placeless_kind : ItemKind → ItemKind
 placeless_kind (Table t) =
     Table (record { name = placeless_name t.name; columns = map placeless_column t.columns; key = map placeless_name t.key; rows = map placeless_row t.rows })
 placeless_kind (Proc p) =
-    Proc (record { name = placeless_name p.name; params = map placeless_param p.params; vars = map placeless_variable p.vars; body = map placeless_statement p.body })
+    Proc (record { name = placeless_name p.name; params = map placeless_param p.params; read_only = p.read_only; vars = map placeless_variable p.vars; body = map placeless_statement p.body })
 placeless_kind (Copy c) = Copy (record { table = placeless_name c.table; block = placeless_span c.block })
 placeless_kind (Call c) = Call (record { name = placeless_name c.name; arguments = map placeless_argument c.arguments })
 placeless_kind (Journal s) = Journal (placeless_span s)

@@ -2,7 +2,7 @@
 
 ghost use Rattle.std.specs.Prelude.{◌≡◌, ◌++◌, ◌∷◌, [], map, slice_range, ◌+◌, OnOk};
 ghost use Rattle.mv_ast.specs.Limits.{together};
-ghost use Rattle.mv_print.specs.Printing.{written, put, column_and_comma, values_pieces, table_pieces, param_kind_pieces, param_pieces, declared_pieces, procedure_pieces, span_piece, arg_pieces, item_pieces, pieces_of};
+ghost use Rattle.mv_print.specs.Printing.{written, put, column_and_comma, values_pieces, table_pieces, param_kind_pieces, param_pieces, declared_pieces, read_only_pieces, procedure_pieces, span_piece, arg_pieces, item_pieces, pieces_of};
 
 use crate::clauses::write_type;
 use crate::listed::{Printed, write_all, write_listed};
@@ -96,6 +96,17 @@ impl Printed for VarDef {
     }
 }
 
+#[tactic(auto, unfolding(crate::specs::Printing::written))]
+fn write_read_only(read_only: bool, text: &mut List<u8>) -> Result<(), NoMemory>
+    ensures { OnOk result (text.new ≡ written text.old (read_only_pieces read_only)) }
+{
+    if read_only {
+        write_key(Terminal::Read, text)?;
+        write_key(Terminal::Only, text)?;
+    }
+    Ok(())
+}
+
 #[tactic(auto, using(crate::proofs::Writing::written_joined), unfolding(crate::specs::Printing::written))]
 fn write_procedure(procedure: &ProcDef, text: &mut List<u8>) -> Result<(), NoMemory>
     ensures { OnOk result (text.new ≡ written text.old (procedure_pieces procedure.now)) }
@@ -106,6 +117,7 @@ fn write_procedure(procedure: &ProcDef, text: &mut List<u8>) -> Result<(), NoMem
     write_key(Terminal::Open, text)?;
     write_listed(procedure.params.as_slice(), text)?;
     write_key(Terminal::Close, text)?;
+    write_read_only(procedure.read_only, text)?;
     write_all(procedure.vars.as_slice(), text)?;
     write_key(Terminal::Begin, text)?;
     write_statements(procedure.body.as_slice(), text)?;

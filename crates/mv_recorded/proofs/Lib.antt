@@ -30,3 +30,4 @@ pub mod Values
 pub mod Alike
 pub mod Congruent
 pub mod Posting
+pub mod Quiet

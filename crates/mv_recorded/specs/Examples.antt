@@ -94,6 +94,7 @@ abbrev pub add : ProcInfo
 add = record {
   name = [];
   params = [];
+  read_only = false;
   defaults = Int (pos 0) ∷ [];
   body = roll-RStmt (read_balance 2) ∷ roll-RStmt add_amount ∷ roll-RStmt set_balance ∷ roll-RStmt tell_balance ∷ [];
 }
@@ -127,7 +128,7 @@ abbrev pub raise_balance : RStmt-F RStmt
 raise_balance = Update 0 (record { column = 1; right = two Add (col 1) (var 1) } ∷ []) (of_account (var 0))
 
 abbrev pub raise : ProcInfo
-raise = record { name = []; params = []; defaults = []; body = roll-RStmt raise_balance ∷ [] }
+raise = record { name = []; params = []; read_only = false; defaults = []; body = roll-RStmt raise_balance ∷ [] }
 
 -- the UPDATE faults after it looked at rows: its record has a predicate and an end, but no writes
 abbrev pub UpdateOverflows : Type 0
@@ -140,7 +141,7 @@ abbrev pub tell_found : RStmt-F RStmt
 tell_found = Print (var 1 ∷ var 2 ∷ [])
 
 abbrev pub look : ProcInfo
-look = record { name = []; params = []; defaults = Int (pos 0) ∷ []; body = roll-RStmt (read_balance 1) ∷ roll-RStmt tell_found ∷ [] }
+look = record { name = []; params = []; read_only = false; defaults = Int (pos 0) ∷ []; body = roll-RStmt (read_balance 1) ∷ roll-RStmt tell_found ∷ [] }
 
 abbrev pub look_read : Record
 look_read = record (blank 1) { preds = asks 7 (1 ∷ []); sets = sets 2 0 ∷ [] }
@@ -174,6 +175,7 @@ abbrev pub transfer : ProcInfo
 transfer = record {
   name = [];
   params = [];
+  read_only = false;
   defaults = Int (pos 0) ∷ [];
   body = roll-RStmt (read_balance 3) ∷ roll-RStmt look_at_funds ∷ roll-RStmt take_amount ∷ roll-RStmt give_amount ∷ roll-RStmt take_fee ∷ [];
 }
@@ -221,7 +223,7 @@ abbrev pub over_lines : RStmt-F RStmt
 over_lines = ForRows 3 0 (roll-RStmt add_line_amount ∷ [])
 
 abbrev pub total : ProcInfo
-total = record { name = []; params = []; defaults = Int (pos 0) ∷ []; body = roll-RStmt over_lines ∷ [] }
+total = record { name = []; params = []; read_only = false; defaults = Int (pos 0) ∷ []; body = roll-RStmt over_lines ∷ [] }
 
 abbrev pub lines : List (List Value)
 lines = (Int (pos 5) ∷ []) ∷ (Int (pos 7) ∷ []) ∷ []
@@ -266,6 +268,7 @@ abbrev pub close : ProcInfo
 close = record {
   name = [];
   params = [];
+  read_only = false;
   defaults = Int (pos 0) ∷ [];
   body = roll-RStmt over_accounts ∷ roll-RStmt sum_up_balances ∷ roll-RStmt open_account ∷ [];
 }
@@ -314,7 +317,7 @@ abbrev pub read_twice : RStmt-F RStmt
 read_twice = Select (0 ∷ 1 ∷ []) (0 ∷ 0 ∷ []) 0 [] (record { column = 1; descending = true } ∷ []) (Some (var 0))
 
 abbrev pub second : ProcInfo
-second = record { name = []; params = []; defaults = Int (pos 1) ∷ []; body = roll-RStmt read_twice ∷ [] }
+second = record { name = []; params = []; read_only = false; defaults = Int (pos 1) ∷ []; body = roll-RStmt read_twice ∷ [] }
 
 -- a target named twice is set once, to the later value; a column is selected once
 abbrev pub ReadsTwice : Type 0
@@ -331,7 +334,7 @@ abbrev pub delete_wrong : RStmt-F RStmt
 delete_wrong = Delete 0 (of_account (two Div (var 0) (constant (Int (pos 0)))))
 
 abbrev pub wrong : ProcInfo
-wrong = record { name = []; params = []; defaults = []; body = roll-RStmt delete_wrong ∷ [] }
+wrong = record { name = []; params = []; read_only = false; defaults = []; body = roll-RStmt delete_wrong ∷ [] }
 
 -- the DELETE faults before it looks at rows, so it has no predicate
 abbrev pub DividesByZero : Type 0

@@ -1,5 +1,5 @@
 -- The laws of the records of every full run.
-use Rattle.std.specs.Prelude.{◌≡◌, ◌++◌, ℕ, List, [], Ok, length}
+use Rattle.std.specs.Prelude.{◌≡◌, ◌++◌, ℕ, true, List, [], Ok, length}
 use Rattle.std.specs.List.{AllZip}
 use Rattle.mv_values.specs.declared.schema.TableInfo.{TableInfo}
 use Rattle.mv_values.specs.declared.calls.Call.{Call}
@@ -69,6 +69,10 @@ FrontsAreDatabases =
 -- the calls of a program lead to a database of its tables, in any order
 abbrev pub TablesAfterAre : Type 0
 TablesAfterAre = (p : Program) → IsProgram p → (order : List ℕ) (k : ℕ) → IsDatabaseOf p.resolved.tables (table_after p order k)
+
+-- a call of a READ ONLY procedure leaves each database as it is
+abbrev pub ReadersChangeNothing : Type 0
+ReadersChangeNothing = (tables : List TableInfo) (proc : ProcInfo) (call : Call) (db : Tables) → IsProcedure tables proc → proc.read_only ≡ true → (meaning tables proc call db).tables ≡ db
 
 -- each record of a full run is the own record of a statement of the procedure, in the state after the records before
 -- it, if the keys of each table rise

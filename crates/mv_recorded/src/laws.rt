@@ -1,7 +1,7 @@
 //! Laws of the records of a full run. They apply to every procedure, call and database.
 
 ghost use Rattle.mv_recorded.specs.Examples.{AddsFive, AddOverflows, UpdateOverflows, LooksInVain, Transfers, TransferRollsBack, AddsUp, Closes, ReadsTwice, DividesByZero};
-ghost use Rattle.mv_recorded.specs.Laws.{MeaningsTell, NamesEarlierOnes, PathsAreInOrder, EffectsTold, ColumnsThere, KeysKept, DatabaseKept, FrontsAreDatabases, TablesAfterAre, RecordsAreOwn, EffectsRest, OnePlaceOnePath};
+ghost use Rattle.mv_recorded.specs.Laws.{MeaningsTell, NamesEarlierOnes, PathsAreInOrder, EffectsTold, ColumnsThere, KeysKept, DatabaseKept, FrontsAreDatabases, TablesAfterAre, ReadersChangeNothing, RecordsAreOwn, EffectsRest, OnePlaceOnePath};
 
 /// On a database with rising keys, the records determine the reply of the call, its lines or its end, and the database
 /// after it.
@@ -43,6 +43,11 @@ pub fn databases_are_kept()
     ensures statement { DatabaseKept }
     ensures fronts { FrontsAreDatabases }
     ensures calls { TablesAfterAre }
+{}
+
+/// A call of a READ ONLY procedure leaves each database as it is.
+pub fn readers_change_nothing()
+    ensures { ReadersChangeNothing }
 {}
 
 /// Each record of a full run is the own record of a statement of the procedure, executed in the state after the records

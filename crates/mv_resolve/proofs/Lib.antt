@@ -8,6 +8,7 @@ pub mod Tables
 pub mod Loops
 pub mod Stmts
 pub mod Sized
+pub mod Still
 pub mod Procs
 pub mod Whole
 pub mod Examples

@@ -27,6 +27,7 @@ use Rattle.mv_names.specs.Named.{Text, same_text}
 use Rattle.mv_names.specs.Scope.{entry_of, found, parameter, variable, binding_of, declared_field, scope_of}
 use Rattle.mv_names.specs.Statements.{doubles}
 use Rattle.mv_names.specs.Statements as names
+use Rattle.mv_names.specs.Writes.{all_writes, writes}
 use Rattle.mv_names.specs.Faults as faults
 use Rattle.mv_resolve.specs.declared.slot.Slot.{Slot}
 use Rattle.mv_resolve.specs.Building as build
@@ -42,6 +43,7 @@ use Rattle.mv_resolve.proofs.Exprs.{value_known}
 use Rattle.mv_resolve.proofs.Loops.{first_before, first_behind, Fresh}
 use Rattle.mv_resolve.proofs.Stmts.{stmts_claim}
 use Rattle.mv_resolve.proofs.Sized.{all_sized}
+use Rattle.mv_resolve.proofs.Still.{all_still}
 
 -- What stands at the numbers from one on
 
@@ -274,7 +276,8 @@ procedure_is tables p few_tables narrow h k =
     let b = flat_map (λ (q : Param). faults.param_columns q.kind) p.params in
     let c = flat_map faults.initial p.vars in
     let d = names.statements tables p.body (scope_of p) in
-    let hc : (a ++ b) ++ c ≡ [] = nothing_left ((a ++ b) ++ c) d h in
+    let hd : ((a ++ b) ++ c) ++ d ≡ [] = nothing_left (((a ++ b) ++ c) ++ d) (writes p) h in
+    let hc : (a ++ b) ++ c ≡ [] = nothing_left ((a ++ b) ++ c) d hd in
     let hb : a ++ b ≡ [] = nothing_left (a ++ b) c hc in
     let k1 = too_many limit.Parameters 16 param_token p.params in
     let k2 = too_many limit.Variables 64 declared_token p.vars in
@@ -291,7 +294,7 @@ procedure_is tables p few_tables narrow h k =
     let room : found_number p + 1 + loops_in (map (built tables) p.body) ≤ 2 ^ 16 - 1 = omega arith in
     let r = stmts_claim tables few_tables narrow p.body (scope_of p) (slots_of p) (vars_of (procedure_of tables p)) (found_number p + 1)
     (all_match tables p (nothing_left a b hb) most many (nothing_left k3 (k4 ++ k5) r3)) (fresh_own (own_vars (procedure_of tables p)) (found_number p + 1) (count_own tables p)) room
-    (nothing_right ((a ++ b) ++ c) d h) (nothing_left k4 k5 r4) in
+    (nothing_right ((a ++ b) ++ c) d hd) (nothing_left k4 k5 r4) in
     record {
       few = omega (arith, most, length-map p.params (λ (q : Param). param_of q.kind));
       declared = omega (arith, many, length-map p.vars (λ (v : VarDef). v.initial.value));
@@ -300,4 +303,5 @@ procedure_is tables p few_tables narrow h k =
       short = omega (arith, lines, all_sized tables p.body (slots_of p) (found_number p + 1));
       body = r.allowed;
       loops = subst (λ n. CountsFrom n (rows_of (procedure_of tables p).body)) (sym (count_own tables p)) r.counts;
+      reads = λ is. all_still tables p.body (slots_of p) (found_number p + 1) (ap (λ b. if b then all_writes p.body else []) (sym is) ∙ nothing_right (((a ++ b) ++ c) ++ d) (writes p) h);
     }

@@ -286,6 +286,7 @@ abbrev pub procedure_of : List TableDef → ProcDef → ProcInfo
 procedure_of tables p = record {
   name = p.name.text;
   params = map (λ (q : Param). param_of q.kind) p.params;
+  read_only = p.read_only;
   defaults = map (λ (v : VarDef). v.initial.value) p.vars;
   body = statements_of tables p.body (slots_of p) (found_number p + 1);
 }

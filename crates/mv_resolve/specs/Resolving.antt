@@ -7,7 +7,7 @@ use Rattle.mv_names.specs.declared.fault.FaultKind.TheVariants as kind
 use Rattle.mv_names.specs.First.{IsFirst}
 use Rattle.mv_names.specs.Faults.{faults}
 use Rattle.mv_resolve.specs.declared.refused.NameFault.{NameFault}
-use Rattle.mv_resolve.specs.declared.refused.NameFault.TheVariants.{UnknownName, DoubleName, WrongType, KeyAssigned, Late, NoMemory}
+use Rattle.mv_resolve.specs.declared.refused.NameFault.TheVariants.{UnknownName, DoubleName, WrongType, KeyAssigned, Late, Writes, NoMemory}
 use Rattle.mv_catalog.specs.declared.resolved.Resolved.{Resolved}
 use Rattle.mv_resolve.specs.Building.{resolved_of}
 
@@ -21,6 +21,7 @@ Refuses script (DoubleName token) = IsFirstAt script kind.DoubleName token
 Refuses script (WrongType token) = IsFirstAt script kind.WrongType token
 Refuses script (KeyAssigned token) = IsFirstAt script kind.KeyAssigned token
 Refuses script (Late token) = IsFirstAt script kind.Late token
+Refuses script (Writes token) = IsFirstAt script kind.Writes token
 Refuses script NoMemory = Unit {0}
 
 -- the program, only if the script has no fault; otherwise the first fault

@@ -174,6 +174,7 @@ fn procedure(
     Ok(ProcInfo {
         name: definition.name.text.copy(alloc)?,
         params: params(alloc, definition.params.as_slice())?,
+        read_only: definition.read_only,
         defaults: defaults(alloc, definition.vars.as_slice())?,
         body: body(alloc, tables, definition)?,
     })

@@ -17,6 +17,8 @@ pub enum NameFault {
     KeyAssigned { token: u32 },
     /// An item after an item of a later kind, or a second journal.
     Late { token: u32 },
+    /// A table that a READ ONLY procedure changes.
+    Writes { token: u32 },
     /// Memory ran out.
     NoMemory,
 }

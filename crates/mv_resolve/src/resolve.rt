@@ -31,6 +31,7 @@ fn refused(fault: Fault) -> NameFault
         FaultKind::WrongType => NameFault::WrongType { token },
         FaultKind::KeyAssigned => NameFault::KeyAssigned { token },
         FaultKind::Late => NameFault::Late { token },
+        FaultKind::Writes => NameFault::Writes { token },
     }
 }
 

@@ -17,3 +17,6 @@ numbered-requires-in-WrongType c = all_printable (codes "refused 8 wrong type at
 
 pub numbered-requires-in-KeyAssigned : goal.numbered-requires-in-KeyAssigned
 numbered-requires-in-KeyAssigned c = all_printable (codes "refused 9 key assigned at token ") refl
+
+pub numbered-requires-in-Writes : goal.numbered-requires-in-Writes
+numbered-requires-in-Writes c = all_printable (codes "refused 24 write at token ") refl
