@@ -9,7 +9,7 @@ use Rattle.std.specs.Str.Parse.{AllDigits}
 use Rattle.std.proofs.lemmas.Fmt.{decimal_is_IsNumeral}
 use Rattle.std.proofs.lemmas.Str.Parse.{digit_from_value}
 use Rattle.mv_journal.specs.declared.event.Event.{Event}
-use Rattle.mv_journal.specs.declared.event.Event.TheVariants.{B, S, A, M, C, X, G}
+use Rattle.mv_journal.specs.declared.event.Event.TheVariants.{B, S, A, M, C, X, R, G}
 use Rattle.mv_journal.specs.Events.{event_text, events_text, IsInRange}
 use Rattle.mv_journal.specs.Lines.{IsNumber, IsEventLine, AreEventLines}
 use Rattle.std.proofs.lemmas.Bool.{ne_eqb}
@@ -84,6 +84,7 @@ event_clean (A call) small = named_clean 65 call (omega arith) small
 event_clean (M call) small = named_clean 77 call (omega arith) small
 event_clean (C call) small = named_clean 67 call (omega arith) small
 event_clean (X call) small = named_clean 88 call (omega arith) small
+event_clean (R call) small = named_clean 82 call (omega arith) small
 event_clean G small = All-cons (λ b. 32 ≤ b) 71 [] (omega arith) (All-nil (λ b. 32 ≤ b))
 
 is_number : (call : ℕ) → call < 2 ^ 32 → IsNumber (decimal call) call
@@ -96,6 +97,7 @@ written_is (A call) small = (decimal call, refl, is_number call small)
 written_is (M call) small = (decimal call, refl, is_number call small)
 written_is (C call) small = (decimal call, refl, is_number call small)
 written_is (X call) small = (decimal call, refl, is_number call small)
+written_is (R call) small = (decimal call, refl, is_number call small)
 written_is G small = refl
 
 -- what is written reads back

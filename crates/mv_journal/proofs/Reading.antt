@@ -5,7 +5,7 @@ use Rattle.std.specs.Prelude.{if◌then◌else◌, ◌==◌, ◌↔◌}
 use Rattle.std.specs.Option.{option_and_then}
 use Rattle.std.proofs.lemmas.Bool.{cases_Bool, eqb-true}
 use Rattle.mv_journal.specs.declared.event.Event.{Event}
-use Rattle.mv_journal.specs.declared.event.Event.TheVariants.{B, S, A, M, C, X, G}
+use Rattle.mv_journal.specs.declared.event.Event.TheVariants.{B, S, A, M, C, X, R, G}
 use Rattle.mv_journal.specs.Lines.{IsNumber, IsEventLine, AreEventLines, IsFirstBad}
 use Rattle.mv_journal.specs.Reading.{number_in, named, event_in}
 use Rattle.mv_journal.proofs.Numbers.{number_is, number_found}
@@ -17,16 +17,17 @@ found line (A n) h = rw (h.1, number_found h.0 n h.2) refl
 found line (M n) h = rw (h.1, number_found h.0 n h.2) refl
 found line (C n) h = rw (h.1, number_found h.0 n h.2) refl
 found line (X n) h = rw (h.1, number_found h.0 n h.2) refl
+found line (R n) h = rw (h.1, number_found h.0 n h.2) refl
 found line G h = rw h refl
 
-chosen : (R : Type 0) (l c : ℕ) (made e : Event) (rest : Option Event) → (if l == c then Some made else rest) ≡ Some e → (l ≡ c → made ≡ e → R) → (rest ≡ Some e → R) → R
-chosen R l c made e rest h f g = elim (cases_Bool (l == c)) [
+chosen : (Goal : Type 0) (l c : ℕ) (made e : Event) (rest : Option Event) → (if l == c then Some made else rest) ≡ Some e → (l ≡ c → made ≡ e → Goal) → (rest ≡ Some e → Goal) → Goal
+chosen Goal l c made e rest h f g = elim (cases_Bool (l == c)) [
   | inl t ↦ let k : Some made ≡ Some e = rw t at h in f (eqb-true l c t) cc
   | inr n ↦ g (rw n at h)
 ]
 
-no_more : (R : Type 0) (e : Event) → None ≡ Some e → R
-no_more R e h = cc
+no_more : (Goal : Type 0) (e : Event) → None ≡ Some e → Goal
+no_more Goal e h = cc
 
 behind : (l c : ℕ) (ds : List ℕ) → l ≡ c → l ∷ 32 ∷ ds ≡ c ∷ 32 ∷ ds
 behind l c ds at = ap (λ x. x ∷ 32 ∷ ds) at
@@ -38,7 +39,8 @@ by_letter l n ds e is h =
     chosen (IsEventLine (l ∷ 32 ∷ ds) e) l 65 (A n) e _ h (λ at same. subst (λ x. IsEventLine (l ∷ 32 ∷ ds) x) same (ds, behind l 65 ds at, is)) (λ h.
     chosen (IsEventLine (l ∷ 32 ∷ ds) e) l 77 (M n) e _ h (λ at same. subst (λ x. IsEventLine (l ∷ 32 ∷ ds) x) same (ds, behind l 77 ds at, is)) (λ h.
     chosen (IsEventLine (l ∷ 32 ∷ ds) e) l 67 (C n) e _ h (λ at same. subst (λ x. IsEventLine (l ∷ 32 ∷ ds) x) same (ds, behind l 67 ds at, is)) (λ h.
-    chosen (IsEventLine (l ∷ 32 ∷ ds) e) l 88 (X n) e _ h (λ at same. subst (λ x. IsEventLine (l ∷ 32 ∷ ds) x) same (ds, behind l 88 ds at, is)) (no_more (IsEventLine (l ∷ 32 ∷ ds) e) e))))))
+    chosen (IsEventLine (l ∷ 32 ∷ ds) e) l 88 (X n) e _ h (λ at same. subst (λ x. IsEventLine (l ∷ 32 ∷ ds) x) same (ds, behind l 88 ds at, is)) (λ h.
+    chosen (IsEventLine (l ∷ 32 ∷ ds) e) l 82 (R n) e _ h (λ at same. subst (λ x. IsEventLine (l ∷ 32 ∷ ds) x) same (ds, behind l 82 ds at, is)) (no_more (IsEventLine (l ∷ 32 ∷ ds) e) e)))))))
 
 named_is : (l : ℕ) (ds : List ℕ) (e : Event) (m : Option ℕ) → number_in ds ≡ m → option_and_then (named l) m ≡ Some e → IsEventLine (l ∷ 32 ∷ ds) e
 named_is l ds e None m h = cc

@@ -3,7 +3,7 @@
 use Rattle.std.specs.Prelude.{◌≡◌, ◌+◌, ◌^◌, ◌<◌, ℕ, List, [], ◌∷◌, ◌++◌, length, codes}
 use Rattle.std.specs.Str.Parse.{IsNumeral, digits_value}
 use Rattle.mv_journal.specs.declared.event.Event.{Event}
-use Rattle.mv_journal.specs.declared.event.Event.TheVariants.{B, S, A, M, C, X, G}
+use Rattle.mv_journal.specs.declared.event.Event.TheVariants.{B, S, A, M, C, X, R, G}
 use Rattle.mv_journal.specs.declared.fault.LineFault.{LineFault}
 use Rattle.mv_journal.specs.declared.fault.LineFault.TheVariants.{Line, NoMemory}
 
@@ -23,6 +23,7 @@ IsEventLine line (A call) = IsNamed (codes "A ") call line
 IsEventLine line (M call) = IsNamed (codes "M ") call line
 IsEventLine line (C call) = IsNamed (codes "C ") call line
 IsEventLine line (X call) = IsNamed (codes "X ") call line
+IsEventLine line (R call) = IsNamed (codes "R ") call line
 IsEventLine line G = line ≡ codes "G"
 
 -- each line is the event at its place

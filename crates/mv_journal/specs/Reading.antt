@@ -4,7 +4,7 @@ use Rattle.std.specs.Option.{option_and_then}
 use Rattle.std.specs.Str.{all_ascii_digits}
 use Rattle.std.specs.Str.Parse.{digits_value}
 use Rattle.mv_journal.specs.declared.event.Event.{Event}
-use Rattle.mv_journal.specs.declared.event.Event.TheVariants.{B, S, A, M, C, X, G}
+use Rattle.mv_journal.specs.declared.event.Event.TheVariants.{B, S, A, M, C, X, R, G}
 
 -- decimal digits, at least one, whose number fits in 32 bits
 abbrev pub is_number : List ℕ → Bool
@@ -21,7 +21,8 @@ named letter call =
     else (if letter == 65 then Some (A call)
     else (if letter == 77 then Some (M call)
     else (if letter == 67 then Some (C call)
-    else (if letter == 88 then Some (X call) else None)))))
+    else (if letter == 88 then Some (X call)
+    else (if letter == 82 then Some (R call) else None))))))
 
 abbrev pub event_in : List ℕ → Option Event
 event_in [] = None

@@ -22,6 +22,8 @@ pub enum Event {
     C(u32),
     /// A call is repaired and commits in one step.
     X(u32),
+    /// A call of a READ ONLY procedure is answered at its start.
+    R(u32),
     /// Old versions are collected.
     G,
 }
@@ -40,6 +42,7 @@ pub fn write_event(event: Event, text: &mut List<u8>) -> Result<(), NoMemory>
         Event::M(call) => write_named(b'M', call, text),
         Event::C(call) => write_named(b'C', call, text),
         Event::X(call) => write_named(b'X', call, text),
+        Event::R(call) => write_named(b'R', call, text),
         Event::G => text.push(b'G'),
     }
 }

@@ -78,6 +78,7 @@ fn named(letter: u8, call: u32) -> Option<Event>
         b'M' => Some(Event::M(call)),
         b'C' => Some(Event::C(call)),
         b'X' => Some(Event::X(call)),
+        b'R' => Some(Event::R(call)),
         _ => None,
     }
 }

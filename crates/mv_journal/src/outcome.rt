@@ -25,14 +25,16 @@ pub struct Round {
     pub mark: Mark,
 }
 
-/// A commit: the call that committed, and its rounds.
+/// A call in its place in the history, and its rounds. A call that has committed has the number of its commit. One that was
+/// answered has none, and stands at the start of its last round: after the commits up to it, and before the next one.
 #[derive(Drop)]
 pub struct HistoryLine {
+    pub commit: Option<u32>,
     pub call: u32,
     pub rounds: List<Round>,
 }
 
-/// The outcome of a run: the replies by call number, the commits in their order, the events, and the final tables.
+/// The outcome of a run: the replies by call number, the calls in the order of the history, the events, and the final tables.
 #[derive(Drop)]
 pub struct Outcome {
     pub replies: List<Reply>,

@@ -1,8 +1,11 @@
 pub mod Collections
 pub mod Lows
+pub mod Placing
 pub mod Repairs
 pub mod Rounds
 pub mod Serial
 pub mod Serializing
 pub mod Showing
+pub mod Starting
 pub mod Turns
+pub mod Turned

@@ -5,7 +5,7 @@ use Rattle.std.proofs.Math.Nat.{le-max_left, le-max_right, max-le, min-le_right}
 use Rattle.std.proofs.lemmas.Bool.{both_ways, ltb-true}
 use Rattle.std.proofs.lemmas.Option.{same_Some}
 use Rattle.mv_journal.specs.declared.event.Event.{Event}
-use Rattle.mv_journal.specs.declared.event.Event.TheVariants.{B, S, A, M, C, X, G}
+use Rattle.mv_journal.specs.declared.event.Event.TheVariants.{B, S, A, M, C, X, R, G}
 use Rattle.mv_journal.specs.declared.outcome.Mark.TheVariants.{Plain, Exclusive, Moved}
 use Rattle.mv_lawful.specs.Work.{Work}
 use Rattle.mv_lawful.specs.Lawful.{Live, Course, beginning, change_live, with_call, begin, again, finish, commit, oldest, floor, next_low, after, reach, course_of, is_stale}
@@ -22,6 +22,7 @@ low_never_falls w s (A c) = at_most s.low
 low_never_falls w s (M c) = at_most s.low
 low_never_falls w s (C c) = at_most s.low
 low_never_falls w s (X c) = at_most s.low
+low_never_falls w s (R c) = at_most s.low
 low_never_falls w s G = le-max_left s.low (max (oldest (length s.order) s.calls) (floor (length s.order) w.options.horizon))
 
 -- Live calls and low
@@ -139,6 +140,7 @@ fresh_after w s (A c) f = record { low = f.low; all = hold_changed _ s.low s.cal
 fresh_after w s (M c) f = record { low = f.low; all = hold_changed _ s.low s.calls c (again (length s.order) Moved) f.all (λ l h. fresh_start w s (again (length s.order) Moved l) f refl) }
 fresh_after w s (C c) f = fresh_commit w s c finish f (λ l. refl)
 fresh_after w s (X c) f = fresh_commit w s c (λ l. finish (again (length s.order) Exclusive l)) f (λ l. refl)
+fresh_after w s (R c) f = record { low = f.low; all = hold_changed _ s.low s.calls c finish f.all (λ l h d. absurd (both_ways true d refl)) }
 fresh_after w s G f = fresh_low w s f
 
 fresh_reach : (w : Work) (s : Course) (es : List Event) → Fresh w s → Fresh w (reach w s es)

@@ -5,11 +5,11 @@ use Rattle.std.specs.List.{filter}
 use Rattle.std.proofs.lemmas.Bool.Decides.{eqb_tells}
 use Rattle.std.proofs.lemmas.Option.{same_Some}
 use Rattle.mv_journal.specs.declared.event.Event.{Event}
-use Rattle.mv_journal.specs.declared.event.Event.TheVariants.{B, S, A, M, C, X, G}
+use Rattle.mv_journal.specs.declared.event.Event.TheVariants.{B, S, A, M, C, X, R, G}
 use Rattle.mv_journal.specs.declared.outcome.Mark.{Mark}
 use Rattle.mv_journal.specs.declared.outcome.Mark.TheVariants.{Plain, Exclusive, Moved}
 use Rattle.mv_lawful.specs.declared.fault.Fault.{Fault}
-use Rattle.mv_lawful.specs.declared.fault.Fault.TheVariants.{Order, Stale, Idle, Rounds}
+use Rattle.mv_lawful.specs.declared.fault.Fault.TheVariants.{Order, Kind, Stale, Idle, Rounds}
 use Rattle.mv_lawful.specs.declared.fault.Wrong.{Wrong}
 use Rattle.mv_lawful.specs.Work.{Work}
 use Rattle.mv_lawful.specs.Lawful.{Live, Course, beginning, change_live, begin, again, finish, is_stale, is_hit, has_round, unless, of_live, refusal, after, or_refused, wrong_from, Lawful}
@@ -65,21 +65,22 @@ get_set (x ∷ ls) (suc c) l m is = get_set ls c l m is
 one_taken : (w : Work) (s : Course) (c : ℕ) → refusal w s (A c) ≡ None → left w.options.rounds (slice_get (after w s (A c)).calls c) + 1 ≤ left w.options.rounds (slice_get s.calls c)
 one_taken w s c h = by (slice_get s.calls c) refl h
   where
-    allowed : (a b d e : Bool) → unless a Order (unless b Stale (unless d Idle (unless e Rounds None))) ≡ None → e ≡ true
-    allowed true true true true h = refl
-    allowed true true true false h = cc
-    allowed true true false e h = cc
-    allowed true false d e h = cc
-    allowed false b d e h = cc
+    allowed : (a k b d e : Bool) → unless a Order (unless k Kind (unless b Stale (unless d Idle (unless e Rounds None)))) ≡ None → e ≡ true
+    allowed true true true true true h = refl
+    allowed true true true true false h = cc
+    allowed true true true false e h = cc
+    allowed true true false d e h = cc
+    allowed true false b d e h = cc
+    allowed false k b d e h = cc
 
     less : (l : Live) → nat_lt (length l.turns - 1) w.options.rounds ≡ true → length l.turns - 1 < w.options.rounds
     less l h = grind (arith, h)
 
-    by : (o : Option Live) → slice_get s.calls c ≡ o → of_live o (λ l. unless (not (is_stale s l)) Stale (unless (is_hit w s c l) Idle (unless (has_round w l) Rounds None))) ≡ None
+    by : (o : Option Live) → slice_get s.calls c ≡ o → of_live o (λ l. unless (not (w.read_only c)) Kind (unless (not (is_stale s l)) Stale (unless (is_hit w s c l) Idle (unless (has_round w l) Rounds None)))) ≡ None
         → left w.options.rounds (slice_get (change_live o (again (length s.order) Plain) s.calls c) c) + 1 ≤ left w.options.rounds o
     by None e g = cc
     by (Some l) e g =
-        let room = less l (allowed (not l.done) (not (is_stale s l)) (is_hit w s c l) (has_round w l) g) in
+        let room = less l (allowed (not l.done) (not (w.read_only c)) (not (is_stale s l)) (is_hit w s c l) (has_round w l) g) in
         let more = more_turns (length s.order) Plain l in
         let it = get_set s.calls c l (again (length s.order) Plain l) e in
         subst (λ o. left w.options.rounds o + 1 ≤ (w.options.rounds + 1) - length l.turns) (sym it) (omega (arith, room, more))
@@ -92,6 +93,7 @@ no_more w s (M d) c = left_changed s.calls d c w.options.rounds (again (length s
 no_more w s (C d) c = left_changed s.calls d c w.options.rounds finish (λ l. omega arith)
 no_more w s (X d) c =
     left_changed s.calls d c w.options.rounds (λ l. finish (again (length s.order) Exclusive l)) (again_grows (length s.order) Exclusive)
+no_more w s (R d) c = left_changed s.calls d c w.options.rounds finish (λ l. omega arith)
 no_more w s G c = omega arith
 
 repairs_from : (w : Work) (n : ℕ) (s : Course) (es : List Event) (c : ℕ) → wrong_from w n s es ≡ None → length (filter (is_repair c) es) ≤ left w.options.rounds (slice_get s.calls c)
@@ -125,6 +127,7 @@ repairs_from w n s (e ∷ es) c h =
     by (M d) free rest less = other (M d) refl rest less
     by (C d) free rest less = other (C d) refl rest less
     by (X d) free rest less = other (X d) refl rest less
+    by (R d) free rest less = other (R d) refl rest less
     by G free rest less = other G refl rest less
 
 pub repairs_are_few : (w : Work) (es : List Event) → Lawful w es → (c : ℕ) → length (filter (is_repair c) es) ≤ w.options.rounds

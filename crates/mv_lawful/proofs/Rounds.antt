@@ -7,11 +7,11 @@ use Rattle.std.proofs.lemmas.Bool.Decides.{eqb_tells}
 use Rattle.std.proofs.lemmas.List.Elements.{filter-append}
 use Rattle.std.proofs.lemmas.Bool.{eqb-true, eq-eqb, both_ways}
 use Rattle.mv_journal.specs.declared.event.Event.{Event}
-use Rattle.mv_journal.specs.declared.event.Event.TheVariants.{B, S, A, M, C, X, G}
+use Rattle.mv_journal.specs.declared.event.Event.TheVariants.{B, S, A, M, C, X, R, G}
 use Rattle.mv_journal.specs.declared.outcome.Mark.{Mark}
 use Rattle.mv_journal.specs.declared.outcome.Mark.TheVariants.{Plain, Exclusive, Moved}
 use Rattle.mv_lawful.specs.declared.fault.Fault.{Fault}
-use Rattle.mv_lawful.specs.declared.fault.Fault.TheVariants.{Order, Stale, Idle, Rounds}
+use Rattle.mv_lawful.specs.declared.fault.Fault.TheVariants.{Order, Kind, Stale, Idle, Rounds}
 use Rattle.mv_lawful.specs.Work.{Work}
 use Rattle.mv_lawful.specs.Lawful.{Live, Course, beginning, change_live, begin, again, finish, used, is_stale, is_hit, has_round, unless, of_live, refusal, after, reach, course_of, AllAllowed}
 use Rattle.mv_lawful.specs.Rounds.{is_round, IsPast, MayMove, IsBounded}
@@ -83,6 +83,7 @@ counts_kept w s (A d) c k other h = counts_apart s.calls d c k (again (length s.
 counts_kept w s (M d) c k other h = counts_apart s.calls d c k (again (length s.order) Moved) other h
 counts_kept w s (C d) c k other h = counts_changed s.calls d c k finish (λ l g e. absurd (both_ways true e refl)) h
 counts_kept w s (X d) c k other h = counts_changed s.calls d c k (λ l. finish (again (length s.order) Exclusive l)) (λ l g e. absurd (both_ways true e refl)) h
+counts_kept w s (R d) c k other h = counts_changed s.calls d c k finish (λ l g e. absurd (both_ways true e refl)) h
 counts_kept w s G c k other h = h
 
 -- an event of a call that is allowed is of a call that has begun
@@ -97,7 +98,7 @@ counts_more w s (A d) c k is free h = by (eqb-true d c is)
     by : d ≡ c → Counts (slice_get (after w s (A d)).calls c) (k + 1)
     by same =
         subst (λ x. Counts (slice_get (after w s (A x)).calls c) (k + 1)) (sym same)
-        (counts_again s.calls c (length s.order) k Plain (begun (slice_get s.calls c) (λ l. unless (not (is_stale s l)) Stale (unless (is_hit w s c l) Idle (unless (has_round w l) Rounds None))) (subst (λ x. refusal w s (A x) ≡ None) same free)) h)
+        (counts_again s.calls c (length s.order) k Plain (begun (slice_get s.calls c) (λ l. unless (not (w.read_only c)) Kind (unless (not (is_stale s l)) Stale (unless (is_hit w s c l) Idle (unless (has_round w l) Rounds None)))) (subst (λ x. refusal w s (A x) ≡ None) same free)) h)
 counts_more w s (M d) c k is free h = by (eqb-true d c is)
   where
     by : d ≡ c → Counts (slice_get (after w s (M d)).calls c) (k + 1)
@@ -108,6 +109,7 @@ counts_more w s (B d) c k is free h = absurd (both_ways false refl is)
 counts_more w s (S d) c k is free h = absurd (both_ways false refl is)
 counts_more w s (C d) c k is free h = absurd (both_ways false refl is)
 counts_more w s (X d) c k is free h = absurd (both_ways false refl is)
+counts_more w s (R d) c k is free h = absurd (both_ways false refl is)
 counts_more w s G c k is free h = absurd (both_ways false refl is)
 
 counts_reach : (w : Work) (s : Course) (es : List Event) (c k : ℕ) → AllAllowed w s es → Counts (slice_get s.calls c) k → Counts (slice_get (reach w s es).calls c) (k + length (filter (is_round c) es))
@@ -163,6 +165,7 @@ bounded_other w es e other b = bounded_end w es e (λ c is. absurd (both_ways (i
     may (M d) other = absurd (both_ways (d == d) (other d) (eq-eqb d d refl))
     may (C d) other = tt
     may (X d) other = tt
+    may (R d) other = tt
     may G other = tt
 
 -- a round of a live call that has one left
@@ -179,20 +182,21 @@ bounded_repair w es c free allowed b = by (slice_get s.calls c) refl allowed
     s : Course
     s = course_of w es
 
-    parts : (l : Live) (d a h r : Bool) → l.done ≡ d → has_round w l ≡ r → unless (not d) Order (unless a Stale (unless h Idle (unless r Rounds None))) ≡ None → (d ≡ false) × (r ≡ true)
-    parts l false true true true e g k = (refl, refl)
-    parts l false true true false e g k = cc
-    parts l false true false r e g k = cc
-    parts l false false h r e g k = cc
-    parts l true a h r e g k = cc
+    parts : (l : Live) (d b a h r : Bool) → l.done ≡ d → has_round w l ≡ r → unless (not d) Order (unless b Kind (unless a Stale (unless h Idle (unless r Rounds None)))) ≡ None → (d ≡ false) × (r ≡ true)
+    parts l false true true true true e g k = (refl, refl)
+    parts l false true true true false e g k = cc
+    parts l false true true false r e g k = cc
+    parts l false true false h r e g k = cc
+    parts l false false a h r e g k = cc
+    parts l true b a h r e g k = cc
 
     less : (l : Live) → nat_lt (used l) w.options.rounds ≡ true → used l ≤ w.options.rounds
     less l h = grind (arith, h)
 
-    by : (o : Option Live) → slice_get s.calls c ≡ o → of_live o (λ l. unless (not (is_stale s l)) Stale (unless (is_hit w s c l) Idle (unless (has_round w l) Rounds None))) ≡ None → IsBounded w (es ++ A c ∷ [])
+    by : (o : Option Live) → slice_get s.calls c ≡ o → of_live o (λ l. unless (not (w.read_only c)) Kind (unless (not (is_stale s l)) Stale (unless (is_hit w s c l) Idle (unless (has_round w l) Rounds None)))) ≡ None → IsBounded w (es ++ A c ∷ [])
     by None at k = cc
     by (Some l) at k =
-        let both = parts l l.done (not (is_stale s l)) (is_hit w s c l) (has_round w l) refl refl k in
+        let both = parts l l.done (not (w.read_only c)) (not (is_stale s l)) (is_hit w s c l) (has_round w l) refl refl k in
         bounded_end w es (A c) (left_of w es c l free at both.0 (less l both.1)) tt b
 
 -- a move of a stale call that has a round left

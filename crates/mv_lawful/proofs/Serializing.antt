@@ -1,48 +1,33 @@
 -- The outcome of a lawful journal is serializable.
-use Rattle.std.proofs.Common.{◌≡◌, ◌≤◌, ◌<◌, inl, inr, ℕ, zero, suc, ◌+◌, Bool, true, false, not, cond, List, [], ◌∷◌, ◌++◌, Option, Some, None, map, length, slice_set, refl, sym, ap, subst, ◌∙◌, arith, length-append, append_assoc}
+use Rattle.std.proofs.Common.{◌≡◌, ◌≤◌, ◌<◌, inl, inr, ℕ, zero, suc, ◌+◌, Bool, true, false, not, cond, if◌then◌else◌, List, [], ◌∷◌, ◌++◌, Option, Some, None, map, length, take, slice_set, refl, sym, ap, subst, ◌∙◌, arith, length-append, append_assoc}
 use Rattle.std.specs.Prelude.{◌==◌, ◌||◌, ◌&&◌, nat_lt, slice_get, All, Contains}
 use Rattle.std.specs.List.{filter, position, position_or_len}
-use Rattle.std.specs.Option.{option_map}
+use Rattle.std.specs.Option.{is_some, option_map}
 use Rattle.std.proofs.lemmas.Bool.{eqb-true, both_ways, eq-eqb, cases_lt}
-use Rattle.std.proofs.lemmas.Grind.{flat_map-append}
 use Rattle.std.proofs.lemmas.List.{length-map}
 use Rattle.std.proofs.lemmas.List.Elements.{All-nil, All-cons}
 use Rattle.std.proofs.lemmas.Option.{same_Some, slice_get-map, slice_get_within, get_or_from_slice_get}
 use Rattle.mv_values.specs.Counts.{first_numbers}
 use Rattle.mv_journal.specs.declared.event.Event.{Event}
-use Rattle.mv_journal.specs.declared.event.Event.TheVariants.{B, S, A, M, C, X, G}
+use Rattle.mv_journal.specs.declared.event.Event.TheVariants.{B, S, A, M, C, X, R, G}
 use Rattle.mv_journal.specs.declared.outcome.Mark.{Mark}
 use Rattle.mv_journal.specs.declared.outcome.Mark.TheVariants.{Plain, Exclusive, Moved}
 use Rattle.mv_journal.specs.declared.outcome.Round.{Round}
 use Rattle.mv_journal.specs.declared.outcome.HistoryLine.{HistoryLine}
-use Rattle.mv_lawful.specs.declared.fault.Fault.TheVariants.{Order}
-use Rattle.mv_lawful.specs.Work.{Work, table_at}
-use Rattle.mv_lawful.specs.Lawful.{Turn, Live, Course, beginning, change_live, begin, again, finish, unless, refusal, after, reach, course_of, wrong_from, AllAllowed}
-use Rattle.mv_lawful.specs.Rounds.{unless_moved, whole_run, later_run, later_rounds, rounds_of, round}
-use Rattle.mv_lawful.specs.Outcomes.{reply_in, reply_after, turns_of, history_line}
+use Rattle.mv_lawful.specs.declared.fault.Fault.{Fault}
+use Rattle.mv_lawful.specs.declared.fault.Fault.TheVariants.{Order, Kind, Stale}
+use Rattle.mv_values.specs.Tables.{Tables}
+use Rattle.mv_lawful.specs.Work.{Work, tables_after, table_at}
+use Rattle.mv_lawful.specs.Lawful.{Turn, Live, Course, beginning, change_live, begin, again, finish, is_stale, unless, of_live, refusal, after, reach, course_of, wrong_from, AllAllowed}
+use Rattle.mv_lawful.specs.Places.{Place, start_in, places, calls_at, standing}
+use Rattle.mv_lawful.specs.Rounds.{unless_moved, whole_run, later_run, later_rounds, rounds_of, round, last_start}
+use Rattle.mv_lawful.specs.Outcomes.{commits_before, reply_in, reply_after, turns_of, history_line}
 use Rattle.mv_lawful.specs.Laws.{IsSerial}
-use Rattle.mv_lawful.specs.Serializable.{committed_by, begins_in, commits_in, order_of, start_of, LawfulIsSerializable}
+use Rattle.mv_lawful.specs.Serializable.{begins_in, commits_in, ends_in, order_of, commits_of, commits_to, IsPlaced, start_of, LawfulIsSerializable}
+use Rattle.mv_lawful.proofs.Placing.{is_commit, commits_to_place, StandsBy, place_at, commits_are, readers, tables_standing, all_commits, IsPlaceOf, place_of, ended_at, standing_below, start_at, serial_of}
 use Rattle.mv_lawful.proofs.Repairs.{first_allowed}
-use Rattle.mv_lawful.proofs.Serial.{stands, stands_at, contains_it, Once, StartBy, OrderlyAt, Ended, orderly_after, ended_from, all_done, serial_of, at_beginning, next_below}
+use Rattle.mv_lawful.proofs.Serial.{stands, stands_same, stands_at, contains_it, Once, StartBy, last_turn, OrderlyAt, Ended, orderly_after, ended_from, all_done, at_beginning, next_below}
 use Rattle.mv_lawful.proofs.Turns.{length_numbers, at_end}
-
--- Each call once
-
-none_of : (c : ℕ) (cs : List ℕ) → stands c cs ≡ false → length (filter (λ d. d == c) cs) ≡ 0
-none_of c [] h = refl
-none_of c (d ∷ cs) h = by (d == c) h (none_of c cs)
-  where
-    by : (b : Bool) → (b || stands c cs) ≡ false → (stands c cs ≡ false → length (filter (λ x. x == c) cs) ≡ 0) → length (cond b (d ∷ filter (λ x. x == c) cs) (filter (λ x. x == c) cs)) ≡ 0
-    by true k go = cc
-    by false k go = go k
-
-one_of : (c : ℕ) (cs : List ℕ) → Once cs → stands c cs ≡ true → length (filter (λ d. d == c) cs) ≡ 1
-one_of c [] o h = cc
-one_of c (d ∷ cs) o h = by (d == c) refl h (one_of c cs o.1)
-  where
-    by : (b : Bool) → (d == c) ≡ b → (b || stands c cs) ≡ true → (stands c cs ≡ true → length (filter (λ x. x == c) cs) ≡ 1) → length (cond b (d ∷ filter (λ x. x == c) cs) (filter (λ x. x == c) cs)) ≡ 1
-    by true e k go = ap suc (none_of c cs (subst (λ x. stands x cs ≡ false) (eqb-true d c e) o.0))
-    by false e k go = go k
 
 -- The place of a call
 
@@ -77,7 +62,7 @@ number_end [] n (suc k) h = absurd (omega (arith, h))
 number_end (c ∷ cs) n zero h = absurd (omega (arith, h))
 number_end (c ∷ cs) n (suc k) h = number_end cs n k (omega (arith, h))
 
-number_at : (n c : ℕ) → c < n → slice_get (first_numbers n) c ≡ Some c
+pub number_at : (n c : ℕ) → c < n → slice_get (first_numbers n) c ≡ Some c
 number_at zero c lt = absurd (omega (arith, lt))
 number_at (suc n) c lt =
     let long = length_numbers n in
@@ -86,31 +71,58 @@ number_at (suc n) c lt =
       | inr past ↦ (let same : c ≡ n = omega (arith, past, lt) in subst (λ k. slice_get (first_numbers n ++ n ∷ []) k ≡ Some k) (sym same) (number_end (first_numbers n) n n long))
     ]
 
-reply_at : (w : Work) (order : List ℕ) (k c : ℕ) → Once order → c < w.count → slice_get order k ≡ Some c → slice_get (map (reply_in w order) (first_numbers w.count)) c ≡ Some (w.run c (table_at w order k)).reply
-reply_at w order k c once lt is =
-    slice_get-map (reply_in w order) (first_numbers w.count) c
-    ∙ (ap (option_map (reply_in w order)) (number_at w.count c lt) ∙ ap (λ (o : Option ℕ). Some (reply_after w order c o)) (position_is order c k once is))
+-- the reply of a call after so many commits
+reply_at : (w : Work) (s : Course) (j c : ℕ) → c < w.count → commits_before s.order s.answered (start_in s.calls c) c ≡ Some j
+    → slice_get (map (reply_in w s) (first_numbers w.count)) c ≡ Some (w.run c (table_at w s.order j)).reply
+reply_at w s j c lt is =
+    slice_get-map (reply_in w s) (first_numbers w.count) c
+    ∙ (ap (option_map (reply_in w s)) (number_at w.count c lt) ∙ ap (λ (o : Option ℕ). Some (reply_after w s.order c o)) is)
+
+-- with so many commits before it a call is at its place
+before_place : (w : Work) (s : Course) (j : ℕ) (o : Option ℕ) (c : ℕ) → OrderlyAt w s → StandsBy s 0 s.order j o c → commits_before s.order s.answered (start_in s.calls c) c ≡ Some j
+before_place w s j (Some number) c o h =
+    ap (λ b. if b then Some (start_in s.calls c) else position (λ d. d == c) s.order) (o.apart c (stands_at s.order j c h.1)) ∙ position_is s.order c j o.once h.1
+before_place w s j None c o h =
+    ap (λ b. if b then Some (start_in s.calls c) else position (λ d. d == c) s.order) h.0 ∙ ap Some (let e = h.1 in omega (arith, e))
 
 -- The history
 
-calls_of : (w : Work) (s : Course) (order : List ℕ) → order_of (map (history_line w s) order) ≡ order
+calls_of : (w : Work) (s : Course) (ps : List Place) → order_of (map (history_line w s) ps) ≡ calls_at ps
 calls_of w s [] = refl
-calls_of w s (c ∷ order) = ap (λ cs. c ∷ cs) (calls_of w s order)
+calls_of w s (p ∷ ps) = ap (λ cs. p.call ∷ cs) (calls_of w s ps)
+
+-- the lines of commits are those of their places
+commits_in_lines : (w : Work) (s : Course) (ps : List Place) → commits_of (map (history_line w s) ps) ≡ map (history_line w s) (filter is_commit ps)
+commits_in_lines w s [] = refl
+commits_in_lines w s (p ∷ ps) = by (is_some p.commit) (commits_in_lines w s ps)
+  where
+    by : (b : Bool) → commits_of (map (history_line w s) ps) ≡ map (history_line w s) (filter is_commit ps)
+        → cond b (history_line w s p ∷ commits_of (map (history_line w s) ps)) (commits_of (map (history_line w s) ps)) ≡ map (history_line w s) (cond b (p ∷ filter is_commit ps) (filter is_commit ps))
+    by true h = ap (λ (ls : List HistoryLine). history_line w s p ∷ ls) h
+    by false h = h
+
+taken_lines : (w : Work) (s : Course) (k : ℕ) (ps : List Place) → take k (map (history_line w s) ps) ≡ map (history_line w s) (take k ps)
+taken_lines w s zero ps = refl
+taken_lines w s (suc k) [] = refl
+taken_lines w s (suc k) (p ∷ ps) = ap (λ (ls : List HistoryLine). history_line w s p ∷ ls) (taken_lines w s k ps)
+
+as_many_before : (w : Work) (s : Course) (k : ℕ) (ps : List Place) → commits_to k (map (history_line w s) ps) ≡ commits_to_place k ps
+as_many_before w s k ps =
+    ap (λ (ls : List HistoryLine). length (commits_of ls)) (taken_lines w s k ps)
+    ∙ (ap (λ (ls : List HistoryLine). length ls) (commits_in_lines w s (take k ps)) ∙ length-map (filter is_commit (take k ps)) (history_line w s))
 
 -- the line at a place is that of the call there
-record IsLineAt (w : Work) (s : Course) (order : List ℕ) (k : ℕ) (commit : HistoryLine) : Type 0 where
-  call : slice_get order k ≡ Some commit.call
-  line : history_line w s commit.call ≡ commit
+record IsLineAt (w : Work) (s : Course) (ps : List Place) (k : ℕ) (found : HistoryLine) : Type 0 where
+  place : Place
+  is : slice_get ps k ≡ Some place
+  line : history_line w s place ≡ found
 
-line_at : (w : Work) (s : Course) (order : List ℕ) (k : ℕ) (commit : HistoryLine) → slice_get (map (history_line w s) order) k ≡ Some commit → IsLineAt w s order k commit
-line_at w s order k commit h = by (slice_get order k) refl (sym (slice_get-map (history_line w s) order k) ∙ h)
+line_at : (w : Work) (s : Course) (ps : List Place) (k : ℕ) (line : HistoryLine) → slice_get (map (history_line w s) ps) k ≡ Some line → IsLineAt w s ps k line
+line_at w s ps k line h = by (slice_get ps k) refl (sym (slice_get-map (history_line w s) ps k) ∙ h)
   where
-    by : (o : Option ℕ) → slice_get order k ≡ o → option_map (history_line w s) o ≡ Some commit → IsLineAt w s order k commit
+    by : (o : Option Place) → slice_get ps k ≡ o → option_map (history_line w s) o ≡ Some line → IsLineAt w s ps k line
     by None at is = cc
-    by (Some c) at is =
-        let same : history_line w s c ≡ commit = same_Some (history_line w s c) commit is in
-        let call : c ≡ commit.call = ap (λ (l : HistoryLine). l.call) same in
-        record { call = at ∙ ap Some call; line = subst (λ d. history_line w s d ≡ commit) call same }
+    by (Some p) at is = record { place = p; is = at; line = same_Some (history_line w s p) line is }
 
 -- Events one after another
 
@@ -146,7 +158,57 @@ order_is w s (A c ∷ es) = order_is w (after w s (A c)) es
 order_is w s (M c ∷ es) = order_is w (after w s (M c)) es
 order_is w s (C c ∷ es) = order_is w (after w s (C c)) es ∙ append_assoc s.order (c ∷ []) (commits_in es)
 order_is w s (X c ∷ es) = order_is w (after w s (X c)) es ∙ append_assoc s.order (c ∷ []) (commits_in es)
+order_is w s (R c ∷ es) = order_is w (after w s (R c)) es
 order_is w s (G ∷ es) = order_is w (after w s G) es
+
+-- Ends
+
+-- whether a call has committed or was answered
+abbrev is_ended : ℕ → Course → Bool
+is_ended c s = stands c s.answered || stands c s.order
+
+stands_more : (c d : ℕ) (cs : List ℕ) → stands c (cs ++ d ∷ []) ≡ (stands c cs || ((d == c) || false))
+stands_more c d [] = refl
+stands_more c d (x ∷ cs) = by (x == c) (stands_more c d cs)
+  where
+    by : (b : Bool) → stands c (cs ++ d ∷ []) ≡ (stands c cs || ((d == c) || false)) → (b || stands c (cs ++ d ∷ [])) ≡ ((b || stands c cs) || ((d == c) || false))
+    by true h = refl
+    by false h = h
+
+ended_by_commit : (a o x e : Bool) → ((a || (o || (x || false))) || e) ≡ ((a || o) || (x || e))
+ended_by_commit true o x e = refl
+ended_by_commit false true x e = refl
+ended_by_commit false false true e = refl
+ended_by_commit false false false e = refl
+
+ended_by_answer : (a o x e : Bool) → (((a || (x || false)) || o) || e) ≡ ((a || o) || (x || e))
+ended_by_answer true o x e = refl
+ended_by_answer false true true e = refl
+ended_by_answer false true false e = refl
+ended_by_answer false false true e = refl
+ended_by_answer false false false e = refl
+
+nothing_more : (b : Bool) → b ≡ (b || false)
+nothing_more true = refl
+nothing_more false = refl
+
+-- it has ended before the events, or ends by them
+ends_are : (w : Work) (s : Course) (es : List Event) (c : ℕ) → is_ended c (reach w s es) ≡ (is_ended c s || stands c (ends_in es))
+ends_are w s [] c = nothing_more (is_ended c s)
+ends_are w s (B d ∷ es) c = ends_are w (after w s (B d)) es c
+ends_are w s (S d ∷ es) c = ends_are w (after w s (S d)) es c
+ends_are w s (A d ∷ es) c = ends_are w (after w s (A d)) es c
+ends_are w s (M d ∷ es) c = ends_are w (after w s (M d)) es c
+ends_are w s (C d ∷ es) c =
+    ends_are w (after w s (C d)) es c
+    ∙ (ap (λ b. (stands c s.answered || b) || stands c (ends_in es)) (stands_more c d s.order) ∙ ended_by_commit (stands c s.answered) (stands c s.order) (d == c) (stands c (ends_in es)))
+ends_are w s (X d ∷ es) c =
+    ends_are w (after w s (X d)) es c
+    ∙ (ap (λ b. (stands c s.answered || b) || stands c (ends_in es)) (stands_more c d s.order) ∙ ended_by_commit (stands c s.answered) (stands c s.order) (d == c) (stands c (ends_in es)))
+ends_are w s (R d ∷ es) c =
+    ends_are w (after w s (R d)) es c
+    ∙ (ap (λ b. (b || stands c s.order) || stands c (ends_in es)) (stands_more c d s.answered) ∙ ended_by_answer (stands c s.answered) (stands c s.order) (d == c) (stands c (ends_in es)))
+ends_are w s (G ∷ es) c = ends_are w (after w s G) es c
 
 -- Begins
 
@@ -187,6 +249,7 @@ begins_are w s (A c ∷ es) h = ap (λ m. first_numbers m ++ begins_in es) (sym 
 begins_are w s (M c ∷ es) h = ap (λ m. first_numbers m ++ begins_in es) (sym (same_count s.calls c (again (length s.order) Moved))) ∙ begins_are w (after w s (M c)) es h.1
 begins_are w s (C c ∷ es) h = ap (λ m. first_numbers m ++ begins_in es) (sym (same_count s.calls c finish)) ∙ begins_are w (after w s (C c)) es h.1
 begins_are w s (X c ∷ es) h = ap (λ m. first_numbers m ++ begins_in es) (sym (same_count s.calls c (λ l. finish (again (length s.order) Exclusive l)))) ∙ begins_are w (after w s (X c)) es h.1
+begins_are w s (R c ∷ es) h = ap (λ m. first_numbers m ++ begins_in es) (sym (same_count s.calls c finish)) ∙ begins_are w (after w s (R c)) es h.1
 begins_are w s (G ∷ es) h = begins_are w (after w s G) es h.1
 
 -- at the end each call has begun
@@ -198,14 +261,6 @@ all_begun w s h =
     ]
 
 -- A begin and what comes after it
-
-stands_later : (c : ℕ) (cs ds : List ℕ) → stands c cs ≡ false → stands c (cs ++ ds) ≡ stands c ds
-stands_later c [] ds h = refl
-stands_later c (d ∷ cs) ds h = by (d == c) h (stands_later c cs ds)
-  where
-    by : (b : Bool) → (b || stands c cs) ≡ false → (stands c cs ≡ false → stands c (cs ++ ds) ≡ stands c ds) → (b || stands c (cs ++ ds)) ≡ stands c ds
-    by true k go = cc
-    by false k go = go k
 
 -- the first round of a call is a plain one after this many commits
 record BeganAt (n : ℕ) (ls : List Live) (c : ℕ) : Type 0 where
@@ -260,25 +315,29 @@ began_after w s (A d) n c b = began_changed n s.calls c d (again (length s.order
 began_after w s (M d) n c b = began_changed n s.calls c d (again (length s.order) Moved) (keeps_again (length s.order) Moved) b
 began_after w s (C d) n c b = began_changed n s.calls c d finish (λ l t ts is. (ts, is)) b
 began_after w s (X d) n c b = began_changed n s.calls c d (λ l. finish (again (length s.order) Exclusive l)) (keeps_again (length s.order) Exclusive) b
+began_after w s (R d) n c b = began_changed n s.calls c d finish (λ l t ts is. (ts, is)) b
 began_after w s G n c b = b
 
 began_reach : (w : Work) (s : Course) (es : List Event) (n c : ℕ) → BeganAt n s.calls c → BeganAt n (reach w s es).calls c
 began_reach w s [] n c b = b
 began_reach w s (e ∷ es) n c b = began_reach w (after w s e) es n c (began_after w s e n c b)
 
-start_is : (w : Work) (s : Course) (n c : ℕ) → BeganAt n s.calls c → start_of (history_line w s c).rounds ≡ Some n
+abbrev rounds_in : Work → Course → ℕ → List Round
+rounds_in w s c = rounds_of w s.order c (turns_of (slice_get s.calls c))
+
+start_is : (w : Work) (s : Course) (n c : ℕ) → BeganAt n s.calls c → start_of (rounds_in w s c) ≡ Some n
 start_is w s n c b =
     ap (λ (o : Option Live). start_of (rounds_of w s.order c (turns_of o))) b.is
     ∙ ap (λ (ts : List Turn). start_of (rounds_of w s.order c ts)) b.turns
 
--- the first start of a call, and its commit, by the events before and after its begin
+-- the first start of a call, and its end, by the events before and after its begin
 record IsBegun (w : Work) (before later : List Event) (c : ℕ) (s : Course) : Type 0 where
-  commit : Contains (commits_in later) c
-  start : start_of (history_line w s c).rounds ≡ Some (length (commits_in before))
+  end : Contains (ends_in later) c
+  start : start_of (rounds_in w s c) ≡ Some (length (commits_in before))
 
 begun_by_events : (w : Work) (before later : List Event) (c : ℕ) → AllAllowed w beginning (before ++ B c ∷ later) → Ended w (course_of w (before ++ B c ∷ later)) → IsBegun w before later c (course_of w (before ++ B c ∷ later))
 begun_by_events w before later c free ended = record {
-  commit = contains_it c (commits_in later) (sym (stands_later c (commits_in before) (commits_in later) (ap (stands c) (sym early) ∙ away)) ∙ (ap (stands c) (sym parts) ∙ stood));
+  end = contains_it c (ends_in later) (sym (ap (λ b. b || stands c (ends_in later)) away) ∙ (sym (ends_are w mid (B c ∷ later) c) ∙ stood));
   start = start_is w s (length (commits_in before)) c (subst (λ (t : Course). BeganAt (length (commits_in before)) t.calls c) (sym (reach_parts w beginning before (B c ∷ later))) (began_reach w (after w mid (B c)) later (length (commits_in before)) c there));
 }
   where
@@ -303,14 +362,13 @@ begun_by_events w before later c free ended = record {
     early : mid.order ≡ commits_in before
     early = order_is w beginning before
 
-    away : stands c mid.order ≡ false
+    away : is_ended c mid ≡ false
     away = orderly.within c (omega (arith, next))
 
-    parts : s.order ≡ commits_in before ++ commits_in later
-    parts = order_is w beginning (before ++ B c ∷ later) ∙ flat_map-append committed_by before (B c ∷ later)
-
-    stood : stands c s.order ≡ true
-    stood = let it = all_done w s ended.closed c below in sym (ended.orderly.done c it.0 it.1) ∙ it.2
+    stood : is_ended c (reach w mid (B c ∷ later)) ≡ true
+    stood =
+        ap (is_ended c) (sym (reach_parts w beginning before (B c ∷ later)))
+        ∙ (let it = all_done w s ended.closed c below in sym (ended.orderly.done c it.0 it.1) ∙ it.2)
 
     there : BeganAt (length (commits_in before)) (after w mid (B c)).calls c
     there = record {
@@ -331,26 +389,178 @@ all_by : (w : Work) (order : List ℕ) (c k : ℕ) (ts : List Turn) → StartBy 
 all_by w order c k [] h = All-nil (λ (r : Round). r.start ≤ k)
 all_by w order c k (t ∷ ts) h = All-cons (λ (r : Round). r.start ≤ k) (round t (unless_moved (whole_run w order c t.start) ts)) (later_rounds w order c t.start ts) h.0 (starts_by w order c t.start k ts h.1)
 
-starts_at : (w : Work) (s : Course) (k c : ℕ) → OrderlyAt w s → slice_get s.order k ≡ Some c → All (λ (r : Round). r.start ≤ k) (history_line w s c).rounds
-starts_at w s k c o at = by (slice_get s.calls c) refl
+-- the start of the last of these turns, or this one
+abbrev last_of : ℕ → List Turn → ℕ
+last_of old [] = old
+last_of old (t ∷ ts) = last_of t.start ts
+
+-- the last start of rounds is that of the turns
+last_later : (w : Work) (order : List ℕ) (c old : ℕ) (r : Round) (ts : List Turn) → r.start ≡ old → last_start (r ∷ later_rounds w order c old ts) ≡ last_of old ts
+last_later w order c old r [] is = is
+last_later w order c old r (t ∷ ts) is = last_later w order c t.start (round t (unless_moved (later_run w order c old t.start t.mark) ts)) ts refl
+
+last_is : (w : Work) (order : List ℕ) (c : ℕ) (ts : List Turn) → last_start (rounds_of w order c ts) ≡ last_turn ts
+last_is w order c [] = refl
+last_is w order c (t ∷ ts) = last_later w order c t.start (round t (unless_moved (whole_run w order c t.start) ts)) ts refl ∙ by t ts
   where
-    by : (live : Option Live) → slice_get s.calls c ≡ live → All (λ (r : Round). r.start ≤ k) (rounds_of w s.order c (turns_of live))
-    by None is = All-nil (λ (r : Round). r.start ≤ k)
-    by (Some l) is = all_by w s.order c k l.turns (o.after_begin k c l at is)
+    by : (t : Turn) (ts : List Turn) → last_of t.start ts ≡ last_turn (t ∷ ts)
+    by t [] = refl
+    by t (u ∷ us) = by u us
+
+-- the rounds of a call that has begun
+rounds_at : (w : Work) (s : Course) (c : ℕ) (l : Live) → slice_get s.calls c ≡ Some l → rounds_in w s c ≡ rounds_of w s.order c l.turns
+rounds_at w s c l is = ap (λ (o : Option Live). rounds_of w s.order c (turns_of o)) is
+
+-- a call that is live changes, and no other
+kept_set : (ls : List Live) (d c : ℕ) (l m x : Live) → slice_get ls c ≡ Some l → l.done ≡ true → slice_get ls d ≡ Some m → m.done ≡ false → slice_get (slice_set ls d x) c ≡ Some l
+kept_set ls d c l m x is done at live =
+    set_other ls d c x (λ same. both_ways m.done live (ap (λ (y : Live). y.done) (same_Some m l (sym at ∙ (ap (slice_get ls) (sym same) ∙ is))) ∙ done)) ∙ is
+
+kept_call : (ls : List Live) (d c : ℕ) (l : Live) (f : Live → Live) (g : Live → Option Fault) → slice_get ls c ≡ Some l → l.done ≡ true → of_live (slice_get ls d) g ≡ None
+    → slice_get (change_live (slice_get ls d) f ls d) c ≡ Some l
+kept_call ls d c l f g is done free = by (slice_get ls d) refl free
+  where
+    live : (m : Live) (b : Bool) → unless (not b) Order (g m) ≡ None → b ≡ false
+    live m true k = cc
+    live m false k = refl
+
+    by : (o : Option Live) → slice_get ls d ≡ o → of_live o g ≡ None → slice_get (change_live o f ls d) c ≡ Some l
+    by None at k = cc
+    by (Some m) at k = kept_set ls d c l m (f m) is done at (live m m.done k)
+
+-- a call that is done stays as it is
+done_after : (w : Work) (s : Course) (e : Event) (c : ℕ) (l : Live) → refusal w s e ≡ None → slice_get s.calls c ≡ Some l → l.done ≡ true → slice_get (after w s e).calls c ≡ Some l
+done_after w s (B d) c l free is done = pushed s.calls (begin (length s.order)) l c is
+done_after w s (S d) c l free is done = kept_call s.calls d c l _ _ is done free
+done_after w s (A d) c l free is done = kept_call s.calls d c l _ _ is done free
+done_after w s (M d) c l free is done = kept_call s.calls d c l _ _ is done free
+done_after w s (C d) c l free is done = kept_call s.calls d c l _ _ is done free
+done_after w s (X d) c l free is done = kept_call s.calls d c l _ _ is done free
+done_after w s (R d) c l free is done = kept_call s.calls d c l _ _ is done free
+done_after w s G c l free is done = is
+
+done_reach : (w : Work) (s : Course) (es : List Event) (c : ℕ) (l : Live) → AllAllowed w s es → slice_get s.calls c ≡ Some l → l.done ≡ true → slice_get (reach w s es).calls c ≡ Some l
+done_reach w s [] c l free is done = is
+done_reach w s (e ∷ es) c l free is done = done_reach w (after w s e) es c l free.1 (done_after w s e c l free.0 is done) done
+
+-- an answered call stays answered
+answered_stays : (w : Work) (s : Course) (es : List Event) (c : ℕ) → stands c s.answered ≡ true → stands c (reach w s es).answered ≡ true
+answered_stays w s [] c h = h
+answered_stays w s (B d ∷ es) c h = answered_stays w (after w s (B d)) es c h
+answered_stays w s (S d ∷ es) c h = answered_stays w (after w s (S d)) es c h
+answered_stays w s (A d ∷ es) c h = answered_stays w (after w s (A d)) es c h
+answered_stays w s (M d ∷ es) c h = answered_stays w (after w s (M d)) es c h
+answered_stays w s (C d ∷ es) c h = answered_stays w (after w s (C d)) es c h
+answered_stays w s (X d ∷ es) c h = answered_stays w (after w s (X d)) es c h
+answered_stays w s (R d ∷ es) c h = answered_stays w (after w s (R d)) es c (stands_more c d s.answered ∙ ap (λ b. b || ((d == c) || false)) h)
+answered_stays w s (G ∷ es) c h = answered_stays w (after w s G) es c h
+
+-- a call that is answered by an event: it stays so, with a start of at most the number of commits before
+record IsAnswered (before : List Event) (c : ℕ) (s : Course) : Type 0 where
+  there : stands c s.answered ≡ true
+  past : start_in s.calls c ≤ length (commits_in before)
+
+answered_by_events : (w : Work) (before later : List Event) (c : ℕ) → AllAllowed w beginning (before ++ R c ∷ later) → IsAnswered before c (course_of w (before ++ R c ∷ later))
+answered_by_events w before later c free =
+    subst (λ (t : Course). IsAnswered before c t) (sym (reach_parts w beginning before (R c ∷ later))) (by (slice_get mid.calls c) refl both.1.0)
+  where
+    mid : Course
+    mid = course_of w before
+
+    both : AllAllowed w beginning before × AllAllowed w mid (R c ∷ later)
+    both = allowed_parts w beginning before (R c ∷ later) free
+
+    orderly : OrderlyAt w mid
+    orderly = orderly_reach w beginning before both.0 (at_beginning w)
+
+    by : (o : Option Live) → slice_get mid.calls c ≡ o → of_live o (λ l. unless (w.read_only c) Kind (unless (not (is_stale mid l)) Stale None)) ≡ None → IsAnswered before c (reach w mid (R c ∷ later))
+    by None is k = cc
+    by (Some l) is k = record {
+      there = answered_stays w (after w mid (R c)) later c (stands_same c mid.answered);
+      past = (let start = start_at (reach w (after w mid (R c)) later).calls c (finish l) there in let past = (orderly.starts c l is).past in let n = ap (λ (cs : List ℕ). length cs) (order_is w beginning before) in omega (arith, start, past, n));
+    }
+      where
+        now : slice_get (after w mid (R c)).calls c ≡ Some (finish l)
+        now = ap (λ (o : Option Live). slice_get (change_live o finish mid.calls c) c) is ∙ set_same mid.calls c l (finish l) is
+
+        there : slice_get (reach w (after w mid (R c)) later).calls c ≡ Some (finish l)
+        there = done_reach w (after w mid (R c)) later c (finish l) both.1.1 now refl
+
+-- Lines in their places
+
+-- a place has so many commits before it; its rounds start no later
+record IsFound (w : Work) (s : Course) (k : ℕ) (line : HistoryLine) : Type 0 where
+  placed : IsPlaced (commits_to k (map (history_line w s) (places s))) line.commit line.rounds
+  starts : All (λ (r : Round). r.start ≤ commits_to k (map (history_line w s) (places s))) line.rounds
+  answered : stands line.call s.answered ≡ true → commits_to k (map (history_line w s) (places s)) ≡ start_in s.calls line.call
+
+-- by the number of its commit
+found_by : (w : Work) (s : Course) (j : ℕ) (o : Option ℕ) (c : ℕ) (l : Live) → OrderlyAt w s → slice_get s.calls c ≡ Some l → StandsBy s 0 s.order j o c
+    → IsPlaced j o (rounds_of w s.order c l.turns) × StartBy j l.turns × (stands c s.answered ≡ true → j ≡ start_in s.calls c)
+found_by w s j (Some number) c l o is h = (
+  (let e = h.0 in omega (arith, e)),
+  o.after_begin j c l h.1 is,
+  (λ there. absurd (both_ways (stands c s.answered) (o.apart c (stands_at s.order j c h.1)) there)),
+)
+found_by w s j None c l o is h =
+    let t = o.starts c l is in
+    let own = start_at s.calls c l is in
+    let there = h.1 in
+    let start : l.start ≡ j = omega (arith, own, there) in (
+      last_is w s.order c l.turns ∙ (t.last ∙ start),
+      subst (λ n. StartBy n l.turns) start t.by,
+      (λ answered. omega (arith, there)),
+    )
+
+-- a call that stands has begun
+begun_at_place : (w : Work) (s : Course) (j : ℕ) (o : Option ℕ) (c : ℕ) → OrderlyAt w s → StandsBy s 0 s.order j o c → (l : Live) × (slice_get s.calls c ≡ Some l)
+begun_at_place w s j o c orderly h = by (slice_get s.calls c) refl
+  where
+    short : (ls : List Live) (c : ℕ) → slice_get ls c ≡ None → length ls ≤ c
+    short [] c e = omega arith
+    short (x ∷ ls) zero e = cc
+    short (x ∷ ls) (suc c) e = let rest = short ls c e in omega (arith, rest)
+
+    by : (live : Option Live) → slice_get s.calls c ≡ live → (l : Live) × (slice_get s.calls c ≡ Some l)
+    by (Some l) is = (l, is)
+    by None is = absurd (both_ways (stands c s.answered || stands c s.order) (orderly.within c (short s.calls c is)) (ended_at s 0 s.order j o c h))
+
+found_at : (w : Work) (s : Course) (k : ℕ) (line : HistoryLine) → OrderlyAt w s → slice_get (map (history_line w s) (places s)) k ≡ Some line → IsFound w s k line
+found_at w s k line o at =
+    let it = line_at w s (places s) k line at in
+    let here = place_at s 0 s.order k it.place it.is in
+    let live = begun_at_place w s (commits_to_place k (places s)) it.place.commit it.place.call o here in
+    let parts = found_by w s (commits_to_place k (places s)) it.place.commit it.place.call live.0 o live.1 here in
+    let many : commits_to_place k (places s) ≡ commits_to k (map (history_line w s) (places s)) = sym (as_many_before w s k (places s)) in
+    let rounds : rounds_of w s.order it.place.call live.0.turns ≡ rounds_in w s it.place.call = sym (rounds_at w s it.place.call live.0 live.1) in
+    subst (λ (x : HistoryLine). IsFound w s k x) it.line (record {
+      placed = subst (λ n. IsPlaced n it.place.commit (rounds_in w s it.place.call)) many (subst (λ (rs : List Round). IsPlaced (commits_to_place k (places s)) it.place.commit rs) rounds parts.0);
+      starts = subst (λ n. All (λ (r : Round). r.start ≤ n) (rounds_in w s it.place.call)) many
+          (subst (λ (rs : List Round). All (λ (r : Round). r.start ≤ commits_to_place k (places s)) rs) rounds (all_by w s.order it.place.call (commits_to_place k (places s)) live.0.turns parts.1));
+      answered = λ there. sym many ∙ parts.2 there;
+    })
 
 pub lawful_is_serializable : LawfulIsSerializable
-lawful_is_serializable w es h = record {
+lawful_is_serializable w es keeps h = record {
   calls = subst (λ (cs : List ℕ). All (λ c. c < w.count) cs) (sym order) serial.calls;
-  once = λ c less. ap (λ (cs : List ℕ). length (filter (λ d. d == c) cs)) order ∙ one_of c s.order orderly.once (stood c less);
-  count = length-map (first_numbers w.count) (reply_in w s.order) ∙ length_numbers w.count;
-  replies = λ k c at. (let here : slice_get s.order k ≡ Some c = ap (λ (cs : List ℕ). slice_get cs k) (sym order) ∙ at in
-      reply_at w s.order k c orderly.once (below k c here) here ∙ ap (λ (cs : List ℕ). Some (w.run c (table_at w cs k)).reply) (sym order));
-  tables = ap (λ (cs : List ℕ). table_at w cs (length cs)) (sym order);
+  once = λ c less. ap (λ (cs : List ℕ). length (filter (λ d. d == c) cs)) order ∙ serial.once c less;
+  count = length-map (first_numbers w.count) (reply_in w s) ∙ length_numbers w.count;
+  replies = λ k c at. reply_is k c (ap (λ (cs : List ℕ). slice_get cs k) (sym order) ∙ at) ∙ ap (λ (cs : List ℕ). Some (w.run c (table_at w cs k)).reply) (sym order);
+  tables = last_tables ∙ ap (λ (cs : List ℕ). table_at w cs (length cs)) (sym order);
   begun = begins_are w beginning es free ∙ ap first_numbers (all_begun w s ended);
-  committed = sym (order_is w beginning es) ∙ sym order;
-  between = λ before later c is. (begun_at before later c is).commit;
-  first = λ before later k commit is at. (let it = line_at w s s.order k commit at in ap (λ (l : HistoryLine). start_of l.rounds) (sym it.line) ∙ (begun_at before later commit.call is).start);
-  starts = λ k commit at. (let it = line_at w s s.order k commit at in subst (λ (l : HistoryLine). All (λ (r : Round). r.start ≤ k) l.rounds) it.line (starts_at w s k commit.call orderly it.call));
+  committed = sym (order_is w beginning es) ∙ sym (ap order_of (commits_in_lines w s (places s)) ∙ (calls_of w s (filter is_commit (places s)) ∙ commits_are s 0 s.order));
+  between = λ before later c is. (begun_at before later c is).end;
+  placed = λ k line at. (found_at w s k line orderly at).placed;
+  answered = λ before later k line is at. (
+      let it = answered_by before later line.call is in
+      let found = found_at w s k line orderly at in
+      let here = found.answered it.there in
+      let past = it.past in
+      omega (arith, here, past));
+  first = λ before later k line is at. (let it = line_at w s (places s) k line at in
+      subst (λ (l : HistoryLine). start_of l.rounds ≡ Some (length (commits_in before))) it.line
+      (begun_at before later it.place.call (subst (λ (l : HistoryLine). es ≡ before ++ B l.call ∷ later) (sym it.line) is)).start);
+  starts = λ k line at. (found_at w s k line orderly at).starts;
 }
   where
     s : Course
@@ -368,16 +578,36 @@ lawful_is_serializable w es h = record {
     free : AllAllowed w beginning es
     free = allowed_from w 1 beginning es h
 
-    order : order_of (map (history_line w s) s.order) ≡ s.order
-    order = calls_of w s s.order
+    order : order_of (map (history_line w s) (places s)) ≡ standing s
+    order = calls_of w s (places s)
 
-    stood : (c : ℕ) → c < w.count → stands c s.order ≡ true
-    stood c less = let it = all_done w s ended.closed c less in sym (orderly.done c it.0 it.1) ∙ it.2
+    -- the tables before a place
+    tables_to : (k : ℕ) → table_at w (standing s) k ≡ table_at w s.order (commits_to_place k (places s))
+    tables_to k =
+        tables_standing w keeps (places s) (readers w s 0 s.order orderly.readers) w.opening k
+        ∙ ap (λ (cs : List ℕ). tables_after w w.opening (take (commits_to_place k (places s)) cs)) (commits_are s 0 s.order)
 
-    below : (k c : ℕ) → slice_get s.order k ≡ Some c → c < w.count
-    below k c at = subst (λ x. x < w.count) (get_or_from_slice_get s.order k c c at) (serial.calls k c (slice_get_within s.order k c at))
+    reply_is : (k c : ℕ) → slice_get (standing s) k ≡ Some c → slice_get (map (reply_in w s) (first_numbers w.count)) c ≡ Some (w.run c (table_at w (standing s) k)).reply
+    reply_is k c at =
+        let it = place_of (places s) k c at in
+        let here = subst (λ x. StandsBy s 0 s.order (commits_to_place k (places s)) it.place.commit x) it.call (place_at s 0 s.order k it.place it.is) in
+        reply_at w s (commits_to_place k (places s)) c (standing_below w s k c orderly at) (before_place w s (commits_to_place k (places s)) it.place.commit c orderly here)
+        ∙ ap (λ (t : Tables). Some (w.run c t).reply) (sym (tables_to k))
+
+    as_many : length (standing s) ≡ length (places s)
+    as_many = length-map (places s) (λ (p : Place). p.call)
+
+    all_committed : commits_to_place (length (places s)) (places s) ≡ length s.order
+    all_committed = all_commits (places s) ∙ (sym (length-map (filter is_commit (places s)) (λ (p : Place). p.call)) ∙ ap (λ (cs : List ℕ). length cs) (commits_are s 0 s.order))
+
+    last_tables : table_at w s.order (length s.order) ≡ table_at w (standing s) (length (standing s))
+    last_tables = ap (table_at w s.order) (sym all_committed) ∙ (sym (tables_to (length (places s))) ∙ ap (table_at w (standing s)) (sym as_many))
 
     begun_at : (before later : List Event) (c : ℕ) → es ≡ before ++ B c ∷ later → IsBegun w before later c s
     begun_at before later c is =
         subst (λ (fs : List Event). IsBegun w before later c (course_of w fs)) (sym is)
         (begun_by_events w before later c (subst (AllAllowed w beginning) is free) (subst (λ (fs : List Event). Ended w (course_of w fs)) is ended))
+
+    answered_by : (before later : List Event) (c : ℕ) → es ≡ before ++ R c ∷ later → IsAnswered before c s
+    answered_by before later c is =
+        subst (λ (fs : List Event). IsAnswered before c (course_of w fs)) (sym is) (answered_by_events w before later c (subst (AllAllowed w beginning) is free))

@@ -6,19 +6,21 @@ use Rattle.std.specs.Option.{option_map, ForSome}
 use Rattle.std.proofs.lemmas.Bool.{ltb-true}
 use Rattle.std.proofs.lemmas.List.{map-append, length-map}
 use Rattle.std.proofs.lemmas.Option.{same_Some, slice_get-map}
+use Rattle.mv_values.specs.declared.calls.Reply.{Reply}
 use Rattle.mv_values.specs.Counts.{first_numbers}
 use Rattle.mv_journal.specs.declared.event.Event.{Event}
-use Rattle.mv_journal.specs.declared.event.Event.TheVariants.{B, S, A, M, C, X, G}
+use Rattle.mv_journal.specs.declared.event.Event.TheVariants.{B, S, A, M, C, X, R, G}
 use Rattle.mv_journal.specs.declared.outcome.Mark.TheVariants.{Plain, Exclusive, Moved}
 use Rattle.mv_journal.specs.declared.outcome.HistoryLine.{HistoryLine}
 use Rattle.mv_journal.specs.declared.outcome.Outcome.{Outcome}
 use Rattle.mv_lawful.specs.declared.fault.Fault.{Fault}
-use Rattle.mv_lawful.specs.declared.fault.Fault.TheVariants.{Order, Stale, Conflict, Idle, Rounds}
+use Rattle.mv_lawful.specs.declared.fault.Fault.TheVariants.{Order, Kind, Stale, Conflict, Idle, Rounds}
 use Rattle.mv_lawful.specs.declared.fault.Wrong.TheVariants.{Open}
 use Rattle.mv_lawful.specs.Work.{Work, table_at}
 use Rattle.mv_lawful.specs.Lawful.{Turn, Live, Course, beginning, change_live, begin, again, finish, is_stale, is_hit, has_round, unless, of_live, refusal, after, reach, course_of, first_open, or_refused, wrong_from}
 use Rattle.mv_lawful.specs.Rounds.{rounds_of, is_round, IsPast, MayMove, MovesLate}
-use Rattle.mv_lawful.specs.Outcomes.{reply_in, turns_of, history_line, outcome_at, has_line, shown}
+use Rattle.mv_lawful.specs.Places.{Place, start_by, start_in, answered_at, answer_place, places_from, places}
+use Rattle.mv_lawful.specs.Outcomes.{commits_before, reply_after, reply_in, turns_of, history_line, outcome_at, has_line, shown}
 use Rattle.mv_lawful.specs.Laws.{ShownIsAllShown, ShownIsLawful, ShownIsBounded, ShownHasTheOutcome}
 use Rattle.mv_lawful.proofs.Repairs.{first_allowed}
 
@@ -30,7 +32,7 @@ bare l = record l { steps = 0 }
 
 -- the state after the events that are shown
 abbrev plain : Course → Course
-plain s = record { order = s.order; calls = map bare s.calls; low = 0 }
+plain s = record { order = s.order; calls = map bare s.calls; low = 0; answered = s.answered }
 
 set_bare : (ls : List Live) (c : ℕ) (l : Live) → slice_set (map bare ls) c (bare l) ≡ map bare (slice_set ls c l)
 set_bare [] c l = refl
@@ -56,26 +58,28 @@ stepped_bare ls c = by (slice_get ls c) refl
     by None is = refl
     by (Some l) is = sym (set_bare ls c (record l { steps = l.steps + 1 })) ∙ (set_bare ls c l ∙ ap (map bare) (set_itself ls c l is))
 
--- with these calls and these commits
-abbrev at : List ℕ → List Live → Course
-at order calls = record { order = order; calls = calls; low = 0 }
+-- with these commits, these answered calls and these calls
+abbrev at : List ℕ → List ℕ → List Live → Course
+at order answered calls = record { order = order; calls = calls; low = 0; answered = answered }
 
 plain_after : (w : Work) (s : Course) (e : Event) → has_line e ≡ true → after w (plain s) e ≡ plain (after w s e)
-plain_after w s (B c) h = ap (at s.order) (sym (map-append bare s.calls (begin (length s.order) ∷ [])))
+plain_after w s (B c) h = ap (at s.order s.answered) (sym (map-append bare s.calls (begin (length s.order) ∷ [])))
 plain_after w s (S c) h = cc
-plain_after w s (A c) h = ap (at s.order) (changed_bare s.calls c (again (length s.order) Plain) (λ l. refl))
-plain_after w s (M c) h = ap (at s.order) (changed_bare s.calls c (again (length s.order) Moved) (λ l. refl))
-plain_after w s (C c) h = ap (at (s.order ++ c ∷ [])) (changed_bare s.calls c finish (λ l. refl))
-plain_after w s (X c) h = ap (at (s.order ++ c ∷ [])) (changed_bare s.calls c (λ l. finish (again (length s.order) Exclusive l)) (λ l. refl))
+plain_after w s (A c) h = ap (at s.order s.answered) (changed_bare s.calls c (again (length s.order) Plain) (λ l. refl))
+plain_after w s (M c) h = ap (at s.order s.answered) (changed_bare s.calls c (again (length s.order) Moved) (λ l. refl))
+plain_after w s (C c) h = ap (at (s.order ++ c ∷ []) s.answered) (changed_bare s.calls c finish (λ l. refl))
+plain_after w s (X c) h = ap (at (s.order ++ c ∷ []) s.answered) (changed_bare s.calls c (λ l. finish (again (length s.order) Exclusive l)) (λ l. refl))
+plain_after w s (R c) h = ap (at s.order (s.answered ++ c ∷ [])) (changed_bare s.calls c finish (λ l. refl))
 plain_after w s G h = cc
 
 plain_other : (w : Work) (s : Course) (e : Event) → has_line e ≡ false → plain (after w s e) ≡ plain s
 plain_other w s (B c) h = cc
-plain_other w s (S c) h = ap (at s.order) (stepped_bare s.calls c)
+plain_other w s (S c) h = ap (at s.order s.answered) (stepped_bare s.calls c)
 plain_other w s (A c) h = cc
 plain_other w s (M c) h = cc
 plain_other w s (C c) h = cc
 plain_other w s (X c) h = cc
+plain_other w s (R c) h = cc
 plain_other w s G h = refl
 
 plain_reach : (w : Work) (s : Course) (es : List Event) → reach w (plain s) (shown es) ≡ plain (reach w s es)
@@ -95,20 +99,55 @@ same_turns ls c = ap turns_of (slice_get-map bare ls c) ∙ by (slice_get ls c)
     by None = refl
     by (Some l) = refl
 
-abbrev line_with : Work → List ℕ → ℕ → List Turn → HistoryLine
-line_with w order c ts = record { call = c; rounds = rounds_of w order c ts }
+abbrev line_with : Work → List ℕ → Place → List Turn → HistoryLine
+line_with w order p ts = record { commit = p.commit; call = p.call; rounds = rounds_of w order p.call ts }
 
-same_history : (w : Work) (s : Course) (order : List ℕ) → map (history_line w (plain s)) order ≡ map (history_line w s) order
-same_history w s [] = refl
-same_history w s (c ∷ order) =
-    ap (λ (l : HistoryLine). l ∷ map (history_line w (plain s)) order) (ap (line_with w s.order c) (same_turns s.calls c))
-    ∙ ap (λ (ls : List HistoryLine). history_line w s c ∷ ls) (same_history w s order)
+same_lines : (w : Work) (s : Course) (ps : List Place) → map (history_line w (plain s)) ps ≡ map (history_line w s) ps
+same_lines w s [] = refl
+same_lines w s (p ∷ ps) =
+    ap (λ (l : HistoryLine). l ∷ map (history_line w (plain s)) ps) (ap (line_with w s.order p) (same_turns s.calls p.call))
+    ∙ ap (λ (ls : List HistoryLine). history_line w s p ∷ ls) (same_lines w s ps)
 
-abbrev outcome_with : Work → List ℕ → List HistoryLine → List Event → Outcome
-outcome_with w order history es = record { replies = map (reply_in w order) (first_numbers w.count); history = history; journal = es; tables = table_at w order (length order) }
+-- Places
+
+same_start : (ls : List Live) (c : ℕ) → start_in (map bare ls) c ≡ start_in ls c
+same_start ls c = ap start_by (slice_get-map bare ls c) ∙ by (slice_get ls c)
+  where
+    by : (o : Option Live) → start_by (option_map bare o) ≡ start_by o
+    by None = refl
+    by (Some l) = refl
+
+same_answered : (ls : List Live) (n : ℕ) (cs : List ℕ) → filter (λ c. start_in (map bare ls) c == n) cs ≡ filter (λ c. start_in ls c == n) cs
+same_answered ls n [] = refl
+same_answered ls n (c ∷ cs) =
+    ap (λ k. cond (k == n) (c ∷ filter (λ d. start_in (map bare ls) d == n) cs) (filter (λ d. start_in (map bare ls) d == n) cs)) (same_start ls c)
+    ∙ ap (λ ds. cond (start_in ls c == n) (c ∷ ds) ds) (same_answered ls n cs)
+
+same_places : (s : Course) (n : ℕ) (cs : List ℕ) → places_from (plain s) n cs ≡ places_from s n cs
+same_places s n [] = ap (map answer_place) (same_answered s.calls n s.answered)
+same_places s n (c ∷ cs) =
+    ap (λ ds. map answer_place ds ++ record { commit = Some (n + 1); call = c } ∷ places_from (plain s) (n + 1) cs) (same_answered s.calls n s.answered)
+    ∙ ap (λ (ps : List Place). map answer_place (answered_at s n) ++ record { commit = Some (n + 1); call = c } ∷ ps) (same_places s (n + 1) cs)
+
+same_history : (w : Work) (s : Course) → map (history_line w (plain s)) (places (plain s)) ≡ map (history_line w s) (places s)
+same_history w s = ap (map (history_line w (plain s))) (same_places s 0 s.order) ∙ same_lines w s (places s)
+
+-- Replies
+
+same_reply : (w : Work) (s : Course) (c : ℕ) → reply_in w (plain s) c ≡ reply_in w s c
+same_reply w s c = ap (λ n. reply_after w s.order c (commits_before s.order s.answered n c)) (same_start s.calls c)
+
+same_replies : (w : Work) (s : Course) (cs : List ℕ) → map (reply_in w (plain s)) cs ≡ map (reply_in w s) cs
+same_replies w s [] = refl
+same_replies w s (c ∷ cs) = ap (λ (r : Reply). r ∷ map (reply_in w (plain s)) cs) (same_reply w s c) ∙ ap (λ (rs : List Reply). reply_in w s c ∷ rs) (same_replies w s cs)
+
+abbrev outcome_with : Work → List ℕ → List Reply → List HistoryLine → List Event → Outcome
+outcome_with w order replies history es = record { replies = replies; history = history; journal = es; tables = table_at w order (length order) }
 
 outcome_plain : (w : Work) (s : Course) (es : List Event) → outcome_at w (plain s) es ≡ outcome_at w s es
-outcome_plain w s es = ap (λ (ls : List HistoryLine). outcome_with w s.order ls es) (same_history w s s.order)
+outcome_plain w s es =
+    ap (λ (rs : List Reply). outcome_with w s.order rs (map (history_line w (plain s)) (places (plain s))) es) (same_replies w s (first_numbers w.count))
+    ∙ ap (λ (ls : List HistoryLine). outcome_with w s.order (map (reply_in w s) (first_numbers w.count)) ls es) (same_history w s)
 
 pub shown_has_the_outcome : ShownHasTheOutcome
 shown_has_the_outcome w es = ap (λ (s : Course). outcome_at w s (shown es)) (plain_reach w beginning es) ∙ outcome_plain w (course_of w es) (shown es)
@@ -130,6 +169,11 @@ later_of : (b : Bool) (f : Fault) (later : Option Fault) → unless b f later �
 later_of true f later h = h
 later_of false f later h = cc
 
+-- the same after a reason that is tried before
+fresh_kind : (k : Bool) (n : ℕ) (b : Bool) (later : Option Fault) → unless k Kind (unless b Stale later) ≡ None → unless k Kind (unless (not (nat_lt n 0)) Stale later) ≡ None
+fresh_kind true n b later h = fresh n later ∙ later_of b Stale later h
+fresh_kind false n b later h = cc
+
 live_bare : (o : Option Live) (f g : Live → Option Fault) → ((l : Live) → f l ≡ None → g (bare l) ≡ None) → of_live o f ≡ None → of_live (option_map bare o) g ≡ None
 live_bare None f g k h = cc
 live_bare (Some l) f g k h = by l.done h (k l)
@@ -145,18 +189,21 @@ plain_allowed : (w : Work) (s : Course) (e : Event) → has_line e ≡ true → 
 plain_allowed w s (B c) is h = ap (λ n. unless ((c == n) && nat_lt c w.count) Order None) (length-map s.calls bare) ∙ h
 plain_allowed w s (S c) is h = cc
 plain_allowed w s (A c) is h =
-    call_bare s.calls c (λ l. unless (not (is_stale s l)) Stale (unless (is_hit w s c l) Idle (unless (has_round w l) Rounds None)))
-    (λ l. unless (not (is_stale (plain s) l)) Stale (unless (is_hit w (plain s) c l) Idle (unless (has_round w l) Rounds None)))
-    (λ l k. fresh l.start (unless (is_hit w s c l) Idle (unless (has_round w l) Rounds None)) ∙ later_of (not (is_stale s l)) Stale (unless (is_hit w s c l) Idle (unless (has_round w l) Rounds None)) k) h
+    call_bare s.calls c (λ l. unless (not (w.read_only c)) Kind (unless (not (is_stale s l)) Stale (unless (is_hit w s c l) Idle (unless (has_round w l) Rounds None))))
+    (λ l. unless (not (w.read_only c)) Kind (unless (not (is_stale (plain s) l)) Stale (unless (is_hit w (plain s) c l) Idle (unless (has_round w l) Rounds None))))
+    (λ l. fresh_kind (not (w.read_only c)) l.start (not (is_stale s l)) (unless (is_hit w s c l) Idle (unless (has_round w l) Rounds None))) h
 plain_allowed w s (M c) is h = call_bare s.calls c (λ l. None) (λ l. None) (λ l k. refl) h
 plain_allowed w s (C c) is h =
-    call_bare s.calls c (λ l. unless (not (is_stale s l)) Stale (unless (not (is_hit w s c l)) Conflict None))
-    (λ l. unless (not (is_stale (plain s) l)) Stale (unless (not (is_hit w (plain s) c l)) Conflict None))
-    (λ l k. fresh l.start (unless (not (is_hit w s c l)) Conflict None) ∙ later_of (not (is_stale s l)) Stale (unless (not (is_hit w s c l)) Conflict None) k) h
+    call_bare s.calls c (λ l. unless (not (w.read_only c)) Kind (unless (not (is_stale s l)) Stale (unless (not (is_hit w s c l)) Conflict None)))
+    (λ l. unless (not (w.read_only c)) Kind (unless (not (is_stale (plain s) l)) Stale (unless (not (is_hit w (plain s) c l)) Conflict None)))
+    (λ l. fresh_kind (not (w.read_only c)) l.start (not (is_stale s l)) (unless (not (is_hit w s c l)) Conflict None)) h
 plain_allowed w s (X c) is h =
-    call_bare s.calls c (λ l. unless (not (is_stale s l)) Stale (unless (is_hit w s c l) Idle (unless (not (has_round w l)) Rounds None)))
-    (λ l. unless (not (is_stale (plain s) l)) Stale (unless (is_hit w (plain s) c l) Idle (unless (not (has_round w l)) Rounds None)))
-    (λ l k. fresh l.start (unless (is_hit w s c l) Idle (unless (not (has_round w l)) Rounds None)) ∙ later_of (not (is_stale s l)) Stale (unless (is_hit w s c l) Idle (unless (not (has_round w l)) Rounds None)) k) h
+    call_bare s.calls c (λ l. unless (not (w.read_only c)) Kind (unless (not (is_stale s l)) Stale (unless (is_hit w s c l) Idle (unless (not (has_round w l)) Rounds None))))
+    (λ l. unless (not (w.read_only c)) Kind (unless (not (is_stale (plain s) l)) Stale (unless (is_hit w (plain s) c l) Idle (unless (not (has_round w l)) Rounds None))))
+    (λ l. fresh_kind (not (w.read_only c)) l.start (not (is_stale s l)) (unless (is_hit w s c l) Idle (unless (not (has_round w l)) Rounds None))) h
+plain_allowed w s (R c) is h =
+    call_bare s.calls c (λ l. unless (w.read_only c) Kind (unless (not (is_stale s l)) Stale None)) (λ l. unless (w.read_only c) Kind (unless (not (is_stale (plain s) l)) Stale None))
+    (λ l. fresh_kind (w.read_only c) l.start (not (is_stale s l)) None) h
 plain_allowed w s G is h = cc
 
 same_open : (n : ℕ) (ls : List Live) → first_open n (map bare ls) ≡ first_open n ls
@@ -189,6 +236,7 @@ same_rounds c (A d ∷ es) = ap (λ (fs : List Event). cond (d == c) (A d ∷ fs
 same_rounds c (M d ∷ es) = ap (λ (fs : List Event). cond (d == c) (M d ∷ fs) fs) (same_rounds c es)
 same_rounds c (C d ∷ es) = same_rounds c es
 same_rounds c (X d ∷ es) = same_rounds c es
+same_rounds c (R d ∷ es) = same_rounds c es
 same_rounds c (G ∷ es) = same_rounds c es
 
 plain_may : (w : Work) (s : Course) (e : Event) → MayMove w s e → MayMove w (plain s) e
@@ -202,6 +250,7 @@ plain_may w s (M c) h = subst (λ (o : Option Live). ForSome o (λ l. IsPast w.o
     by (Some l) k x is = subst (λ (m : Live). IsPast w.options.horizon m.start (length s.order)) (same_Some (bare l) x is) (k l refl)
 plain_may w s (C c) h = tt
 plain_may w s (X c) h = tt
+plain_may w s (R c) h = tt
 plain_may w s G h = tt
 
 moves_late : (w : Work) (s : Course) (es : List Event) → MovesLate w s es → MovesLate w (plain s) (shown es)
@@ -228,4 +277,5 @@ shown_is_all_shown (A c ∷ es) = ap (λ (fs : List Event). A c ∷ fs) (shown_i
 shown_is_all_shown (M c ∷ es) = ap (λ (fs : List Event). M c ∷ fs) (shown_is_all_shown es)
 shown_is_all_shown (C c ∷ es) = ap (λ (fs : List Event). C c ∷ fs) (shown_is_all_shown es)
 shown_is_all_shown (X c ∷ es) = ap (λ (fs : List Event). X c ∷ fs) (shown_is_all_shown es)
+shown_is_all_shown (R c ∷ es) = ap (λ (fs : List Event). R c ∷ fs) (shown_is_all_shown es)
 shown_is_all_shown (G ∷ es) = shown_is_all_shown es

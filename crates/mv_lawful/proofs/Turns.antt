@@ -11,16 +11,15 @@ use Rattle.mv_values.specs.Tables.{Tables}
 use Rattle.mv_values.specs.Counts.{first_numbers}
 use Rattle.mv_record.specs.declared.record.Record.{Record}
 use Rattle.mv_journal.specs.declared.event.Event.{Event}
-use Rattle.mv_journal.specs.declared.event.Event.TheVariants.{B, C}
+use Rattle.mv_journal.specs.declared.event.Event.TheVariants.{B, C, R}
 use Rattle.mv_history.specs.declared.change.Change.{Change}
 use Rattle.mv_history.specs.Hits.{first_hit}
-use Rattle.mv_lawful.specs.declared.fault.Fault.TheVariants.{Order, Stale, Conflict}
+use Rattle.mv_lawful.specs.declared.fault.Fault.TheVariants.{Order, Kind, Stale, Conflict}
 use Rattle.mv_lawful.specs.declared.fault.Wrong.TheVariants.{Open}
 use Rattle.mv_lawful.specs.Work.{Work, tables_after, changes_after, since, hit_of, records_at}
 use Rattle.mv_lawful.specs.Lawful.{Live, Course, beginning, change_live, begin, finish, unless, of_live, refusal, after, reach, first_open, open_call, or_refused, wrong_from, AllAllowed}
 use Rattle.mv_lawful.specs.Rounds.{is_round, MovesLate}
-use Rattle.mv_lawful.specs.Outcomes.{turn, in_turn}
-use Rattle.mv_lawful.specs.Laws.{IsInTurn}
+use Rattle.mv_lawful.specs.Outcomes.{ending, turn, in_turn}
 
 -- Journals one after another
 
@@ -50,14 +49,31 @@ length_numbers (suc n) = let l = length-append (first_numbers n) (n ∷ []) in l
 pub none_at : (c : ℕ) (l : Live) → slice_get beginning.calls c ≡ Some l → ⊥
 none_at c l is = cc
 
--- the first n calls, after their commits
-abbrev pub done_calls : ℕ → List Live
-done_calls zero = []
-done_calls (suc n) = done_calls n ++ finish (begin n) ∷ []
+-- of the first n calls, those that commit, and those that are read only
+abbrev pub more_commits : Bool → ℕ → List ℕ → List ℕ
+more_commits true c cs = cs
+more_commits false c cs = cs ++ c ∷ []
 
-pub length_calls : (n : ℕ) → length (done_calls n) ≡ n
-length_calls zero = refl
-length_calls (suc n) = let l = length-append (done_calls n) (finish (begin n) ∷ []) in let k = length_calls n in omega (arith, l, k)
+abbrev pub more_answers : Bool → ℕ → List ℕ → List ℕ
+more_answers true c cs = cs ++ c ∷ []
+more_answers false c cs = cs
+
+abbrev pub commits_of : Work → ℕ → List ℕ
+commits_of w zero = []
+commits_of w (suc n) = more_commits (w.read_only n) n (commits_of w n)
+
+abbrev pub answers_of : Work → ℕ → List ℕ
+answers_of w zero = []
+answers_of w (suc n) = more_answers (w.read_only n) n (answers_of w n)
+
+-- the first n calls, after their ends
+abbrev pub done_calls : Work → ℕ → List Live
+done_calls w zero = []
+done_calls w (suc n) = done_calls w n ++ finish (begin (length (commits_of w n))) ∷ []
+
+pub length_calls : (w : Work) (n : ℕ) → length (done_calls w n) ≡ n
+length_calls w zero = refl
+length_calls w (suc n) = let l = length-append (done_calls w n) (finish (begin (length (commits_of w n))) ∷ []) in let k = length_calls w n in omega (arith, l, k)
 
 pub at_end : (ls : List Live) (l : Live) (k : ℕ) → length ls ≡ k → slice_get (ls ++ l ∷ []) k ≡ Some l
 at_end [] l zero h = refl
@@ -79,9 +95,9 @@ done_more : (ls : List Live) (l : Live) → AllDone ls → l.done ≡ true → A
 done_more [] l h k = (k, tt)
 done_more (x ∷ ls) l h k = (h.0, done_more ls l h.1 k)
 
-all_done : (n : ℕ) → AllDone (done_calls n)
-all_done zero = tt
-all_done (suc n) = done_more (done_calls n) (finish (begin n)) (all_done n) refl
+all_done : (w : Work) (n : ℕ) → AllDone (done_calls w n)
+all_done w zero = tt
+all_done w (suc n) = done_more (done_calls w n) (finish (begin (length (commits_of w n)))) (all_done w n) refl
 
 none_open : (k : ℕ) (ls : List Live) → AllDone ls → first_open k ls ≡ k + length ls
 none_open k [] h = omega arith
@@ -103,10 +119,10 @@ pub no_commits : (number : ℕ) (before rs : List Record) → first_hit number [
 no_commits number before [] = refl
 no_commits number before (r ∷ rs) = no_commits number (before ++ r ∷ []) rs
 
-no_hit : (w : Work) (n c : ℕ) → hit_of w (first_numbers n) n c ≡ None
-no_hit w n c =
-    let none : since w (first_numbers n) n ≡ [] = drop_past (changes_after w w.opening (first_numbers n)) n (length_changes w w.opening (first_numbers n) ∙ length_numbers n) in
-    ap (λ css. first_hit (n + 1) css [] (records_at w (first_numbers n) n c)) none ∙ no_commits (n + 1) [] (records_at w (first_numbers n) n c)
+no_hit : (w : Work) (order : List ℕ) (c : ℕ) → hit_of w order (length order) c ≡ None
+no_hit w order c =
+    let none : since w order (length order) ≡ [] = drop_past (changes_after w w.opening order) (length order) (length_changes w w.opening order) in
+    ap (λ css. first_hit (length order + 1) css [] (records_at w order (length order) c)) none ∙ no_commits (length order + 1) [] (records_at w order (length order) c)
 
 -- One turn
 
@@ -114,95 +130,103 @@ pub tables_more : (w : Work) (db : Tables) (cs : List ℕ) (c : ℕ) → tables_
 tables_more w db [] c = refl
 tables_more w db (d ∷ cs) c = tables_more w (w.run d db).tables cs c
 
-get_front : (ls : List Live) (l : Live) (k : ℕ) → k < length ls → slice_get (ls ++ l ∷ []) k ≡ slice_get ls k
+pub get_front : (ls : List Live) (l : Live) (k : ℕ) → k < length ls → slice_get (ls ++ l ∷ []) k ≡ slice_get ls k
 get_front [] l k h = absurd (omega (arith, h))
 get_front (x ∷ ls) l zero h = refl
 get_front (x ∷ ls) l (suc k) h = get_front ls l k (omega (arith, h))
 
--- each of the first calls began after as many commits as its number
-pub get_done : (n k : ℕ) → k < n → slice_get (done_calls n) k ≡ Some (finish (begin k))
-get_done zero k h = absurd (omega (arith, h))
-get_done (suc n) k h = by (nat_lt k n) refl (get_done n k)
-  where
-    less : nat_lt k n ≡ true → k < n
-    less e = grind (arith, e)
-
-    last : nat_lt k n ≡ false → n ≡ k
-    last e = grind (arith, e, h)
-
-    by : (b : Bool) → nat_lt k n ≡ b → (k < n → slice_get (done_calls n) k ≡ Some (finish (begin k))) → slice_get (done_calls n ++ finish (begin n) ∷ []) k ≡ Some (finish (begin k))
-    by true e go = get_front (done_calls n) (finish (begin n)) k (let l = length_calls n in let m = less e in omega (arith, l, m)) ∙ go (less e)
-    by false e go = subst (λ m. slice_get (done_calls n ++ finish (begin n) ∷ []) m ≡ Some (finish (begin m))) (last e) (at_end (done_calls n) (finish (begin n)) n (length_calls n))
-
-abbrev pub course : List ℕ → List Live → Course
-course order calls = record { order = order; calls = calls; low = 0 }
+abbrev pub course : List ℕ → List ℕ → List Live → Course
+course order answered calls = record { order = order; calls = calls; low = 0; answered = answered }
 
 -- after the first n turns
-abbrev pub turned : ℕ → Course
-turned n = course (first_numbers n) (done_calls n)
+abbrev pub turned : Work → ℕ → Course
+turned w n = course (commits_of w n) (answers_of w n) (done_calls w n)
 
--- and after the next begin, at some start
-abbrev one_live : ℕ → ℕ → Course
-one_live n start = course (first_numbers n) (done_calls n ++ begin start ∷ [])
+-- and after the next begin
+abbrev one_live : Work → ℕ → Course
+one_live w n = course (commits_of w n) (answers_of w n) (done_calls w n ++ begin (length (commits_of w n)) ∷ [])
 
-begin_free : (w : Work) (n : ℕ) → n < w.count → refusal w (turned n) (B n) ≡ None
+begin_free : (w : Work) (n : ℕ) → n < w.count → refusal w (turned w n) (B n) ≡ None
 begin_free w n less = ap (λ b. unless (b && nat_lt n w.count) Order None) next ∙ ap (λ b. unless b Order None) room
   where
-    next : (n == length (done_calls n)) ≡ true
-    next = let l = length_calls n in grind (arith, eqb_tells, l)
+    next : (n == length (done_calls w n)) ≡ true
+    next = let l = length_calls w n in grind (arith, eqb_tells, l)
 
     room : nat_lt n w.count ≡ true
     room = grind (arith, less)
 
-commit_free : (w : Work) (n : ℕ) → refusal w (one_live n n) (C n) ≡ None
-commit_free w n =
-    ap (λ o. of_live o (λ l. unless (not (nat_lt l.start 0)) Stale (unless (not (is_some (hit_of w (first_numbers n) l.start n))) Conflict None))) (at_end (done_calls n) (begin n) n (length_calls n))
-    ∙ (ap (λ b. unless (not b) Stale (unless (not (is_some (hit_of w (first_numbers n) n n))) Conflict None)) (le-ltb n 0 (omega arith)) ∙ ap (λ h. unless (not (is_some h)) Conflict None) (no_hit w n n))
+-- the event that ends the call is allowed
+end_free : (w : Work) (n : ℕ) (b : Bool) → w.read_only n ≡ b → refusal w (one_live w n) (ending b n) ≡ None
+end_free w n true reads =
+    ap (λ o. of_live o (λ l. unless (w.read_only n) Kind (unless (not (nat_lt l.start 0)) Stale None))) (at_end (done_calls w n) (begin (length (commits_of w n))) n (length_calls w n))
+    ∙ (ap (λ b. unless b Kind (unless (not (nat_lt (length (commits_of w n)) 0)) Stale None)) reads ∙ ap (λ b. unless (not b) Stale None) (le-ltb (length (commits_of w n)) 0 (omega arith)))
+end_free w n false reads =
+    let order = commits_of w n in
+    ap (λ o. of_live o (λ l. unless (not (w.read_only n)) Kind (unless (not (nat_lt l.start 0)) Stale (unless (not (is_some (hit_of w order l.start n))) Conflict None)))) (at_end (done_calls w n) (begin (length order)) n (length_calls w n))
+    ∙ (ap (λ b. unless (not b) Kind (unless (not (nat_lt (length order) 0)) Stale (unless (not (is_some (hit_of w order (length order) n))) Conflict None))) reads
+    ∙ (ap (λ b. unless (not b) Stale (unless (not (is_some (hit_of w order (length order) n))) Conflict None)) (le-ltb (length order) 0 (omega arith)) ∙ ap (λ h. unless (not (is_some h)) Conflict None) (no_hit w order n)))
 
-commit_done : (w : Work) (n : ℕ) → after w (one_live n n) (C n) ≡ turned (suc n)
-commit_done w n =
-    let ls : List Live = done_calls n ++ begin n ∷ [] in
-    ap (course (first_numbers n ++ n ∷ [])) (ap (λ o. change_live o finish ls n) (at_end (done_calls n) (begin n) n (length_calls n)) ∙ set_end (done_calls n) (begin n) (finish (begin n)) n (length_calls n))
+finished : (w : Work) (n : ℕ) → change_live (slice_get (done_calls w n ++ begin (length (commits_of w n)) ∷ []) n) finish (done_calls w n ++ begin (length (commits_of w n)) ∷ []) n ≡ done_calls w (suc n)
+finished w n =
+    let l : Live = begin (length (commits_of w n)) in
+    ap (λ o. change_live o finish (done_calls w n ++ l ∷ []) n) (at_end (done_calls w n) l n (length_calls w n)) ∙ set_end (done_calls w n) l (finish l) n (length_calls w n)
 
-pub turn_free : (w : Work) (n : ℕ) → n < w.count → AllAllowed w (turned n) (turn n)
-turn_free w n less = (begin_free w n less, (subst (λ k. refusal w (one_live n k) (C n) ≡ None) (sym (length_numbers n)) (commit_free w n), tt))
+end_done : (w : Work) (n : ℕ) (b : Bool) → w.read_only n ≡ b → after w (one_live w n) (ending b n) ≡ turned w (suc n)
+end_done w n true reads =
+    ap (course (commits_of w n) (answers_of w n ++ n ∷ [])) (finished w n)
+    ∙ ap (λ b. course (more_commits b n (commits_of w n)) (more_answers b n (answers_of w n)) (done_calls w (suc n))) (sym reads)
+end_done w n false reads =
+    ap (course (commits_of w n ++ n ∷ []) (answers_of w n)) (finished w n)
+    ∙ ap (λ b. course (more_commits b n (commits_of w n)) (more_answers b n (answers_of w n)) (done_calls w (suc n))) (sym reads)
 
-pub turn_done : (w : Work) (n : ℕ) → reach w (turned n) (turn n) ≡ turned (suc n)
-turn_done w n = subst (λ k. after w (one_live n k) (C n) ≡ turned (suc n)) (sym (length_numbers n)) (commit_done w n)
+pub turn_free : (w : Work) (n : ℕ) → n < w.count → AllAllowed w (turned w n) (turn w.read_only n)
+turn_free w n less = (begin_free w n less, (end_free w n (w.read_only n) refl, tt))
+
+pub turn_done : (w : Work) (n : ℕ) → reach w (turned w n) (turn w.read_only n) ≡ turned w (suc n)
+turn_done w n = end_done w n (w.read_only n) refl
 
 -- All turns
 
-pub turns_more : (n : ℕ) → in_turn (suc n) ≡ in_turn n ++ turn n
-turns_more n = flat_map-append turn (first_numbers n) (n ∷ []) ∙ ap (λ l. in_turn n ++ l) (append-nil (turn n))
+pub turns_more : (read_only : ℕ → Bool) (n : ℕ) → in_turn read_only (suc n) ≡ in_turn read_only n ++ turn read_only n
+turns_more read_only n = flat_map-append (turn read_only) (first_numbers n) (n ∷ []) ∙ ap (λ l. in_turn read_only n ++ l) (append-nil (turn read_only n))
 
-pub turns_reach : (w : Work) (n : ℕ) → reach w beginning (in_turn n) ≡ turned n
+pub turns_reach : (w : Work) (n : ℕ) → reach w beginning (in_turn w.read_only n) ≡ turned w n
 turns_reach w zero = refl
-turns_reach w (suc n) = ap (reach w beginning) (turns_more n) ∙ (reach_join w beginning (in_turn n) (turn n) ∙ (ap (λ s. reach w s (turn n)) (turns_reach w n) ∙ turn_done w n))
+turns_reach w (suc n) =
+    ap (reach w beginning) (turns_more w.read_only n)
+    ∙ (reach_join w beginning (in_turn w.read_only n) (turn w.read_only n) ∙ (ap (λ s. reach w s (turn w.read_only n)) (turns_reach w n) ∙ turn_done w n))
 
-turns_free : (w : Work) (n : ℕ) → n ≤ w.count → AllAllowed w beginning (in_turn n)
+pub turns_free : (w : Work) (n : ℕ) → n ≤ w.count → AllAllowed w beginning (in_turn w.read_only n)
 turns_free w zero h = tt
 turns_free w (suc n) h =
-    subst (AllAllowed w beginning) (sym (turns_more n)) (allowed_join w beginning (in_turn n) (turn n) (turns_free w n (omega (arith, h)))
-    (subst (λ s. AllAllowed w s (turn n)) (sym (turns_reach w n)) (turn_free w n (omega (arith, h)))))
+    subst (AllAllowed w beginning) (sym (turns_more w.read_only n)) (allowed_join w beginning (in_turn w.read_only n) (turn w.read_only n) (turns_free w n (omega (arith, h)))
+    (subst (λ s. AllAllowed w s (turn w.read_only n)) (sym (turns_reach w n)) (turn_free w n (omega (arith, h)))))
 
-turns_late : (w : Work) (n : ℕ) → MovesLate w beginning (in_turn n)
+-- neither of the two events of a turn is a repair or a move
+turn_late : (w : Work) (s : Course) (b : Bool) (n : ℕ) → MovesLate w s (B n ∷ ending b n ∷ [])
+turn_late w s true n = (tt, (tt, tt))
+turn_late w s false n = (tt, (tt, tt))
+
+pub turns_late : (w : Work) (n : ℕ) → MovesLate w beginning (in_turn w.read_only n)
 turns_late w zero = tt
-turns_late w (suc n) = subst (MovesLate w beginning) (sym (turns_more n)) (moves_join w beginning (in_turn n) (turn n) (turns_late w n) (tt, (tt, tt)))
+turns_late w (suc n) =
+    subst (MovesLate w beginning) (sym (turns_more w.read_only n))
+    (moves_join w beginning (in_turn w.read_only n) (turn w.read_only n) (turns_late w n) (turn_late w (reach w beginning (in_turn w.read_only n)) (w.read_only n) n))
 
-no_rounds : (c n : ℕ) → filter (is_round c) (in_turn n) ≡ []
-no_rounds c zero = refl
-no_rounds c (suc n) = ap (filter (is_round c)) (turns_more n) ∙ (filter-append (is_round c) (in_turn n) (turn n) ∙ ap (λ l. l ++ []) (no_rounds c n))
+no_round : (c n : ℕ) (b : Bool) → filter (is_round c) (B n ∷ ending b n ∷ []) ≡ []
+no_round c n true = refl
+no_round c n false = refl
 
-pub closed : (w : Work) (n : ℕ) → n ≡ w.count → option_map Open (open_call w (turned n)) ≡ None
-closed w n is = ap (λ c. option_map Open (if nat_lt c w.count then Some c else None)) (none_open 0 (done_calls n) (all_done n))
-    ∙ ap (λ b. option_map Open (if b then Some (0 + length (done_calls n)) else None)) past
+pub no_rounds : (read_only : ℕ → Bool) (c n : ℕ) → filter (is_round c) (in_turn read_only n) ≡ []
+no_rounds read_only c zero = refl
+no_rounds read_only c (suc n) =
+    ap (filter (is_round c)) (turns_more read_only n)
+    ∙ (filter-append (is_round c) (in_turn read_only n) (turn read_only n)
+    ∙ (ap (λ l. l ++ filter (is_round c) (turn read_only n)) (no_rounds read_only c n) ∙ no_round c n (read_only n)))
+
+pub closed : (w : Work) (n : ℕ) → n ≡ w.count → option_map Open (open_call w (turned w n)) ≡ None
+closed w n is = ap (λ c. option_map Open (if nat_lt c w.count then Some c else None)) (none_open 0 (done_calls w n) (all_done w n))
+    ∙ ap (λ b. option_map Open (if b then Some (0 + length (done_calls w n)) else None)) past
   where
-    past : nat_lt (0 + length (done_calls n)) w.count ≡ false
-    past = let l = length_calls n in grind (arith, l, is)
-
-pub in_turn_is_lawful : (w : Work) → IsInTurn w (in_turn w.count)
-in_turn_is_lawful w = record {
-  lawful = only_open w 1 beginning (in_turn w.count) (turns_free w w.count (omega arith)) ∙ (ap (λ s. option_map Open (open_call w s)) (turns_reach w w.count) ∙ closed w w.count refl);
-  bounded = record { few = λ c. let e = ap (λ (es : List Event). length es) (no_rounds c w.count) in omega (arith, e); late = turns_late w w.count };
-  order = ap (λ (s : Course). s.order) (turns_reach w w.count);
-}
+    past : nat_lt (0 + length (done_calls w n)) w.count ≡ false
+    past = let l = length_calls w n in grind (arith, l, is)

@@ -2,8 +2,8 @@
 -- prints the sum, `transfer` moves money and takes a fee into account 0, `put` inserts an account, `rich` counts the
 -- accounts with 100 or more, `tell` prints whether account 1 has more than 100, and the balance of account 2. This
 -- project's own.
-use Rattle.std.specs.Prelude.{◌≡◌, ℕ, zero, suc, pos, ◌+◌, ◌-◌, nat_lt, not, List, [], ◌∷◌, ◌++◌, Option, Some, None, ℤ, map, length, codes, decimal, if◌then◌else◌}
-use Rattle.std.specs.List.{filter}
+use Rattle.std.specs.Prelude.{◌≡◌, ℕ, zero, suc, pos, ◌+◌, ◌-◌, ◌==◌, nat_lt, not, List, [], ◌∷◌, ◌++◌, Option, Some, None, ℤ, map, length, codes, decimal, if◌then◌else◌}
+use Rattle.std.specs.List.{filter, list_any}
 use Rattle.std.specs.Option.{is_some}
 use Rattle.mv_values.specs.declared.value.Value.{Value}
 use Rattle.mv_values.specs.declared.value.Value.TheVariants.{Int, Text}
@@ -20,11 +20,11 @@ use Rattle.mv_record.specs.declared.record.Read.{Read}
 use Rattle.mv_record.specs.Runs.{Run, writes_in, lines_in, end_in}
 use Rattle.mv_record.specs.Samples.{key, account, asks, test, writes_column, writes_balance, reads, reads_default, sets, blank, look, change, print}
 use Rattle.mv_journal.specs.declared.event.Event.{Event}
-use Rattle.mv_journal.specs.declared.event.Event.TheVariants.{B, S, A, M, C, X, G}
+use Rattle.mv_journal.specs.declared.event.Event.TheVariants.{B, S, A, M, C, X, R, G}
 use Rattle.mv_journal.specs.declared.outcome.Mark.TheVariants.{Plain, Exclusive, Moved}
 use Rattle.mv_journal.specs.declared.outcome.Round.{Round}
 use Rattle.mv_journal.specs.declared.outcome.HistoryLine.{HistoryLine}
-use Rattle.mv_lawful.specs.declared.fault.Fault.TheVariants.{Order, Stale, Conflict, Idle, Rounds}
+use Rattle.mv_lawful.specs.declared.fault.Fault.TheVariants.{Order, Kind, Stale, Conflict, Idle, Rounds}
 use Rattle.mv_lawful.specs.declared.fault.Wrong.TheVariants.{Refused, Open}
 use Rattle.mv_lawful.specs.Work.{Work, hit_of}
 use Rattle.mv_lawful.specs.Lawful.{Lawful, wrong_with, course_of}
@@ -106,6 +106,10 @@ tell db = run_of (look 1 1 0 3 (balance db 1) ∷ record (blank 2) { reads = rea
     if nat_lt 100 (balance db 1) then record (blank 3) { parent = Some 1; sets = sets 1 1 ∷ [] } ∷ rest_of_tell (reads 1 2 ∷ []) 1 3 db
     else rest_of_tell (reads_default 1 ∷ []) 0 2 db)) db
 
+-- prints the balance of an account
+abbrev pub see : ℕ → Tables → Run
+see a db = run_of (look 1 a 1 2 (balance db a) ∷ print 2 (reads 1 0 ∷ []) (decimal (balance db a)) ∷ []) db
+
 -- Work
 
 abbrev pub run_in : List (Tables → Run) → ℕ → Tables → Run
@@ -113,8 +117,12 @@ run_in [] c db = run_of [] db
 run_in (run ∷ runs) zero db = run db
 run_in (run ∷ runs) (suc c) db = run_in runs c db
 
+-- calls of which these are read only
+abbrev pub work_with : List ℕ → Tables → List (Tables → Run) → ℕ → Option ℕ → Work
+work_with readers db runs rounds horizon = record { run = run_in runs; read_only = λ c. list_any (λ d. d == c) readers; count = length runs; opening = db; options = record { rounds = rounds; horizon = horizon } }
+
 abbrev pub work : Tables → List (Tables → Run) → ℕ → Option ℕ → Work
-work db runs rounds horizon = record { run = run_in runs; count = length runs; opening = db; options = record { rounds = rounds; horizon = horizon } }
+work = work_with []
 
 -- work on five accounts, with three rounds and no horizon
 abbrev pub bank : List (Tables → Run) → Work
@@ -123,12 +131,22 @@ bank runs = work five runs 3 None
 abbrev pub plain : ℕ → ℕ → Round
 plain start n = record { start = start; count = Some n; mark = Plain }
 
+-- a call with its rounds, that hasn't got its place yet
 abbrev pub line : ℕ → List Round → HistoryLine
-line c rounds = record { call = c; rounds = rounds }
+line c rounds = record { commit = None; call = c; rounds = rounds }
+
+-- the commits of these calls, in this order
+abbrev pub numbered_from : ℕ → List HistoryLine → List HistoryLine
+numbered_from n [] = []
+numbered_from n (l ∷ ls) = record l { commit = Some n } ∷ numbered_from (n + 1) ls
+
+-- a journal is lawful, and the calls stand so
+abbrev pub Stands : Work → List Event → List HistoryLine → Type 0
+Stands w es history = Lawful w es × ((outcome_of w es).history ≡ history)
 
 -- a journal is lawful, and its commits have these rounds
 abbrev pub Comes : Work → List Event → List HistoryLine → Type 0
-Comes w es history = Lawful w es × ((outcome_of w es).history ≡ history)
+Comes w es history = Stands w es (numbered_from 1 history)
 
 abbrev pub Answers : Work → List Event → List Reply → Tables → Type 0
 Answers w es replies tables = ((outcome_of w es).replies ≡ replies) × ((outcome_of w es).tables ≡ tables)
@@ -277,3 +295,48 @@ OldestStart =
     let w : Work = bank (add 1 5 ∷ add 2 5 ∷ add 3 5 ∷ []) in
     let es : List Event = B 0 ∷ B 1 ∷ C 1 ∷ B 2 ∷ G ∷ [] in
     ((course_of w es).low ≡ 0) × Lawful w (es ++ C 0 ∷ C 2 ∷ [])
+
+-- Read only calls
+
+-- the line of a commit with this number
+abbrev pub commit : ℕ → ℕ → List Round → HistoryLine
+commit n c rounds = record { commit = Some n; call = c; rounds = rounds }
+
+-- an answered call stands at its start: before a commit that it doesn't see, although that was made before its answer
+abbrev pub AnsweredAtStart : Type 0
+AnsweredAtStart =
+    let w : Work = work_with (1 ∷ []) five (add 1 5 ∷ see 1 ∷ []) 3 None in
+    let early : List Event = B 0 ∷ B 1 ∷ C 0 ∷ R 1 ∷ [] in
+    let late : List Event = B 0 ∷ C 0 ∷ B 1 ∷ R 1 ∷ [] in
+    Stands w early (line 1 (plain 0 2 ∷ []) ∷ commit 1 0 (plain 0 4 ∷ []) ∷ [])
+    × ((outcome_of w early).replies ≡ says (105 ∷ []) ∷ says (100 ∷ []) ∷ [])
+    × Stands w late (commit 1 0 (plain 0 4 ∷ []) ∷ line 1 (plain 1 2 ∷ []) ∷ [])
+    × ((outcome_of w late).replies ≡ says (105 ∷ []) ∷ says (105 ∷ []) ∷ [])
+
+-- those of one start stand in the order of their answers, and between two commits
+abbrev pub AnsweredBetween : Type 0
+AnsweredBetween =
+    let w : Work = work_with (1 ∷ 2 ∷ []) five (add 1 5 ∷ see 1 ∷ see 2 ∷ add 1 7 ∷ []) 3 None in
+    Stands w (B 0 ∷ C 0 ∷ B 1 ∷ B 2 ∷ B 3 ∷ C 3 ∷ R 2 ∷ S 1 ∷ R 1 ∷ [])
+    (commit 1 0 (plain 0 4 ∷ []) ∷ line 2 (plain 1 2 ∷ []) ∷ line 1 (plain 1 2 ∷ []) ∷ commit 2 3 (plain 1 4 ∷ []) ∷ [])
+
+-- a read only call is neither committed nor repaired, and no other is answered
+abbrev pub OtherKind : Type 0
+OtherKind =
+    let w : Work = work_with (1 ∷ []) five (add 1 5 ∷ see 1 ∷ []) 0 None in
+    (wrong_with w (B 0 ∷ B 1 ∷ C 0 ∷ C 1 ∷ []) ≡ Some (Refused 4 Kind))
+    × (wrong_with w (B 0 ∷ B 1 ∷ C 0 ∷ A 1 ∷ []) ≡ Some (Refused 4 Kind))
+    × (wrong_with w (B 0 ∷ B 1 ∷ C 0 ∷ X 1 ∷ []) ≡ Some (Refused 4 Kind))
+    × (wrong_with w (B 0 ∷ R 0 ∷ []) ≡ Some (Refused 2 Kind))
+    × (wrong_with w (B 0 ∷ B 1 ∷ C 0 ∷ R 1 ∷ R 1 ∷ []) ≡ Some (Refused 5 Order))
+    × (wrong_with w (B 0 ∷ B 1 ∷ C 0 ∷ []) ≡ Some (Open 1))
+
+-- a stale call is moved before it is answered
+abbrev pub StaleAnswer : Type 0
+StaleAnswer =
+    let w : Work = work_with (2 ∷ []) five (add 1 5 ∷ add 2 5 ∷ see 1 ∷ []) 3 (Some 1) in
+    let es : List Event = B 0 ∷ B 1 ∷ B 2 ∷ C 0 ∷ C 1 ∷ G ∷ [] in
+    (wrong_with w (es ++ R 2 ∷ []) ≡ Some (Refused 7 Stale))
+    × Stands w (es ++ M 2 ∷ R 2 ∷ [])
+    (commit 1 0 (plain 0 4 ∷ []) ∷ commit 2 1 (plain 0 4 ∷ []) ∷ line 2 (record { start = 0; count = None; mark = Plain } ∷ record { start = 2; count = Some 2; mark = Moved } ∷ []) ∷ [])
+    × ((outcome_of w (es ++ M 2 ∷ R 2 ∷ [])).replies ≡ says (105 ∷ []) ∷ says (105 ∷ []) ∷ says (105 ∷ []) ∷ [])

@@ -4,11 +4,11 @@
 use Rattle.std.specs.Prelude.{◌≡◌, ℕ, ◌+◌, ◌-◌, ◌==◌, nat_lt, min, max, Bool, true, false, not, ◌&&◌, List, [], ◌∷◌, ◌++◌, Option, Some, None, length, slice_get, slice_set, if◌then◌else◌}
 use Rattle.std.specs.Option.{option_map, is_some}
 use Rattle.mv_journal.specs.declared.event.Event.{Event}
-use Rattle.mv_journal.specs.declared.event.Event.TheVariants.{B, S, A, M, C, X, G}
+use Rattle.mv_journal.specs.declared.event.Event.TheVariants.{B, S, A, M, C, X, R, G}
 use Rattle.mv_journal.specs.declared.outcome.Mark.{Mark}
 use Rattle.mv_journal.specs.declared.outcome.Mark.TheVariants.{Plain, Exclusive, Moved}
 use Rattle.mv_lawful.specs.declared.fault.Fault.{Fault}
-use Rattle.mv_lawful.specs.declared.fault.Fault.TheVariants.{Order, Stale, Conflict, Idle, Rounds}
+use Rattle.mv_lawful.specs.declared.fault.Fault.TheVariants.{Order, Kind, Stale, Conflict, Idle, Rounds}
 use Rattle.mv_lawful.specs.declared.fault.Wrong.{Wrong}
 use Rattle.mv_lawful.specs.declared.fault.Wrong.TheVariants.{Refused, Open}
 use Rattle.mv_lawful.specs.Work.{Work, records_at, hit_of}
@@ -20,22 +20,24 @@ pub record Turn : Type 0 where
   pub start : ℕ
   pub mark : Mark
 
--- a call that has begun: its start, its rounds, the number of its S events, and whether it has committed
+-- a call that has begun: its start, its rounds, the number of its S events, and whether it is done: it has committed, or
+-- was answered
 pub record Live : Type 0 where
   pub start : ℕ
   pub turns : List Turn
   pub steps : ℕ
   pub done : Bool
 
--- the calls that have committed, in order; the calls that have begun, by number; and low. The number of calls that have
--- begun is the number of the next call
+-- the calls that have committed, in order; the calls that have begun, by number; low; and the calls that were answered, in
+-- order. The number of calls that have begun is the number of the next call
 pub record Course : Type 0 where
   pub order : List ℕ
   pub calls : List Live
   pub low : ℕ
+  pub answered : List ℕ
 
 abbrev pub beginning : Course
-beginning = record { order = []; calls = []; low = 0 }
+beginning = record { order = []; calls = []; low = 0; answered = [] }
 
 -- Refusals
 
@@ -76,10 +78,11 @@ of_call s c f = of_live (slice_get s.calls c) f
 abbrev pub refusal : Work → Course → Event → Option Fault
 refusal w s (B c) = unless ((c == length s.calls) && nat_lt c w.count) Order None
 refusal w s (S c) = of_call s c (λ l. unless (has_step w s c l) Order (unless (not (is_stale s l)) Stale None))
-refusal w s (A c) = of_call s c (λ l. unless (not (is_stale s l)) Stale (unless (is_hit w s c l) Idle (unless (has_round w l) Rounds None)))
+refusal w s (A c) = of_call s c (λ l. unless (not (w.read_only c)) Kind (unless (not (is_stale s l)) Stale (unless (is_hit w s c l) Idle (unless (has_round w l) Rounds None))))
 refusal w s (M c) = of_call s c (λ l. None)
-refusal w s (C c) = of_call s c (λ l. unless (not (is_stale s l)) Stale (unless (not (is_hit w s c l)) Conflict None))
-refusal w s (X c) = of_call s c (λ l. unless (not (is_stale s l)) Stale (unless (is_hit w s c l) Idle (unless (not (has_round w l)) Rounds None)))
+refusal w s (C c) = of_call s c (λ l. unless (not (w.read_only c)) Kind (unless (not (is_stale s l)) Stale (unless (not (is_hit w s c l)) Conflict None)))
+refusal w s (X c) = of_call s c (λ l. unless (not (w.read_only c)) Kind (unless (not (is_stale s l)) Stale (unless (is_hit w s c l) Idle (unless (not (has_round w l)) Rounds None))))
+refusal w s (R c) = of_call s c (λ l. unless (w.read_only c) Kind (unless (not (is_stale s l)) Stale None))
 refusal w s G = None
 
 -- Effects of events
@@ -106,6 +109,9 @@ finish l = record l { done = true }
 abbrev pub commit : Course → ℕ → Course
 commit s c = record s { order = s.order ++ c ∷ [] }
 
+abbrev pub answer : Course → ℕ → Course
+answer s c = record s { answered = s.answered ++ c ∷ [] }
+
 -- Low: the oldest start of a live call, or n if no call is live
 abbrev pub oldest : ℕ → List Live → ℕ
 oldest n [] = n
@@ -129,6 +135,7 @@ after w s (A c) = with_call s c (again (length s.order) Plain)
 after w s (M c) = with_call s c (again (length s.order) Moved)
 after w s (C c) = with_call (commit s c) c finish
 after w s (X c) = with_call (commit s c) c (λ l. finish (again (length s.order) Exclusive l))
+after w s (R c) = with_call (answer s c) c finish
 after w s G = record s { low = next_low w s }
 
 -- Whole journals
@@ -146,7 +153,7 @@ abbrev pub AllAllowed : Work → Course → List Event → Type 0
 AllAllowed w s [] = Unit {0}
 AllAllowed w s (e ∷ es) = (refusal w s e ≡ None) × AllAllowed w (after w s e) es
 
--- the first call, from this number on, that hasn't committed
+-- the first call, from this number on, that isn't done
 abbrev pub first_open : ℕ → List Live → ℕ
 first_open c [] = c
 first_open c (l ∷ ls) = if l.done then first_open (c + 1) ls else c
@@ -168,6 +175,6 @@ wrong_from w n s (e ∷ es) = or_refused n (refusal w s e) (wrong_from w (n + 1)
 abbrev pub wrong_with : Work → List Event → Option Wrong
 wrong_with w es = wrong_from w 1 beginning es
 
--- Lawful: no event is refused, and each call has committed at the end
+-- Lawful: no event is refused, and each call has committed or was answered at the end
 abbrev pub Lawful : Work → List Event → Type 0
 Lawful w es = wrong_with w es ≡ None

@@ -1,11 +1,12 @@
 -- The laws of journals. This project's own.
-use Rattle.std.specs.Prelude.{◌≡◌, ◌≤◌, ◌<◌, ℕ, true, false, List, [], ◌∷◌, Some, None, length, slice_get}
-use Rattle.std.specs.List.{All, AllPairs, Contains, filter}
+use Rattle.std.specs.Prelude.{◌≡◌, ◌≤◌, ◌<◌, ℕ, ◌==◌, true, false, List, [], ◌∷◌, Some, None, length, slice_get}
+use Rattle.std.specs.List.{All, Contains, filter}
 use Rattle.mv_values.specs.Counts.{first_numbers}
 use Rattle.mv_journal.specs.declared.event.Event.{Event}
-use Rattle.mv_journal.specs.declared.event.Event.TheVariants.{B, S, A, M, C, X, G}
+use Rattle.mv_journal.specs.declared.event.Event.TheVariants.{B, S, A, M, C, X, R, G}
 use Rattle.mv_lawful.specs.Work.{Work}
 use Rattle.mv_lawful.specs.Lawful.{Turn, Live, Course, Lawful, AllAllowed, beginning, after, course_of, is_stale, used}
+use Rattle.mv_lawful.specs.Places.{standing}
 use Rattle.mv_lawful.specs.Rounds.{is_round, is_repair, IsPast, IsBounded}
 use Rattle.mv_lawful.specs.Outcomes.{in_turn, without_collections, shown, outcome_of}
 
@@ -46,13 +47,13 @@ abbrev pub first_start : List Turn → ℕ
 first_start [] = 0
 first_start (t ∷ ts) = t.start
 
--- the order of commits has each call exactly once, and no other; no call has a greater start than the number of commits
--- before its own
+-- the order has each call exactly once, and no other. No call has a greater first start than the number of commits before
+-- its own; an answered call stands at its last start, which is no less than the first one
 pub record IsSerial (w : Work) (s : Course) : Type 0 where
-  pub calls : All (λ c. c < w.count) s.order
-  pub once : AllPairs (λ a b. a ≡ b → ⊥) s.order
-  pub each : (c : ℕ) → c < w.count → Contains s.order c
+  pub calls : All (λ c. c < w.count) (standing s)
+  pub once : (c : ℕ) → c < w.count → length (filter (λ d. d == c) (standing s)) ≡ 1
   pub after_begin : (k c : ℕ) (l : Live) → slice_get s.order k ≡ Some c → slice_get s.calls c ≡ Some l → first_start l.turns ≤ k
+  pub answered : (c : ℕ) (l : Live) → Contains s.answered c → slice_get s.calls c ≡ Some l → (first_start l.turns ≤ l.start) × (l.start ≤ length s.order)
 
 abbrev pub LawfulIsSerial : Type 0
 LawfulIsSerial = (w : Work) (es : List Event) → Lawful w es → IsSerial w (course_of w es)
@@ -65,21 +66,22 @@ IsOfCalls n (A c) = c < n
 IsOfCalls n (M c) = c < n
 IsOfCalls n (C c) = c < n
 IsOfCalls n (X c) = c < n
+IsOfCalls n (R c) = c < n
 IsOfCalls n G = Unit {0}
 
 -- the events of a lawful journal are of calls that exist
 abbrev pub LawfulNamesCalls : Type 0
 LawfulNamesCalls = (w : Work) (es : List Event) → Lawful w es → All (IsOfCalls w.count) es
 
--- a lawful and bounded journal that commits the calls in call order
+-- a lawful and bounded journal whose order is the call order
 pub record IsInTurn (w : Work) (es : List Event) : Type 0 where
   pub lawful : Lawful w es
   pub bounded : IsBounded w es
-  pub order : (course_of w es).order ≡ first_numbers w.count
+  pub order : standing (course_of w es) ≡ first_numbers w.count
 
 -- the journal of one worker is such a journal, whatever the calls do
 abbrev pub InTurnIsLawful : Type 0
-InTurnIsLawful = (w : Work) → IsInTurn w (in_turn w.count)
+InTurnIsLawful = (w : Work) → IsInTurn w (in_turn w.read_only w.count)
 
 -- collections change nothing of an outcome but its events
 abbrev pub CollectionsAreUnseen : Type 0

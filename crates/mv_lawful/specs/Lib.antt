@@ -1,5 +1,6 @@
 pub mod Work
 pub mod Lawful
+pub mod Places
 pub mod Rounds
 pub mod Outcomes
 pub mod Laws

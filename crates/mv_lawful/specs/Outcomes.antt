@@ -1,37 +1,42 @@
--- The outcome of a journal: replies, commits with their rounds, events and last tables. This project's own.
-use Rattle.std.specs.Prelude.{◌≡◌, ℕ, ◌==◌, Bool, true, false, List, [], ◌∷◌, Option, Some, None, map, length, slice_get}
-use Rattle.std.specs.List.{filter, position, flat_map}
+-- The outcome of a journal: replies, calls in their order with their rounds, events and last tables. This project's own.
+use Rattle.std.specs.Prelude.{◌≡◌, ℕ, ◌==◌, Bool, true, false, if◌then◌else◌, List, [], ◌∷◌, Option, Some, None, map, length, slice_get}
+use Rattle.std.specs.List.{filter, list_any, position, flat_map}
 use Rattle.mv_values.specs.declared.calls.Reply.{Reply}
 use Rattle.mv_values.specs.Counts.{first_numbers}
 use Rattle.mv_journal.specs.declared.event.Event.{Event}
-use Rattle.mv_journal.specs.declared.event.Event.TheVariants.{B, S, A, M, C, X, G}
+use Rattle.mv_journal.specs.declared.event.Event.TheVariants.{B, S, A, M, C, X, R, G}
 use Rattle.mv_journal.specs.declared.outcome.HistoryLine.{HistoryLine}
 use Rattle.mv_journal.specs.declared.outcome.Outcome.{Outcome}
 use Rattle.mv_lawful.specs.Work.{Work, table_at}
 use Rattle.mv_lawful.specs.Lawful.{Turn, Live, Course, course_of}
+use Rattle.mv_lawful.specs.Places.{Place, start_in, places}
 use Rattle.mv_lawful.specs.Rounds.{rounds_of}
 
--- the reply of a call that runs alone after so many commits; a call that hasn't committed has an empty one
+-- the reply of a call that runs alone after so many commits; a call that has no place has an empty one
 abbrev pub reply_after : Work → List ℕ → ℕ → Option ℕ → Reply
 reply_after w order c None = record { lines = []; end = None }
 reply_after w order c (Some k) = (w.run c (table_at w order k)).reply
 
--- Reply: the reply of a call of the order, alone after the calls before it
-abbrev pub reply_in : Work → List ℕ → ℕ → Reply
-reply_in w order c = reply_after w order c (position (λ d. d == c) order)
+-- the number of commits before a call's own; those up to the start of an answered call
+abbrev pub commits_before : List ℕ → List ℕ → ℕ → ℕ → Option ℕ
+commits_before order answered start c = if list_any (λ d. d == c) answered then Some start else position (λ d. d == c) order
+
+-- Reply: the reply of a call alone after these commits
+abbrev pub reply_in : Work → Course → ℕ → Reply
+reply_in w s c = reply_after w s.order c (commits_before s.order s.answered (start_in s.calls c) c)
 
 abbrev pub turns_of : Option Live → List Turn
 turns_of None = []
 turns_of (Some l) = l.turns
 
--- a commit: its call, and the call's rounds
-abbrev pub history_line : Work → Course → ℕ → HistoryLine
-history_line w s c = record { call = c; rounds = rounds_of w s.order c (turns_of (slice_get s.calls c)) }
+-- a call in its place, with its rounds
+abbrev pub history_line : Work → Course → Place → HistoryLine
+history_line w s p = record { commit = p.commit; call = p.call; rounds = rounds_of w s.order p.call (turns_of (slice_get s.calls p.call)) }
 
 abbrev pub outcome_at : Work → Course → List Event → Outcome
 outcome_at w s es = record {
-  replies = map (reply_in w s.order) (first_numbers w.count);
-  history = map (history_line w s) s.order;
+  replies = map (reply_in w s) (first_numbers w.count);
+  history = map (history_line w s) (places s);
   journal = es;
   tables = table_at w s.order (length s.order);
 }
@@ -42,13 +47,18 @@ outcome_of w es = outcome_at w (course_of w es) es
 
 -- The journal of one worker
 
--- a call begins and commits
-abbrev pub turn : ℕ → List Event
-turn c = B c ∷ C c ∷ []
+-- the event that ends a call: its answer if it is read only, and else its commit
+abbrev pub ending : Bool → ℕ → Event
+ending true c = R c
+ending false c = C c
 
--- each of the first n calls begins and commits before the next begins
-abbrev pub in_turn : ℕ → List Event
-in_turn n = flat_map turn (first_numbers n)
+-- a call begins and ends, if this tells which calls are read only
+abbrev pub turn : (ℕ → Bool) → ℕ → List Event
+turn read_only c = B c ∷ ending (read_only c) c ∷ []
+
+-- each of the first n calls begins and ends before the next begins
+abbrev pub in_turn : (ℕ → Bool) → ℕ → List Event
+in_turn read_only n = flat_map (turn read_only) (first_numbers n)
 
 -- whether the event isn't a collection
 abbrev pub is_of_call : Event → Bool
@@ -58,6 +68,7 @@ is_of_call (A c) = true
 is_of_call (M c) = true
 is_of_call (C c) = true
 is_of_call (X c) = true
+is_of_call (R c) = true
 is_of_call G = false
 
 -- the events without collections
@@ -72,6 +83,7 @@ has_line (A c) = true
 has_line (M c) = true
 has_line (C c) = true
 has_line (X c) = true
+has_line (R c) = true
 has_line G = false
 
 -- the events that a text shows
@@ -81,5 +93,5 @@ shown = filter has_line
 -- the outcome of one worker's journal, in which old versions may be collected between any events
 pub record IsOutcomeInTurn (w : Work) (n : ℕ) (o : Outcome) : Type 0 where
   pub journal : List Event
-  pub turns : without_collections journal ≡ in_turn n
+  pub turns : without_collections journal ≡ in_turn w.read_only n
   pub outcome : o ≡ outcome_of w journal

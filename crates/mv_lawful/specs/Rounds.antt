@@ -3,7 +3,7 @@ use Rattle.std.specs.Prelude.{◌≤◌, ◌<◌, ℕ, ◌+◌, ◌==◌, Bool, 
 use Rattle.std.specs.List.{filter}
 use Rattle.std.specs.Option.{ForSome}
 use Rattle.mv_journal.specs.declared.event.Event.{Event}
-use Rattle.mv_journal.specs.declared.event.Event.TheVariants.{B, S, A, M, C, X, G}
+use Rattle.mv_journal.specs.declared.event.Event.TheVariants.{B, S, A, M, C, X, R, G}
 use Rattle.mv_journal.specs.declared.outcome.Mark.{Mark}
 use Rattle.mv_journal.specs.declared.outcome.Mark.TheVariants.{Plain, Exclusive, Moved}
 use Rattle.mv_journal.specs.declared.outcome.Round.{Round}
@@ -50,6 +50,12 @@ abbrev pub rounds_of : Work → List ℕ → ℕ → List Turn → List Round
 rounds_of w order c [] = []
 rounds_of w order c (t ∷ ts) = round t (unless_moved (whole_run w order c t.start) ts) ∷ later_rounds w order c t.start ts
 
+-- the start of the last round
+abbrev pub last_start : List Round → ℕ
+last_start [] = 0
+last_start (r ∷ []) = r.start
+last_start (r ∷ s ∷ rs) = last_start (s ∷ rs)
+
 -- Bounds
 
 -- whether the event is a repair or a move of the call
@@ -60,6 +66,7 @@ is_round c (B d) = false
 is_round c (S d) = false
 is_round c (C d) = false
 is_round c (X d) = false
+is_round c (R d) = false
 is_round c G = false
 
 abbrev pub is_repair : ℕ → Event → Bool
@@ -69,6 +76,7 @@ is_repair c (B d) = false
 is_repair c (S d) = false
 is_repair c (C d) = false
 is_repair c (X d) = false
+is_repair c (R d) = false
 is_repair c G = false
 
 -- a call has at most one repair or move more than there are rounds
@@ -88,6 +96,7 @@ MayMove w s (S c) = Unit {0}
 MayMove w s (A c) = Unit {0}
 MayMove w s (C c) = Unit {0}
 MayMove w s (X c) = Unit {0}
+MayMove w s (R c) = Unit {0}
 MayMove w s G = Unit {0}
 
 abbrev pub MovesLate : Work → Course → List Event → Type 0

@@ -6,6 +6,8 @@ pub enum Fault {
     /// A B event of another call than the next one, an event of a call that isn't live, or an S event after a repair or
     /// a move of its call, or if its first run has no statement left.
     Order,
+    /// An A, C or X event of a read only call, or an R event of another call.
+    Kind,
     /// The call's start is below low.
     Stale,
     /// A C event of a call with a record that is hit.
@@ -21,6 +23,6 @@ pub enum Fault {
 pub enum Wrong {
     /// The event with this number, counted from 1, is refused.
     Refused { n: u32, fault: Fault },
-    /// All events are allowed, and this is the first call that hasn't committed.
+    /// All events are allowed, and this is the first call that has neither committed nor been answered.
     Open { call: u32 },
 }

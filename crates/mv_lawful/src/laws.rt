@@ -1,18 +1,19 @@
 //! The laws of journals.
 
-ghost use Rattle.mv_lawful.specs.Examples.{OnlyTheFee, AllAgain, NothingAdded, NewRowCounts, OwnWriteCounts, NewDefiner, OtherBranch, SameKey, KeptWriteStays, InOneStep, FirstFaults, StaleMoves, OldestStart};
+ghost use Rattle.mv_lawful.specs.Examples.{OnlyTheFee, AllAgain, NothingAdded, NewRowCounts, OwnWriteCounts, NewDefiner, OtherBranch, SameKey, KeptWriteStays, InOneStep, FirstFaults, StaleMoves, OldestStart, AnsweredAtStart, AnsweredBetween, OtherKind, StaleAnswer};
 ghost use Rattle.mv_lawful.specs.Laws.{LowNeverFalls, NoneIsStale, StaleIsPast, RoundsAreCounted, RepairsAreFew, LawfulIsSerial, LawfulNamesCalls, InTurnIsLawful, CollectionsAreUnseen, ShownIsAllShown, ShownIsLawful, ShownIsBounded, ShownHasTheOutcome};
 ghost use Rattle.mv_lawful.specs.Serializable.{LawfulIsSerializable};
 
-/// A lawful journal commits each call exactly once. No call has a greater start than the number of commits before its
-/// own, so a call that committed before another began is before it in the order of commits.
+/// A lawful journal commits or answers each call exactly once. No call has a greater start than the number of commits
+/// before its place, so a call that committed before another began stands before it. An answered call stands at its last
+/// start.
 pub fn lawful_is_serial()
     ensures { LawfulIsSerial }
 {}
 
 /// The outcome of a lawful journal is serializable. There is an order of the calls that has each exactly once. Each reply is
 /// that of the call alone on the tables that the calls before it leave, and the last tables are the outcome's. A call
-/// that had committed before another began stands before it.
+/// that had committed before another began stands before it. Read only calls must change nothing.
 pub fn lawful_is_serializable()
     ensures { LawfulIsSerializable }
 {}
@@ -22,13 +23,13 @@ pub fn lawful_names_calls()
     ensures { LawfulNamesCalls }
 {}
 
-/// The journal of one worker, in which each call begins and commits before the next begins, is lawful, whatever the
-/// calls do. It commits them in call order.
+/// The journal of one worker, in which each call begins and ends before the next begins, is lawful, whatever the calls
+/// do. Their order is the call order.
 pub fn in_turn_is_lawful()
     ensures { InTurnIsLawful }
 {}
 
-/// Collections change nothing of what a journal leads to: the replies, the commits with their rounds, and the tables are
+/// Collections change nothing of what a journal leads to: the replies, the calls with their rounds, and the tables are
 /// those of the journal without them.
 pub fn collections_are_unseen()
     ensures { CollectionsAreUnseen }
@@ -85,4 +86,8 @@ pub fn worked_examples()
     ensures first { FirstFaults }
     ensures stale { StaleMoves }
     ensures low { OldestStart }
+    ensures answered { AnsweredAtStart }
+    ensures between { AnsweredBetween }
+    ensures kind { OtherKind }
+    ensures stale_answer { StaleAnswer }
 {}

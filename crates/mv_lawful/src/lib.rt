@@ -1,5 +1,6 @@
-//! The law of journals: which event is allowed where, and the outcome of a journal. Nothing here is executed.
+//! The law of journals: which event is allowed where, and the outcome of a journal.
 #![tactic(auto)]
 
 pub mod fault;
 pub mod laws;
+pub mod places;

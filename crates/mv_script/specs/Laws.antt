@@ -3,7 +3,7 @@ use Rattle.std.specs.Prelude.{ℕ, List}
 use Rattle.mv_values.specs.declared.schema.TableInfo.{TableInfo}
 use Rattle.mv_values.specs.Tables.{Tables}
 use Rattle.mv_record.specs.Databases.{IsDatabaseOf}
-use Rattle.mv_lawful.specs.Work.{table_at}
+use Rattle.mv_lawful.specs.Work.{table_at, ReadersKeepTables}
 use Rattle.mv_script.specs.declared.script.Script.{Script}
 use Rattle.mv_script.specs.Scripts.{IsScriptOf, work_of}
 
@@ -14,3 +14,7 @@ CallsKeepDatabases = (tables : List TableInfo) (s : Script) (c : ℕ) (db : Tabl
 -- after any calls there is a database of the script's tables
 abbrev pub TablesAreDatabases : Type 0
 TablesAreDatabases = (tables : List TableInfo) (s : Script) (order : List ℕ) (n : ℕ) → IsScriptOf tables s → IsDatabaseOf tables (table_at (work_of s) order n)
+
+-- calls of READ ONLY procedures leave each database as it is
+abbrev pub ReadersAreQuiet : Type 0
+ReadersAreQuiet = (tables : List TableInfo) (s : Script) → IsScriptOf tables s → ReadersKeepTables (work_of s)

@@ -1,5 +1,5 @@
 -- Defines how the calls of a script run, by the graphs of their procedures. This project's own.
-use Rattle.std.specs.Prelude.{◌≡◌, ◌≤◌, ◌<◌, ◌^◌, ℕ, List, [], Option, Some, None, length, slice_get}
+use Rattle.std.specs.Prelude.{◌≡◌, ◌≤◌, ◌<◌, ◌^◌, ℕ, Bool, false, List, [], Option, Some, None, length, slice_get}
 use Rattle.std.specs.List.{AllZip}
 use Rattle.mv_values.specs.declared.calls.Call.{Call}
 use Rattle.mv_values.specs.declared.schema.TableInfo.{TableInfo}
@@ -8,7 +8,7 @@ use Rattle.mv_catalog.specs.Text.{Suits}
 use Rattle.mv_record.specs.Databases.{IsDatabaseOf}
 use Rattle.mv_record.specs.Runs.{Run}
 use Rattle.mv_graph.specs.declared.graph.Graph.{Graph}
-use Rattle.mv_graph.specs.Nodes.{IsSound, meaning_of}
+use Rattle.mv_graph.specs.Nodes.{IsSound, is_read_only, meaning_of}
 use Rattle.mv_lawful.specs.Work.{Work}
 use Rattle.mv_script.specs.declared.script.Script.{Script}
 
@@ -28,10 +28,20 @@ abbrev pub run_in : List Graph → Option Call → Tables → Run
 run_in graphs None db = idle db
 run_in graphs (Some call) db = run_by (slice_get graphs call.procedure) call db
 
+-- whether a call is of a READ ONLY procedure
+abbrev pub reads_by : Option Graph → Bool
+reads_by None = false
+reads_by (Some g) = is_read_only g
+
+abbrev pub reads_in : List Graph → Option Call → Bool
+reads_in graphs None = false
+reads_in graphs (Some call) = reads_by (slice_get graphs call.procedure)
+
 -- what a script is to the law of journals: each call runs by its graph
 abbrev pub work_of : Script → Work
 work_of s = record {
   run = λ c. run_in s.graphs (slice_get s.calls c);
+  read_only = λ c. reads_in s.graphs (slice_get s.calls c);
   count = length s.calls;
   opening = s.opening;
   options = s.options;

@@ -1,4 +1,4 @@
-use Rattle.mv_lawful.proofs.Serial.{lawful_is_serial}
+use Rattle.mv_lawful.proofs.Placing.{lawful_is_serial}
 use Rattle.mv_lawful.proofs.laws.lawful_is_serial.Goals as goal
 
 pub returns : goal.returns
