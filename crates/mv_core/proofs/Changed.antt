@@ -13,21 +13,21 @@ use Rattle.mv_graph.specs.declared.graph.Graph.{Graph}
 use Rattle.mv_graph.specs.Nodes.{meaning_of}
 use Rattle.mv_exec.specs.Running.{IsTaskOf, HasLeft}
 use Rattle.mv_journal.specs.declared.event.Event.{Event}
-use Rattle.mv_journal.specs.declared.event.Event.TheVariants.{S, A, C, X}
+use Rattle.mv_journal.specs.declared.event.Event.TheVariants.{S, A, C, X, R}
 use Rattle.mv_journal.specs.declared.outcome.Mark.{Mark}
 use Rattle.mv_journal.specs.declared.outcome.Mark.TheVariants.{Exclusive}
 use Rattle.mv_journal.specs.declared.outcome.Round.{Round}
 use Rattle.mv_lawful.specs.Rounds.{later_run, repair_run, rounds_of}
 use Rattle.mv_lawful.specs.Outcomes.{turns_of}
 use Rattle.mv_lawful.specs.Work.{Work, records_at}
-use Rattle.mv_lawful.specs.declared.fault.Fault.TheVariants.{Idle, Order, Stale, Rounds}
+use Rattle.mv_lawful.specs.declared.fault.Fault.TheVariants.{Idle, Kind, Order, Stale, Rounds}
 use Rattle.mv_lawful.specs.Lawful.{Live, Course, again, finish, change_live, used, has_step, has_round, is_hit, is_stale, unless, refusal, after}
 use Rattle.mv_script.specs.declared.script.Script.{Script}
 use Rattle.mv_core.specs.Rooms.{Filled}
 use Rattle.mv_script.specs.Scripts.{work_of, IsScript}
 use Rattle.mv_core.specs.declared.tasks.Running.{Running}
 use Rattle.mv_core.specs.Calls.{IsLive, IsLiveCall, last_number, due_number}
-use Rattle.mv_core.specs.Books.{Booked, work_in, Made, IsSame, IsSettled, HasRounds, round_event, IsOwnBy, IsOwnNumber, IsAnswer, HasRoom, IsNotStale}
+use Rattle.mv_core.specs.Books.{Booked, work_in, Made, IsSame, IsSettled, IsMissing, HasAnswered, HasRounds, round_event, IsOwnBy, IsOwnNumber, IsAnswer, HasRoom, IsNotStale}
 use Rattle.mv_core.specs.declared.book.Check.{Check}
 use Rattle.mv_core.specs.declared.engine.Attempt.{Attempt}
 use Rattle.mv_view.specs.Viewing.{Sight, MayAnswer}
@@ -43,7 +43,7 @@ use Rattle.mv_core.proofs.Keeping.{restart_after}
 use Rattle.mv_core.proofs.Numbered.{numbers_same}
 use Rattle.mv_core.proofs.Stored.{stored_same}
 use Rattle.mv_core.proofs.Taking.{tasks_same, number_again, one_live}
-use Rattle.mv_core.proofs.Refusing.{used_rounds, Repairs, repairs_again, repairs_last, step_is, same_made, refused_stale, fresh_allowed, live_is, told_idle, told_stale, told_hit}
+use Rattle.mv_core.proofs.Refusing.{used_rounds, Repairs, repairs_again, repairs_last, step_is, same_made, refused_stale, fresh_allowed, live_is, told_idle, told_stale, told_hit, answer_stale, write_refused}
 use Rattle.mv_store.specs.Stored.{Versioned}
 
 -- What contracts see of a core
@@ -107,6 +107,26 @@ pub committed_after : (e : Event) (r : Result ℕ NoMemory) (old mid new : Booke
 committed_after e (Ok n) old mid new same h = (made_after e old mid new same h.0, h.1 ∙ ap (λ (s : Course). length s.order + 1) same.course)
 committed_after e (Err x) old mid new same h = same_both old mid new same h
 
+-- an answer after no event
+pub answered_after : (c : ℕ) (r : Result ℕ Refused) (old mid new : Booked) → IsSame old mid → HasAnswered c r mid new → HasAnswered c r old new
+answered_after c (Ok n) old mid new same h = (made_after (R c) old mid new same h.0, λ l live. h.1 l (subst (λ (s : Course). IsLive s c l) (sym same.course) live))
+answered_after c (Err refused.NoMemory) old mid new same h = same_both old mid new same h
+answered_after c (Err (refused.Stale start low)) old mid new same h =
+    let at = h.0 in (
+      record {
+        live = at.live;
+        is_live = subst (λ (s : Course). IsLive s c at.live) same.course at.is_live;
+        start_is = at.start_is;
+        low_is = at.low_is ∙ ap (λ (s : Course). s.low) same.course;
+        stale = at.stale;
+      },
+      same_both old mid new same h.1,
+    )
+
+pub refused_is_same : (c : ℕ) (why : Refused) (old new : Booked) → HasRefused c why old new → IsSame old new
+refused_is_same c refused.NoMemory old new h = h
+refused_is_same c (refused.Stale start low) old new h = h.1
+
 -- where memory ran out
 pub try_failed : (Q : NoMemory → Type 0) (c : ℕ) (r : Result Attempt NoMemory) (old new : Booked) → IsErrAnd r Q → IsSame old new → HasTried c r old new
 try_failed Q c (Ok a) old new err same = absurd err
@@ -120,6 +140,10 @@ repair_failed c (Err (refused.Stale start low)) old new err same = absurd (searc
 pub due_same : (old new : Booked) (c n : ℕ) → new.script ≡ old.script → new.course ≡ old.course → due_number (work_in old) old.course c ≡ Some n → due_number (work_in new) new.course c ≡ Some n
 due_same old new c n script course is =
     ap (λ (s : Script). due_number (work_of s) new.course c) script ∙ (ap (λ s. due_number (work_in old) s c) course ∙ is)
+
+-- a number that is still missing
+pub missing_same : (old new : Booked) (c n : ℕ) → IsSame old new → IsMissing n old c → IsMissing n new c
+missing_same old new c n same missing none = due_same old new c n same.script same.course (missing (λ settled. none (same.settled c settled)))
 
 pub own_same : (own : Option ℕ) (old new : Booked) (c : ℕ) → new.script ≡ old.script → new.course ≡ old.course → IsOwnNumber own old c → IsOwnNumber own new c
 own_same own old new c script course is =
@@ -275,11 +299,11 @@ hit_told b c number commit a l told is live =
     let h : IsAnswer (check.Hit number commit) (work_in b) b.course c l = subst (λ (x : Check). IsAnswer x (work_in b) b.course c l) is (told l live) in
     record { live = l; is_live = live; refused = h.0; hit_is = h.1 }
 
-pub stale_told : (b : Booked) (c start low : ℕ) (a : Check) (l : Live) → ((m : Live) → IsLive b.course c m → IsAnswer a (work_in b) b.course c m) → a ≡ check.Stale start low → IsLive b.course c l
+pub stale_told : (b : Booked) (c start low : ℕ) (a : Check) (l : Live) → ((m : Live) → IsLive b.course c m → IsAnswer a (work_in b) b.course c m) → a ≡ check.Stale start low → (work_in b).read_only c ≡ false → IsLive b.course c l
     → IsStaleAt b c start low
-stale_told b c start low a l told is live =
+stale_told b c start low a l told is writes live =
     let h : IsAnswer (check.Stale start low) (work_in b) b.course c l = subst (λ (x : Check). IsAnswer x (work_in b) b.course c l) is (told l live) in
-    let lt = ltb-true l.start b.course.low (refused_stale (work_in b) b.course c l live h.0) in
+    let lt = ltb-true l.start b.course.low (refused_stale (work_in b) b.course c l writes live h.0) in
     let at = h.1 in
     let to = h.2 in
     record { live = l; is_live = live; start_is = at; low_is = to; stale = omega (arith, lt, at, to) }
@@ -289,58 +313,58 @@ same_self b = record { script = refl; course = refl; settled = λ c has. has; jo
 
 -- Whether a call is repaired
 
-idle_refused : (old new : Booked) (c : ℕ) (a : Check) (l : Live) (e : Event) (may : Bool) → IsSame old new → IsLive old.course c l → Repairs (work_in old) old.course c l e may
+idle_refused : (old new : Booked) (c : ℕ) (a : Check) (l : Live) (e : Event) (may : Bool) → IsSame old new → (work_in old).read_only c ≡ false → IsLive old.course c l → Repairs (work_in old) old.course c l e may
     → ((m : Live) → IsLive old.course c m → IsAnswer a (work_in old) old.course c m) → a ≡ check.Free → (refusal (work_in old) old.course e ≡ Some Idle) × HasMade [] old new
-idle_refused old new c a l e may same live r told is = (
-  told_idle (work_in old) old.course c l e may live r (subst (λ (x : Check). IsAnswer x (work_in old) old.course c l) is (told l live)),
+idle_refused old new c a l e may same writes live r told is = (
+  told_idle (work_in old) old.course c l e may writes live r (subst (λ (x : Check). IsAnswer x (work_in old) old.course c l) is (told l live)),
   same_made old new same,
 )
 
-stale_refused : (old new : Booked) (c start low : ℕ) (a : Check) (l : Live) (e : Event) (may : Bool) → IsSame old new → IsLive old.course c l → Repairs (work_in old) old.course c l e may
+stale_refused : (old new : Booked) (c start low : ℕ) (a : Check) (l : Live) (e : Event) (may : Bool) → IsSame old new → (work_in old).read_only c ≡ false → IsLive old.course c l → Repairs (work_in old) old.course c l e may
     → ((m : Live) → IsLive old.course c m → IsAnswer a (work_in old) old.course c m) → a ≡ check.Stale start low → (refusal (work_in old) old.course e ≡ Some Stale) × HasMade [] old new
-stale_refused old new c start low a l e may same live r told is = (
-  told_stale (work_in old) old.course c start low l e may live r (subst (λ (x : Check). IsAnswer x (work_in old) old.course c l) is (told l live)),
+stale_refused old new c start low a l e may same writes live r told is = (
+  told_stale (work_in old) old.course c start low l e may writes live r (subst (λ (x : Check). IsAnswer x (work_in old) old.course c l) is (told l live)),
   same_made old new same,
 )
 
-hit_law : (old : Booked) (c number commit : ℕ) (a : Check) (l : Live) (e : Event) (may : Bool) → IsLive old.course c l → Repairs (work_in old) old.course c l e may
+hit_law : (old : Booked) (c number commit : ℕ) (a : Check) (l : Live) (e : Event) (may : Bool) → (work_in old).read_only c ≡ false → IsLive old.course c l → Repairs (work_in old) old.course c l e may
     → ((m : Live) → IsLive old.course c m → IsAnswer a (work_in old) old.course c m) → a ≡ check.Hit number commit → refusal (work_in old) old.course e ≡ unless may Rounds None
-hit_law old c number commit a l e may live r told is =
-    told_hit (work_in old) old.course c number commit l e may live r (subst (λ (x : Check). IsAnswer x (work_in old) old.course c l) is (told l live))
+hit_law old c number commit a l e may writes live r told is =
+    told_hit (work_in old) old.course c number commit l e may writes live r (subst (λ (x : Check). IsAnswer x (work_in old) old.course c l) is (told l live))
 
 round_now : (old new : Booked) (c : ℕ) (l : Live) (may : Bool) → IsSame old new → IsLive old.course c l → ((m : Live) → IsLive new.course c m → may ≡ has_round (work_in new) m) → has_round (work_in old) l ≡ may
 round_now old new c l may same live told =
     ap (λ (s : Script). has_round (work_of s) l) (sym same.script) ∙ sym (told l (subst (λ (s : Course). IsLive s c l) (sym same.course) live))
 
-again_law : (old : Booked) (c : ℕ) (l : Live) → IsLive old.course c l → Repairs (work_in old) old.course c l (A c) (has_round (work_in old) l)
-again_law old c l live = repairs_again (work_in old) old.course c l live
+again_law : (old : Booked) (c : ℕ) (l : Live) → (work_in old).read_only c ≡ false → IsLive old.course c l → Repairs (work_in old) old.course c l (A c) (has_round (work_in old) l)
+again_law old c l writes live = repairs_again (work_in old) old.course c l writes live
 
-last_law : (old : Booked) (c : ℕ) (l : Live) → IsLive old.course c l → Repairs (work_in old) old.course c l (X c) (not (has_round (work_in old) l))
-last_law old c l live = repairs_last (work_in old) old.course c l live
+last_law : (old : Booked) (c : ℕ) (l : Live) → (work_in old).read_only c ≡ false → IsLive old.course c l → Repairs (work_in old) old.course c l (X c) (not (has_round (work_in old) l))
+last_law old c l writes live = repairs_last (work_in old) old.course c l writes live
 
 -- no commit hits it
-pub idle_told : (old new : Booked) (c : ℕ) (a : Check) (l : Live) → IsSame old new → IsLive old.course c l → ((m : Live) → IsLive old.course c m → IsAnswer a (work_in old) old.course c m) → a ≡ check.Free → TellsRound c (Err (drive.Refused Idle)) old new
-idle_told old new c a l same live told is = (
-  idle_refused old new c a l (A c) (has_round (work_in old) l) same live (again_law old c l live) told is,
-  idle_refused old new c a l (X c) (not (has_round (work_in old) l)) same live (last_law old c l live) told is,
+pub idle_told : (old new : Booked) (c : ℕ) (a : Check) (l : Live) → IsSame old new → (work_in old).read_only c ≡ false → IsLive old.course c l → ((m : Live) → IsLive old.course c m → IsAnswer a (work_in old) old.course c m) → a ≡ check.Free → TellsRound c (Err (drive.Refused Idle)) old new
+idle_told old new c a l same writes live told is = (
+  idle_refused old new c a l (A c) (has_round (work_in old) l) same writes live (again_law old c l writes live) told is,
+  idle_refused old new c a l (X c) (not (has_round (work_in old) l)) same writes live (last_law old c l writes live) told is,
 )
 
 -- its start is below low
-pub stale_round : (old new : Booked) (c start low : ℕ) (a : Check) (l : Live) → IsSame old new → IsLive old.course c l → ((m : Live) → IsLive old.course c m → IsAnswer a (work_in old) old.course c m) → a ≡ check.Stale start low → TellsRound c (Err (drive.Refused Stale)) old new
-stale_round old new c start low a l same live told is = (
-  stale_refused old new c start low a l (A c) (has_round (work_in old) l) same live (again_law old c l live) told is,
-  stale_refused old new c start low a l (X c) (not (has_round (work_in old) l)) same live (last_law old c l live) told is,
+pub stale_round : (old new : Booked) (c start low : ℕ) (a : Check) (l : Live) → IsSame old new → (work_in old).read_only c ≡ false → IsLive old.course c l → ((m : Live) → IsLive old.course c m → IsAnswer a (work_in old) old.course c m) → a ≡ check.Stale start low → TellsRound c (Err (drive.Refused Stale)) old new
+stale_round old new c start low a l same writes live told is = (
+  stale_refused old new c start low a l (A c) (has_round (work_in old) l) same writes live (again_law old c l writes live) told is,
+  stale_refused old new c start low a l (X c) (not (has_round (work_in old) l)) same writes live (last_law old c l writes live) told is,
 )
 
 -- it is hit
-pub round_told : (old new : Booked) (c number commit : ℕ) (a : Check) (l : Live) (more : Bool) → IsSame old new → IsLive old.course c l → ((m : Live) → IsLive old.course c m → IsAnswer a (work_in old) old.course c m) → a ≡ check.Hit number commit
+pub round_told : (old new : Booked) (c number commit : ℕ) (a : Check) (l : Live) (more : Bool) → IsSame old new → (work_in old).read_only c ≡ false → IsLive old.course c l → ((m : Live) → IsLive old.course c m → IsAnswer a (work_in old) old.course c m) → a ≡ check.Hit number commit
     → ((m : Live) → IsLive new.course c m → more ≡ has_round (work_in new) m) → TellsRound c (Ok more) old new
-round_told old new c number commit a l more same live told is round =
+round_told old new c number commit a l more same writes live told is round =
     let now : has_round (work_in old) l ≡ more = round_now old new c l more same live round in (
       same,
       (l, live),
-      hit_law old c number commit a l (A c) (has_round (work_in old) l) live (again_law old c l live) told is ∙ ap (λ b. unless b Rounds None) now,
-      hit_law old c number commit a l (X c) (not (has_round (work_in old) l)) live (last_law old c l live) told is ∙ ap (λ b. unless (not b) Rounds None) now,
+      hit_law old c number commit a l (A c) (has_round (work_in old) l) writes live (again_law old c l writes live) told is ∙ ap (λ b. unless b Rounds None) now,
+      hit_law old c number commit a l (X c) (not (has_round (work_in old) l)) writes live (last_law old c l writes live) told is ∙ ap (λ b. unless (not b) Rounds None) now,
     )
 
 -- it is repaired as its rounds ask
@@ -371,17 +395,32 @@ step_refused c old new why has left =
     ∙ (ap (λ b. unless b Order (unless (not (is_stale old.course l)) Stale None)) (has l live) ∙ ap (λ b. unless (not b) Stale None) stale))
     (same_self old) left
 
-pub again_refused : (c : ℕ) (old mid new : Booked) (why : Refused) → IsSame old mid → HasRefused c why mid new → HasTaken (A c) old new (Err (of_view why))
-again_refused c old mid new why same left =
+pub again_refused : (c : ℕ) (old mid new : Booked) (why : Refused) → (work_in old).read_only c ≡ false → IsSame old mid → HasRefused c why mid new → HasTaken (A c) old new (Err (of_view why))
+again_refused c old mid new why writes same left =
     left_as_is (A c) c old mid new why
-    (λ l live stale. (again_law old c l live).law ∙ ap (λ b. unless (not b) Stale (unless (is_hit (work_in old) old.course c l) Idle (unless (has_round (work_in old) l) Rounds None))) stale)
+    (λ l live stale. (again_law old c l writes live).law ∙ ap (λ b. unless (not b) Stale (unless (is_hit (work_in old) old.course c l) Idle (unless (has_round (work_in old) l) Rounds None))) stale)
     same left
 
-pub last_refused : (c : ℕ) (old mid new : Booked) (why : Refused) → IsSame old mid → HasRefused c why mid new → HasTaken (X c) old new (Err (of_view why))
-last_refused c old mid new why same left =
+pub last_refused : (c : ℕ) (old mid new : Booked) (why : Refused) → (work_in old).read_only c ≡ false → IsSame old mid → HasRefused c why mid new → HasTaken (X c) old new (Err (of_view why))
+last_refused c old mid new why writes same left =
     left_as_is (X c) c old mid new why
-    (λ l live stale. (last_law old c l live).law ∙ ap (λ b. unless (not b) Stale (unless (is_hit (work_in old) old.course c l) Idle (unless (not (has_round (work_in old) l)) Rounds None))) stale)
+    (λ l live stale. (last_law old c l writes live).law ∙ ap (λ b. unless (not b) Stale (unless (is_hit (work_in old) old.course c l) Idle (unless (not (has_round (work_in old) l)) Rounds None))) stale)
     same left
+
+pub answer_refused : (c : ℕ) (old new : Booked) (why : Refused) → (work_in old).read_only c ≡ true → HasRefused c why old new → HasTaken (R c) old new (Err (of_view why))
+answer_refused c old new why reads left = left_as_is (R c) c old old new why (λ l live stale. answer_stale (work_in old) old.course c l reads live stale) (same_self old) left
+
+-- a call whose repair the law refuses for its rounds at most isn't read only
+pub round_writes : (old : Booked) (c : ℕ) (more : Bool) → IsLiveCall old.course c → refusal (work_in old) old.course (A c) ≡ unless more Rounds None → (work_in old).read_only c ≡ false
+round_writes old c more live law = by ((work_in old).read_only c) refl where
+  never : (more : Bool) → Some Kind ≡ unless more Rounds None → ⊥
+  never true e = search (rules, e)
+  never false e = search (rules, e)
+
+  by : (b : Bool) → (work_in old).read_only c ≡ b → (work_in old).read_only c ≡ false
+  by false e = e
+  by true e =
+      absurd (never more (sym (write_refused (work_in old) old.course c (λ x. unless (not (is_stale old.course x)) Stale (unless (is_hit (work_in old) old.course c x) Idle (unless (has_round (work_in old) x) Rounds None))) live.0 e live.1) ∙ law))
 
 -- rounds of a core whose last one lacks its number
 pub one_round : (b : Booked) (store : Versioned) (ts : List (Option Running)) (c : ℕ) (rs : List Round) → IsCore b store ts → HasRounds b c rs → last_number rs ≡ None → length rs ≡ 1

@@ -63,4 +63,4 @@ book_send =
     view_send Inside.the_row _ _ _ _
     (recorded_send (Inside.the_field).row _ _ (Inside.the_type).to_one
     (struct_send (shape Inside.the_type)
-    (shared_send, (search others depth 60 fits 20000, (search others depth 60 fits 20000, (live.the_send, (recent.the_send, (search others depth 60 fits 20000, (search others depth 60 fits 20000, (search others depth 60 fits 20000, tt))))))))))
+    (shared_send, (search others depth 60 fits 20000, (search others depth 60 fits 20000, (search others depth 60 fits 20000, (live.the_send, (recent.the_send, (search others depth 60 fits 20000, (search others depth 60 fits 20000, (search others depth 60 fits 20000, tt)))))))))))

@@ -1,13 +1,14 @@
 -- What holds of the calls and commits of a journal of which no event is refused.
 use Rattle.std.proofs.Common.{◌≡◌, ◌⊎◌, inl, inr, ℕ, zero, suc, ◌+◌, ◌<◌, ◌≤◌, Bool, true, false, not, cond, List, [], ◌∷◌, ◌++◌, Option, Some, None, length, slice_set, if◌then◌else◌, refl, sym, ap, subst, ◌∙◌, arith, length-append, rules}
-use Rattle.std.specs.Prelude.{◌==◌, ◌&&◌, nat_lt, slice_get}
+use Rattle.std.specs.Prelude.{◌==◌, ◌&&◌, ◌||◌, nat_lt, slice_get}
 use Rattle.std.specs.List.{position, position_or_len}
 use Rattle.std.proofs.lemmas.Bool.Decides.{eqb_tells}
-use Rattle.std.proofs.lemmas.Bool.{eqb-true, eq-eqb}
+use Rattle.std.proofs.lemmas.Bool.{eqb-true, eq-eqb, ne_eqb}
 use Rattle.std.proofs.lemmas.List.{length-set}
-use Rattle.mv_lawful.proofs.Serial.{open_done}
+use Rattle.mv_lawful.proofs.Serial.{open_done, stands}
+use Rattle.mv_lawful.specs.Outcomes.{commits_before}
 use Rattle.mv_journal.specs.declared.event.Event.{Event}
-use Rattle.mv_journal.specs.declared.event.Event.TheVariants.{B, S, A, M, C, X, G}
+use Rattle.mv_journal.specs.declared.event.Event.TheVariants.{B, S, A, M, C, X, R, G}
 use Rattle.mv_journal.specs.declared.outcome.Mark.{Mark}
 use Rattle.mv_journal.specs.declared.outcome.Mark.TheVariants.{Plain, Exclusive, Moved}
 use Rattle.mv_lawful.specs.declared.fault.Fault.{Fault}
@@ -70,7 +71,7 @@ live_at s c f h = by (slice_get s.calls c) refl h where
 pub changed_at : (ls : List Live) (c : ℕ) (f : Live → Live) (l : Live) → slice_get ls c ≡ Some l → change_live (slice_get ls c) f ls c ≡ slice_set ls c (f l)
 changed_at ls c f l at = ap (λ o. change_live o f ls c) at
 
--- How many have committed
+-- How many are done
 
 abbrev pub done_in : List Live → ℕ
 done_in [] = 0
@@ -128,11 +129,31 @@ pub record CallFacts (commits events : ℕ) (l : Live) : Type 0 where
   pub start : l.start ≤ commits
   pub steps : l.steps ≤ events
 
+-- the call is done
+abbrev pub IsDoneIn : List Live → ℕ → Type 0
+IsDoneIn ls c = (l : Live) × (slice_get ls c ≡ Some l) × (l.done ≡ true)
+
+-- it isn't live
+not_live : (ls : List Live) (c d : ℕ) (l : Live) → IsDoneIn ls d → slice_get ls c ≡ Some l → l.done ≡ false → d ≡ c → ⊥
+not_live ls c d l h at live is =
+    let same : Some h.0 ≡ Some l = sym h.1 ∙ (ap (slice_get ls) is ∙ at) in
+    let one : h.0 ≡ l = search (rules, same) in
+    let both : true ≡ false = sym h.2 ∙ (ap (λ (x : Live). x.done) one ∙ live) in
+    search (rules, both)
+
+-- another call changes
+done_set : (ls : List Live) (c d : ℕ) (m : Live) → (d ≡ c → ⊥) → IsDoneIn ls d → IsDoneIn (slice_set ls c m) d
+done_set ls c d m other h = (h.0, set_apart ls c d m other ∙ h.1, h.2)
+
+done_here : (ls : List Live) (c d : ℕ) (l m : Live) → slice_get ls c ≡ Some l → m.done ≡ true → d ≡ c → IsDoneIn (slice_set ls c m) d
+done_here ls c d l m at ended is = (m, subst (λ n. slice_get (slice_set ls c m) n ≡ Some m) (sym is) (set_there ls c m l at), ended)
+
 pub record Facts (w : Work) (events : ℕ) (s : Course) : Type 0 where
   pub count : length s.calls ≤ w.count
-  pub done : done_in s.calls ≡ length s.order
+  pub done : done_in s.calls ≡ length s.order + length s.answered
   pub each : (c : ℕ) (l : Live) → slice_get s.calls c ≡ Some l → CallFacts (length s.order) events l
-  pub back : (k c : ℕ) → slice_get s.order k ≡ Some c → (l : Live) × (slice_get s.calls c ≡ Some l) × (l.done ≡ true)
+  pub back : (k c : ℕ) → slice_get s.order k ≡ Some c → IsDoneIn s.calls c
+  pub replied : (k c : ℕ) → slice_get s.answered k ≡ Some c → IsDoneIn s.calls c
 
 call_more : (n m e f : ℕ) (l : Live) → n ≤ m → e ≤ f → CallFacts n e l → CallFacts m f l
 call_more n m e f l le lf h = record {
@@ -160,20 +181,12 @@ changed w e s c l m k live still fresh = record {
   count = let n = length-set s.calls c m in let h = k.count in omega (arith, n, h);
   done = done_kept s.calls c l m live.at (still ∙ sym live.live) ∙ k.done;
   each = λ d x at. by d x (get_set s.calls c d m x at);
-  back = λ i d at. back i d (k.back i d at);
+  back = λ i d at. (let h = k.back i d at in done_set s.calls c d m (not_live s.calls c d l h live.at live.live) h);
+  replied = λ i d at. (let h = k.replied i d at in done_set s.calls c d m (not_live s.calls c d l h live.at live.live) h);
 } where
   by : (d : ℕ) (x : Live) → ((d ≡ c) × (m ≡ x)) ⊎ ((d ≡ c → ⊥) × (slice_get s.calls d ≡ Some x)) → CallFacts (length s.order) (e + 1) x
   by d x (inl h) = subst (CallFacts (length s.order) (e + 1)) h.1 fresh
   by d x (inr h) = call_more (length s.order) (length s.order) e (e + 1) x (omega arith) (omega arith) (k.each d x h.1)
-
-  back : (i d : ℕ) → (x : Live) × (slice_get s.calls d ≡ Some x) × (x.done ≡ true) → (x : Live) × (slice_get (slice_set s.calls c m) d ≡ Some x) × (x.done ≡ true)
-  back i d h = (h.0, set_apart s.calls c d m other ∙ h.1, h.2) where
-    other : d ≡ c → ⊥
-    other is =
-        let same : Some h.0 ≡ Some l = sym h.1 ∙ (ap (slice_get s.calls) is ∙ live.at) in
-        let one : h.0 ≡ l = search (rules, same) in
-        let both : true ≡ false = sym h.2 ∙ (ap (λ (x : Live). x.done) one ∙ live.live) in
-        search (rules, both)
 
 -- one live call commits
 committed : (w : Work) (e : ℕ) (s : Course) (c : ℕ) (l m : Live) → Facts w e s → IsLive s c l → m.done ≡ true → CallFacts (length s.order) (e + 1) m
@@ -183,30 +196,45 @@ committed w e s c l m k live ended fresh = record {
   done = done_more s.calls c l m live.at live.live ended ∙ (ap suc k.done ∙ one_more);
   each = λ d x at. by d x (get_set s.calls c d m x at);
   back = λ i d at. back i d (get_last s.order c i d at);
+  replied = λ i d at. (let h = k.replied i d at in done_set s.calls c d m (not_live s.calls c d l h live.at live.live) h);
 } where
   longer : length (s.order ++ c ∷ []) ≡ length s.order + 1
   longer = length-append s.order (c ∷ [])
 
-  one_more : suc (length s.order) ≡ length (s.order ++ c ∷ [])
+  one_more : suc (length s.order + length s.answered) ≡ length (s.order ++ c ∷ []) + length s.answered
   one_more = omega (arith, longer)
 
   by : (d : ℕ) (x : Live) → ((d ≡ c) × (m ≡ x)) ⊎ ((d ≡ c → ⊥) × (slice_get s.calls d ≡ Some x)) → CallFacts (length (s.order ++ c ∷ [])) (e + 1) x
   by d x (inl h) = subst (CallFacts (length (s.order ++ c ∷ [])) (e + 1)) h.1 (call_more (length s.order) (length (s.order ++ c ∷ [])) (e + 1) (e + 1) m (omega (arith, longer)) (omega arith) fresh)
   by d x (inr h) = call_more (length s.order) (length (s.order ++ c ∷ [])) e (e + 1) x (omega (arith, longer)) (omega arith) (k.each d x h.1)
 
-  here : (d : ℕ) → d ≡ c → (x : Live) × (slice_get (slice_set s.calls c m) d ≡ Some x) × (x.done ≡ true)
-  here d is = (m, subst (λ n. slice_get (slice_set s.calls c m) n ≡ Some m) (sym is) (set_there s.calls c m l live.at), ended)
+  back : (i d : ℕ) → (slice_get s.order i ≡ Some d) ⊎ ((i ≡ length s.order) × (c ≡ d)) → IsDoneIn (slice_set s.calls c m) d
+  back i d (inr h) = done_here s.calls c d l m live.at ended (sym h.1)
+  back i d (inl at) = let h = k.back i d at in done_set s.calls c d m (not_live s.calls c d l h live.at live.live) h
 
-  back : (i d : ℕ) → (slice_get s.order i ≡ Some d) ⊎ ((i ≡ length s.order) × (c ≡ d)) → (x : Live) × (slice_get (slice_set s.calls c m) d ≡ Some x) × (x.done ≡ true)
-  back i d (inr h) = here d (sym h.1)
-  back i d (inl at) =
-      let h = k.back i d at in
-      let other : d ≡ c → ⊥ = λ is.
-      let same : Some h.0 ≡ Some l = sym h.1 ∙ (ap (slice_get s.calls) is ∙ live.at) in
-      let one : h.0 ≡ l = search (rules, same) in
-      let both : true ≡ false = sym h.2 ∙ (ap (λ (x : Live). x.done) one ∙ live.live) in
-      search (rules, both) in
-      (h.0, set_apart s.calls c d m other ∙ h.1, h.2)
+-- one live call is answered
+replied : (w : Work) (e : ℕ) (s : Course) (c : ℕ) (l m : Live) → Facts w e s → IsLive s c l → m.done ≡ true → CallFacts (length s.order) (e + 1) m
+    → Facts w (e + 1) (record s { answered = s.answered ++ c ∷ []; calls = slice_set s.calls c m })
+replied w e s c l m k live ended fresh = record {
+  count = let n = length-set s.calls c m in let h = k.count in omega (arith, n, h);
+  done = done_more s.calls c l m live.at live.live ended ∙ (ap suc k.done ∙ one_more);
+  each = λ d x at. by d x (get_set s.calls c d m x at);
+  back = λ i d at. (let h = k.back i d at in done_set s.calls c d m (not_live s.calls c d l h live.at live.live) h);
+  replied = λ i d at. last i d (get_last s.answered c i d at);
+} where
+  longer : length (s.answered ++ c ∷ []) ≡ length s.answered + 1
+  longer = length-append s.answered (c ∷ [])
+
+  one_more : suc (length s.order + length s.answered) ≡ length s.order + length (s.answered ++ c ∷ [])
+  one_more = omega (arith, longer)
+
+  by : (d : ℕ) (x : Live) → ((d ≡ c) × (m ≡ x)) ⊎ ((d ≡ c → ⊥) × (slice_get s.calls d ≡ Some x)) → CallFacts (length s.order) (e + 1) x
+  by d x (inl h) = subst (CallFacts (length s.order) (e + 1)) h.1 fresh
+  by d x (inr h) = call_more (length s.order) (length s.order) e (e + 1) x (omega arith) (omega arith) (k.each d x h.1)
+
+  last : (i d : ℕ) → (slice_get s.answered i ≡ Some d) ⊎ ((i ≡ length s.answered) × (c ≡ d)) → IsDoneIn (slice_set s.calls c m) d
+  last i d (inr h) = done_here s.calls c d l m live.at ended (sym h.1)
+  last i d (inl at) = let h = k.replied i d at in done_set s.calls c d m (not_live s.calls c d l h live.at live.live) h
 
 -- a call begins
 begun : (w : Work) (e : ℕ) (s : Course) → Facts w e s → length s.calls < w.count → Facts w (e + 1) (record s { calls = s.calls ++ begin (length s.order) ∷ [] })
@@ -215,6 +243,7 @@ begun w e s k room = record {
   done = done_begun s.calls (length s.order) ∙ k.done;
   each = λ d x at. by d x (get_last s.calls (begin (length s.order)) d x at);
   back = λ i d at. let h = k.back i d at in (h.0, get_front s.calls (begin (length s.order)) d h.0 h.1, h.2);
+  replied = λ i d at. let h = k.replied i d at in (h.0, get_front s.calls (begin (length s.order)) d h.0 h.1, h.2);
 } where
   fresh : CallFacts (length s.order) (e + 1) (begin (length s.order))
   fresh = record { first = record { start = length s.order; mark = Plain }; rest = []; turns = refl; within = ((omega arith), tt); start = omega arith; steps = omega arith }
@@ -263,7 +292,11 @@ facts_after w e s (X c) h k =
     facts_on w (e + 1) (record s { order = s.order ++ c ∷ [] }) c (λ l. finish (again (length s.order) Exclusive l)) a.0 a.1.at (committed w e s c a.0 (finish (again (length s.order) Exclusive a.0)) k a.1 refl
     (let f = call_again (length s.order) (e + 1) (length s.order) Exclusive a.0 (omega arith) (call_more (length s.order) (length s.order) e (e + 1) a.0 (omega arith) (omega arith) (k.each c a.0 a.1.at)) in
     record { first = f.first; rest = f.rest; turns = f.turns; within = f.within; start = f.start; steps = f.steps }))
-facts_after w e s G h k = record { count = k.count; done = k.done; each = λ c l at. call_more (length s.order) (length s.order) e (e + 1) l (omega arith) (omega arith) (k.each c l at); back = k.back }
+facts_after w e s (R c) h k =
+    let a = live_at s c _ h in
+    facts_on w (e + 1) (record s { answered = s.answered ++ c ∷ [] }) c finish a.0 a.1.at (replied w e s c a.0 (finish a.0) k a.1 refl
+    (let f = k.each c a.0 a.1.at in record { first = f.first; rest = f.rest; turns = f.turns; within = f.within; start = f.start; steps = let b = f.steps in omega (arith, b) }))
+facts_after w e s G h k = record { count = k.count; done = k.done; each = λ c l at. call_more (length s.order) (length s.order) e (e + 1) l (omega arith) (omega arith) (k.each c l at); back = k.back; replied = k.replied }
 
 -- Whole journals
 
@@ -289,11 +322,11 @@ facts_of w es h = subst (λ m. Facts w m (course_of w es)) none (facts_reach w 0
   none = omega arith
 
   start : Facts w 0 beginning
-  start = record { count = omega arith; done = refl; each = λ c l at. absurd (search (rules, at)); back = λ k c at. absurd (search (rules, at)) }
+  start = record { count = omega arith; done = refl; each = λ c l at. absurd (search (rules, at)); back = λ k c at. absurd (search (rules, at)); replied = λ k c at. absurd (search (rules, at)) }
 
 -- The end
 
--- no call is open: each has committed
+-- no call is open: each is done
 pub all_done : (w : Work) (s : Course) → open_call w s ≡ None → (c : ℕ) → c < w.count → (l : Live) × (slice_get s.calls c ≡ Some l) × (l.done ≡ true)
 all_done w s h c less = open_done 0 s.calls c (below (first_open 0 s.calls) (shut (first_open 0 s.calls) h)) where
   shut : (n : ℕ) → (if nat_lt n w.count then Some n else None) ≡ None → nat_lt n w.count ≡ false
@@ -309,12 +342,11 @@ all_done w s h c less = open_done 0 s.calls c (below (first_open 0 s.calls) (shu
 
 -- a live call isn't there
 pub live_apart : (w : Work) (e : ℕ) (s : Course) (c : ℕ) (l : Live) → Facts w e s → IsLive s c l → (k : ℕ) → slice_get s.order k ≡ Some c → ⊥
-live_apart w e s c l f live k at =
-    let h = f.back k c at in
-    let same : Some h.0 ≡ Some l = sym h.1 ∙ live.at in
-    let one : h.0 ≡ l = search (rules, same) in
-    let both : true ≡ false = sym h.2 ∙ (ap (λ (x : Live). x.done) one ∙ live.live) in
-    search (rules, both)
+live_apart w e s c l f live k at = not_live s.calls c c l (f.back k c at) live.at live.live refl
+
+-- nor among the answered ones
+pub live_unanswered : (w : Work) (e : ℕ) (s : Course) (c : ℕ) (l : Live) → Facts w e s → IsLive s c l → (k : ℕ) → slice_get s.answered k ≡ Some c → ⊥
+live_unanswered w e s c l f live k at = not_live s.calls c c l (f.replied k c at) live.at live.live refl
 
 abbrev place : List ℕ → ℕ → ℕ
 place cs c = position_or_len (λ d. d == c) cs
@@ -354,3 +386,43 @@ pub found_stays : (cs : List ℕ) (c d k : ℕ) → position (λ x. x == c) cs �
 found_stays cs c d k is =
     let p = at_place cs c k is in
     found_at (cs ++ d ∷ []) c k (same_place cs c d p.1 ∙ p.0) (let n = length-append cs (d ∷ []) in let a = p.0 in let b = p.1 in omega (arith, n, a, b))
+
+-- Commits before a call
+
+none_in : (cs : List ℕ) (c : ℕ) → ((k : ℕ) → slice_get cs k ≡ Some c → ⊥) → stands c cs ≡ false
+none_in [] c none = refl
+none_in (x ∷ cs) c none = by (x == c) refl (none_in cs c (λ k at. none (suc k) at)) where
+  by : (b : Bool) → (x == c) ≡ b → stands c cs ≡ false → (b || stands c cs) ≡ false
+  by true e h = absurd (none 0 (ap Some (eqb-true x c e)))
+  by false e h = h
+
+in_last : (cs : List ℕ) (c : ℕ) → stands c (cs ++ c ∷ []) ≡ true
+in_last [] c = ap (λ b. b || false) (eq-eqb c c refl)
+in_last (x ∷ cs) c = by (x == c) (in_last cs c) where
+  by : (b : Bool) → stands c (cs ++ c ∷ []) ≡ true → (b || stands c (cs ++ c ∷ [])) ≡ true
+  by true h = refl
+  by false h = h
+
+in_more : (cs : List ℕ) (c d : ℕ) → (d ≡ c → ⊥) → stands c (cs ++ d ∷ []) ≡ stands c cs
+in_more [] c d ne = ap (λ b. b || false) (ne_eqb d c ne)
+in_more (x ∷ cs) c d ne = ap (λ b. (x == c) || b) (in_more cs c d ne)
+
+-- a call that commits
+pub before_last : (order answered : List ℕ) (start c : ℕ) → ((k : ℕ) → slice_get order k ≡ Some c → ⊥) → ((k : ℕ) → slice_get answered k ≡ Some c → ⊥) → commits_before (order ++ c ∷ []) answered start c ≡ Some (length order)
+before_last order answered start c none apart =
+    ap (λ b. if b then Some start else position (λ d. d == c) (order ++ c ∷ [])) (none_in answered c apart) ∙ found_last order c none
+
+-- another call commits
+pub before_stays : (order answered : List ℕ) (start c d k : ℕ) → commits_before order answered start c ≡ Some k → commits_before (order ++ d ∷ []) answered start c ≡ Some k
+before_stays order answered start c d k is = by (stands c answered) is where
+  by : (b : Bool) → (if b then Some start else position (λ x. x == c) order) ≡ Some k → (if b then Some start else position (λ x. x == c) (order ++ d ∷ [])) ≡ Some k
+  by true h = h
+  by false h = found_stays order c d k h
+
+-- a call that is answered
+pub before_answered : (order answered : List ℕ) (start c : ℕ) → commits_before order (answered ++ c ∷ []) start c ≡ Some start
+before_answered order answered start c = ap (λ b. if b then Some start else position (λ d. d == c) order) (in_last answered c)
+
+-- another call is answered
+pub before_kept : (order answered : List ℕ) (start c d k : ℕ) → (d ≡ c → ⊥) → commits_before order answered start c ≡ Some k → commits_before order (answered ++ d ∷ []) start c ≡ Some k
+before_kept order answered start c d k ne is = ap (λ b. if b then Some start else position (λ x. x == c) order) (in_more answered c d ne) ∙ is

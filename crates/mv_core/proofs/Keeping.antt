@@ -7,7 +7,7 @@ use Rattle.std.proofs.lemmas.Option.{slice_get-map, slice_get_within, slice_get_
 use Rattle.mv_values.specs.declared.calls.Reply.{Reply}
 use Rattle.mv_values.specs.declared.memory.NoMemory.{NoMemory}
 use Rattle.mv_journal.specs.declared.event.Event.{Event}
-use Rattle.mv_journal.specs.declared.event.Event.TheVariants.{B, S, A, M}
+use Rattle.mv_journal.specs.declared.event.Event.TheVariants.{B, S, A, M, R}
 use Rattle.mv_journal.specs.declared.outcome.Mark.{Mark}
 use Rattle.mv_journal.specs.declared.outcome.Mark.TheVariants.{Plain, Exclusive, Moved}
 use Rattle.mv_journal.specs.declared.outcome.Round.{Round}
@@ -27,10 +27,10 @@ use Rattle.mv_core.specs.Books.{Booked, IsBookKept, IsSame, work_in, kept_rounds
 use Rattle.mv_core.proofs.Numbers.{turns_numbered, turns_closed, last_numbered, table_stays, rounds_stay, last_of_end, closes, settled, settles, rounds_end, rounds_begun}
 use Rattle.mv_core.specs.Lives.{live_numbers, without}
 use Rattle.mv_core.proofs.Lives.{live_kept, live_gone, live_begun, live_below}
-use Rattle.mv_core.proofs.Journals.{get_last, get_set, set_there, facts_of, Facts, CallFacts, live_at, changed_at, done_in, done_within, done_below, reach_more, allowed_more, live_apart, found_last, found_stays}
+use Rattle.mv_core.proofs.Journals.{get_last, get_set, set_there, facts_of, Facts, CallFacts, live_at, changed_at, done_in, done_within, done_below, reach_more, allowed_more, live_apart, live_unanswered, before_last, before_stays, before_answered, before_kept}
 
-abbrev pub the_course : List ℕ → ℕ → List Live → Course
-the_course order low ls = record { order = order; calls = ls; low = low }
+abbrev pub the_course : List ℕ → ℕ → List ℕ → List Live → Course
+the_course order low answered ls = record { order = order; calls = ls; low = low; answered = answered }
 
 pub facts : (s : Script) (course : Course) (ps : List Progress) (journal : List Event) → IsBookKept s course ps journal → Facts (work_of s) (length journal) course
 facts s course ps journal k = subst (Facts (work_of s) (length journal)) (sym k.reaches) (facts_of (work_of s) journal k.allowed)
@@ -41,20 +41,25 @@ pub live_here : (ps : List Progress) (c : ℕ) (p : Progress) → slice_get ps c
 live_here ps c p at = slice_get-map live_of ps c ∙ ap (option_map live_of) at
 
 -- what is told of a call stays when another one commits
-grows_by : (w : Work) (order : List ℕ) (d c : ℕ) (kept : List Round) (o : Option Reply) → WithinRounds (length order) (turns_in kept) → TellsBy w order c kept o → TellsBy w (order ++ d ∷ []) c kept o
-grows_by w order d c kept None h are = subst (AreRounds kept) (sym (rounds_stay w order d c (turns_in kept) h)) are
-grows_by w order d c kept (Some reply) h t = (t.0 ∙ sym (rounds_stay w order d c (turns_in kept) h), reply_grows t.1) where
-  reply_grows : IsReply w order c reply → IsReply w (order ++ d ∷ []) c reply
+grows_by : (w : Work) (order answered : List ℕ) (start d c : ℕ) (kept : List Round) (o : Option Reply) → WithinRounds (length order) (turns_in kept) → TellsBy w order answered start c kept o → TellsBy w (order ++ d ∷ []) answered start c kept o
+grows_by w order answered start d c kept None h are = subst (AreRounds kept) (sym (rounds_stay w order d c (turns_in kept) h)) are
+grows_by w order answered start d c kept (Some reply) h t = (t.0 ∙ sym (rounds_stay w order d c (turns_in kept) h), reply_grows t.1) where
+  reply_grows : IsReply w order answered start c reply → IsReply w (order ++ d ∷ []) answered start c reply
   reply_grows r =
       let n = length-append order (d ∷ []) in
-      let lt = r.2 in
-      (r.0, found_stays order c d r.0 r.1, omega (arith, n, lt), r.3 ∙ ap (λ db. (w.run c db).reply) (sym (table_stays w order d r.0 (omega (arith, lt)))))
+      let le = r.2 in
+      (r.0, before_stays order answered start c d r.0 r.1, omega (arith, n, le), r.3 ∙ ap (λ db. (w.run c db).reply) (sym (table_stays w order d r.0 le)))
+
+-- and when another one is answered
+stays_by : (w : Work) (order answered : List ℕ) (start d c : ℕ) (kept : List Round) (o : Option Reply) → (d ≡ c → ⊥) → TellsBy w order answered start c kept o → TellsBy w order (answered ++ d ∷ []) start c kept o
+stays_by w order answered start d c kept None ne are = are
+stays_by w order answered start d c kept (Some reply) ne t = let r = t.1 in (t.0, (r.0, before_kept order answered start c d r.0 ne r.1, r.2, r.3))
 
 -- Events
 
 pub kept_event : (s : Script) (course new : Course) (ps qs : List Progress) (journal longer : List Event) (e : Event)
     → IsBookKept s course ps journal → refusal (work_of s) course e ≡ None → new ≡ after (work_of s) course e → longer ≡ journal ++ e ∷ []
-    → ((c : ℕ) (p : Progress) → slice_get qs c ≡ Some p → TellsCall (work_of s) new.order c p)
+    → ((c : ℕ) (p : Progress) → slice_get qs c ≡ Some p → TellsCall (work_of s) new.order new.answered c p)
     → IsBookKept s new qs longer
 kept_event s course new ps qs journal longer e k free is adds tells = record {
   few = k.few;
@@ -75,41 +80,41 @@ map_changed f ps c p q at is =
     set_map ps c q ∙ (ap (slice_set (map live_of ps) c) is ∙ sym (changed_at (map live_of ps) c f (live_of p) (live_here ps c p at)))
 
 -- an event that changes one call and is no commit
-pub kept_one : (s : Script) (order : List ℕ) (low c : ℕ) (ps : List Progress) (journal longer : List Event) (e : Event) (f : Live → Live) (p q : Progress)
-    → IsBookKept s (the_course order low (map live_of ps)) ps journal → refusal (work_of s) (the_course order low (map live_of ps)) e ≡ None
-    → after (work_of s) (the_course order low (map live_of ps)) e ≡ with_call (the_course order low (map live_of ps)) c f
-    → longer ≡ journal ++ e ∷ [] → slice_get ps c ≡ Some p → live_of q ≡ f (live_of p) → TellsCall (work_of s) order c q
-    → IsBookKept s (the_course order low (map live_of (slice_set ps c q))) (slice_set ps c q) longer
-kept_one s order low c ps journal longer e f p q k free is adds at new tells =
-    kept_event s _ _ ps (slice_set ps c q) journal longer e k free (ap (the_course order low) (map_changed f ps c p q at new) ∙ sym is) adds
+pub kept_one : (s : Script) (order : List ℕ) (low : ℕ) (answered : List ℕ) (c : ℕ) (ps : List Progress) (journal longer : List Event) (e : Event) (f : Live → Live) (p q : Progress)
+    → IsBookKept s (the_course order low answered (map live_of ps)) ps journal → refusal (work_of s) (the_course order low answered (map live_of ps)) e ≡ None
+    → after (work_of s) (the_course order low answered (map live_of ps)) e ≡ with_call (the_course order low answered (map live_of ps)) c f
+    → longer ≡ journal ++ e ∷ [] → slice_get ps c ≡ Some p → live_of q ≡ f (live_of p) → TellsCall (work_of s) order answered c q
+    → IsBookKept s (the_course order low answered (map live_of (slice_set ps c q))) (slice_set ps c q) longer
+kept_one s order low answered c ps journal longer e f p q k free is adds at new tells =
+    kept_event s _ _ ps (slice_set ps c q) journal longer e k free (ap (the_course order low answered) (map_changed f ps c p q at new) ∙ sym is) adds
     (λ d x there. by d x (get_set ps c d q x there)) where
-      by : (d : ℕ) (x : Progress) → ((d ≡ c) × (q ≡ x)) ⊎ ((d ≡ c → ⊥) × (slice_get ps d ≡ Some x)) → TellsCall (work_of s) order d x
-      by d x (inl h) = subst (λ n. TellsCall (work_of s) order n x) (sym h.0) (subst (TellsCall (work_of s) order c) h.1 tells)
+      by : (d : ℕ) (x : Progress) → ((d ≡ c) × (q ≡ x)) ⊎ ((d ≡ c → ⊥) × (slice_get ps d ≡ Some x)) → TellsCall (work_of s) order answered d x
+      by d x (inl h) = subst (λ n. TellsCall (work_of s) order answered n x) (sym h.0) (subst (TellsCall (work_of s) order answered c) h.1 tells)
       by d x (inr h) = k.tells d x h.1
 
 -- the next call begins
-pub kept_begun : (s : Script) (order : List ℕ) (low n : ℕ) (ps : List Progress) (journal longer : List Event) (q : Progress)
-    → IsBookKept s (the_course order low (map live_of ps)) ps journal → length ps < length s.calls → n ≡ length ps → IsFresh (length order) q → longer ≡ journal ++ B n ∷ []
-    → (refusal (work_of s) (the_course order low (map live_of ps)) (B n) ≡ None) × IsBookKept s (the_course order low (map live_of (ps ++ q ∷ []))) (ps ++ q ∷ []) longer
-kept_begun s order low n ps journal longer q k lt is fresh adds = (free, kept_event s _ _ ps (ps ++ q ∷ []) journal longer (B n) k free (ap (the_course order low) calls) adds (λ d x at. by d x (get_last ps q d x at))) where
+pub kept_begun : (s : Script) (order : List ℕ) (low : ℕ) (answered : List ℕ) (n : ℕ) (ps : List Progress) (journal longer : List Event) (q : Progress)
+    → IsBookKept s (the_course order low answered (map live_of ps)) ps journal → length ps < length s.calls → n ≡ length ps → IsFresh (length order) q → longer ≡ journal ++ B n ∷ []
+    → (refusal (work_of s) (the_course order low answered (map live_of ps)) (B n) ≡ None) × IsBookKept s (the_course order low answered (map live_of (ps ++ q ∷ []))) (ps ++ q ∷ []) longer
+kept_begun s order low answered n ps journal longer q k lt is fresh adds = (free, kept_event s _ _ ps (ps ++ q ∷ []) journal longer (B n) k free (ap (the_course order low answered) calls) adds (λ d x at. by d x (get_last ps q d x at))) where
   long : length (map live_of ps) ≡ length ps
   long = length-map ps live_of
 
   below : n < length s.calls
   below = omega (arith, is, lt)
 
-  free : refusal (work_of s) (the_course order low (map live_of ps)) (B n) ≡ None
+  free : refusal (work_of s) (the_course order low answered (map live_of ps)) (B n) ≡ None
   free = search (rules, eq-eqb n (length (map live_of ps)) (is ∙ sym long), below)
 
   calls : map live_of (ps ++ q ∷ []) ≡ map live_of ps ++ begin (length order) ∷ []
   calls = map-append live_of ps (q ∷ []) ∙ ap (λ l. map live_of ps ++ l ∷ []) fresh.live
 
-  tells : (d : ℕ) → TellsCall (work_of s) order d q
-  tells d = subst (λ (rs : List Round). TellsBy (work_of s) order d rs q.reply) (sym fresh.rounds) (subst (TellsBy (work_of s) order d (uncounted (length order) Plain ∷ [])) (sym fresh.reply) (inr refl))
+  tells : (d : ℕ) → TellsCall (work_of s) order answered d q
+  tells d = subst (λ (rs : List Round). TellsBy (work_of s) order answered q.start d rs q.reply) (sym fresh.rounds) (subst (TellsBy (work_of s) order answered q.start d (uncounted (length order) Plain ∷ [])) (sym fresh.reply) (inr refl))
 
-  by : (d : ℕ) (x : Progress) → (slice_get ps d ≡ Some x) ⊎ ((d ≡ length ps) × (q ≡ x)) → TellsCall (work_of s) order d x
+  by : (d : ℕ) (x : Progress) → (slice_get ps d ≡ Some x) ⊎ ((d ≡ length ps) × (q ≡ x)) → TellsCall (work_of s) order answered d x
   by d x (inl h) = k.tells d x h
-  by d x (inr h) = subst (TellsCall (work_of s) order d) h.1 (tells d)
+  by d x (inr h) = subst (TellsCall (work_of s) order answered d) h.1 (tells d)
 
 pub same_calls : (ps : List Progress) (c : ℕ) (p q : Progress) → slice_get ps c ≡ Some p → live_of q ≡ live_of p → map live_of (slice_set ps c q) ≡ map live_of ps
 same_calls [] c p q at new = refl
@@ -117,65 +122,96 @@ same_calls (x ∷ ps) zero p q at new = let one : x ≡ p = search (rules, at) i
 same_calls (x ∷ ps) (suc c) p q at new = ap (λ ls. live_of x ∷ ls) (same_calls ps c p q at new)
 
 -- no event, and nothing that is told is changed
-pub kept_same : (s : Script) (order orders : List ℕ) (low c : ℕ) (ps : List Progress) (journal same : List Event) (p q : Progress)
-    → IsBookKept s (the_course order low (map live_of ps)) ps journal → orders ≡ order → same ≡ journal → slice_get ps c ≡ Some p → live_of q ≡ live_of p → TellsCall (work_of s) order c q
-    → IsBookKept s (the_course orders low (map live_of (slice_set ps c q))) (slice_set ps c q) same
-kept_same s order orders low c ps journal same p q k o j at new tells =
-    subst (λ (x : List ℕ). IsBookKept s (the_course x low (map live_of (slice_set ps c q))) (slice_set ps c q) same) (sym o)
-    (subst (λ (x : List Event). IsBookKept s (the_course order low (map live_of (slice_set ps c q))) (slice_set ps c q) x) (sym j) (record {
+pub kept_same : (s : Script) (order orders : List ℕ) (low : ℕ) (answered answers : List ℕ) (c : ℕ) (ps : List Progress) (journal same : List Event) (p q : Progress)
+    → IsBookKept s (the_course order low answered (map live_of ps)) ps journal → orders ≡ order → answers ≡ answered → same ≡ journal → slice_get ps c ≡ Some p → live_of q ≡ live_of p → TellsCall (work_of s) order answered c q
+    → IsBookKept s (the_course orders low answers (map live_of (slice_set ps c q))) (slice_set ps c q) same
+kept_same s order orders low answered answers c ps journal same p q k o a j at new tells =
+    subst (λ (x : List ℕ). IsBookKept s (the_course x low answers (map live_of (slice_set ps c q))) (slice_set ps c q) same) (sym o)
+    (subst (λ (x : List ℕ). IsBookKept s (the_course order low x (map live_of (slice_set ps c q))) (slice_set ps c q) same) (sym a)
+    (subst (λ (x : List Event). IsBookKept s (the_course order low answered (map live_of (slice_set ps c q))) (slice_set ps c q) x) (sym j) (record {
       few = k.few;
       allowed = k.allowed;
-      reaches = ap (the_course order low) (same_calls ps c p q at new) ∙ k.reaches;
+      reaches = ap (the_course order low answered) (same_calls ps c p q at new) ∙ k.reaches;
       tells = λ d x there. by d x (get_set ps c d q x there);
-    })) where
-      by : (d : ℕ) (x : Progress) → ((d ≡ c) × (q ≡ x)) ⊎ ((d ≡ c → ⊥) × (slice_get ps d ≡ Some x)) → TellsCall (work_of s) order d x
-      by d x (inl h) = subst (λ n. TellsCall (work_of s) order n x) (sym h.0) (subst (TellsCall (work_of s) order c) h.1 tells)
+    }))) where
+      by : (d : ℕ) (x : Progress) → ((d ≡ c) × (q ≡ x)) ⊎ ((d ≡ c → ⊥) × (slice_get ps d ≡ Some x)) → TellsCall (work_of s) order answered d x
+      by d x (inl h) = subst (λ n. TellsCall (work_of s) order answered n x) (sym h.0) (subst (TellsCall (work_of s) order answered c) h.1 tells)
       by d x (inr h) = k.tells d x h.1
 
 -- a call commits
-pub kept_commit : (s : Script) (order orders : List ℕ) (low c : ℕ) (ps : List Progress) (journal longer : List Event) (e : Event) (f : Live → Live) (p q : Progress) (reply : Reply)
-    → IsBookKept s (the_course order low (map live_of ps)) ps journal → refusal (work_of s) (the_course order low (map live_of ps)) e ≡ None
-    → after (work_of s) (the_course order low (map live_of ps)) e ≡ with_call (the_course (order ++ c ∷ []) low (map live_of ps)) c f
+pub kept_commit : (s : Script) (order orders : List ℕ) (low : ℕ) (answered : List ℕ) (c : ℕ) (ps : List Progress) (journal longer : List Event) (e : Event) (f : Live → Live) (p q : Progress) (reply : Reply)
+    → IsBookKept s (the_course order low answered (map live_of ps)) ps journal → refusal (work_of s) (the_course order low answered (map live_of ps)) e ≡ None
+    → after (work_of s) (the_course order low answered (map live_of ps)) e ≡ with_call (the_course (order ++ c ∷ []) low answered (map live_of ps)) c f
     → orders ≡ order ++ c ∷ [] → longer ≡ journal ++ e ∷ [] → slice_get ps c ≡ Some p → p.reply ≡ None → live_of q ≡ f (live_of p)
     → q.reply ≡ Some reply → q.rounds.items ≡ rounds_of (work_of s) (order ++ c ∷ []) c (turns_in q.rounds.items)
     → reply ≡ ((work_of s).run c (table_at (work_of s) order (length order))).reply
-    → IsBookKept s (the_course orders low (map live_of (slice_set ps c q))) (slice_set ps c q) longer
-kept_commit s order orders low c ps journal longer e f p q reply k free is more adds at live new answered rounds told =
-    subst (λ (x : List ℕ). IsBookKept s (the_course x low (map live_of (slice_set ps c q))) (slice_set ps c q) longer) (sym more)
-    (kept_event s _ _ ps (slice_set ps c q) journal longer e k free (ap (the_course (order ++ c ∷ []) low) (map_changed f ps c p q at new) ∙ sym is) adds
+    → IsBookKept s (the_course orders low answered (map live_of (slice_set ps c q))) (slice_set ps c q) longer
+kept_commit s order orders low answered c ps journal longer e f p q reply k free is more adds at live new replied rounds told =
+    subst (λ (x : List ℕ). IsBookKept s (the_course x low answered (map live_of (slice_set ps c q))) (slice_set ps c q) longer) (sym more)
+    (kept_event s _ _ ps (slice_set ps c q) journal longer e k free (ap (the_course (order ++ c ∷ []) low answered) (map_changed f ps c p q at new) ∙ sym is) adds
     (λ d x there. by d x (get_set ps c d q x there))) where
-      known : Facts (work_of s) (length journal) (the_course order low (map live_of ps))
+      known : Facts (work_of s) (length journal) (the_course order low answered (map live_of ps))
       known = facts s _ ps journal k
 
-      going : IsLive (the_course order low (map live_of ps)) c (live_of p)
+      going : IsLive (the_course order low answered (map live_of ps)) c (live_of p)
       going = record { at = live_here ps c p at; live = ap is_some live }
 
       longer_order : length (order ++ c ∷ []) ≡ length order + 1
       longer_order = length-append order (c ∷ [])
 
-      is_reply : IsReply (work_of s) (order ++ c ∷ []) c reply
+      is_reply : IsReply (work_of s) (order ++ c ∷ []) answered q.start c reply
       is_reply = (
         length order,
-        found_last order c (live_apart (work_of s) (length journal) (the_course order low (map live_of ps)) c (live_of p) known going),
+        before_last order answered q.start c (live_apart (work_of s) (length journal) (the_course order low answered (map live_of ps)) c (live_of p) known going)
+            (live_unanswered (work_of s) (length journal) (the_course order low answered (map live_of ps)) c (live_of p) known going),
         omega (arith, longer_order),
         told ∙ ap (λ db. ((work_of s).run c db).reply) (sym (table_stays (work_of s) order c (length order) (omega arith))),
       )
 
-      tells : TellsCall (work_of s) (order ++ c ∷ []) c q
-      tells = subst (TellsBy (work_of s) (order ++ c ∷ []) c q.rounds.items) (sym answered) (rounds, is_reply)
+      tells : TellsCall (work_of s) (order ++ c ∷ []) answered c q
+      tells = subst (TellsBy (work_of s) (order ++ c ∷ []) answered q.start c q.rounds.items) (sym replied) (rounds, is_reply)
 
-      by : (d : ℕ) (x : Progress) → ((d ≡ c) × (q ≡ x)) ⊎ ((d ≡ c → ⊥) × (slice_get ps d ≡ Some x)) → TellsCall (work_of s) (order ++ c ∷ []) d x
-      by d x (inl h) = subst (λ n. TellsCall (work_of s) (order ++ c ∷ []) n x) (sym h.0) (subst (TellsCall (work_of s) (order ++ c ∷ []) c) h.1 tells)
-      by d x (inr h) = grows_by (work_of s) order c d x.rounds.items x.reply (known.each d (live_of x) (live_here ps d x h.1)).within (k.tells d x h.1)
+      by : (d : ℕ) (x : Progress) → ((d ≡ c) × (q ≡ x)) ⊎ ((d ≡ c → ⊥) × (slice_get ps d ≡ Some x)) → TellsCall (work_of s) (order ++ c ∷ []) answered d x
+      by d x (inl h) = subst (λ n. TellsCall (work_of s) (order ++ c ∷ []) answered n x) (sym h.0) (subst (TellsCall (work_of s) (order ++ c ∷ []) answered c) h.1 tells)
+      by d x (inr h) = grows_by (work_of s) order answered x.start c d x.rounds.items x.reply (known.each d (live_of x) (live_here ps d x h.1)).within (k.tells d x h.1)
+
+-- a call is answered
+pub kept_answer : (s : Script) (order : List ℕ) (low : ℕ) (answered answers : List ℕ) (c : ℕ) (ps : List Progress) (journal longer : List Event) (p q : Progress) (reply : Reply)
+    → IsBookKept s (the_course order low answered (map live_of ps)) ps journal → refusal (work_of s) (the_course order low answered (map live_of ps)) (R c) ≡ None
+    → answers ≡ answered ++ c ∷ [] → longer ≡ journal ++ R c ∷ [] → slice_get ps c ≡ Some p → live_of q ≡ finish (live_of p)
+    → q.reply ≡ Some reply → q.rounds.items ≡ rounds_of (work_of s) order c (turns_in q.rounds.items) → q.start ≡ p.start
+    → reply ≡ ((work_of s).run c (table_at (work_of s) order p.start)).reply
+    → IsBookKept s (the_course order low answers (map live_of (slice_set ps c q))) (slice_set ps c q) longer
+kept_answer s order low answered answers c ps journal longer p q reply k free more adds at new replied rounds start told =
+    subst (λ (x : List ℕ). IsBookKept s (the_course order low x (map live_of (slice_set ps c q))) (slice_set ps c q) longer) (sym more)
+    (kept_event s _ _ ps (slice_set ps c q) journal longer (R c) k free (ap (the_course order low (answered ++ c ∷ [])) (map_changed finish ps c p q at new)) adds
+    (λ d x there. by d x (get_set ps c d q x there))) where
+      known : CallFacts (length order) (length journal) (live_of p)
+      known = (facts s _ ps journal k).each c (live_of p) (live_here ps c p at)
+
+      is_reply : IsReply (work_of s) order (answered ++ c ∷ []) q.start c reply
+      is_reply = (
+        q.start,
+        before_answered order answered q.start c,
+        (let a = known.start in omega (arith, a, start)),
+        told ∙ ap (λ n. ((work_of s).run c (table_at (work_of s) order n)).reply) (sym start),
+      )
+
+      tells : TellsCall (work_of s) order (answered ++ c ∷ []) c q
+      tells = subst (TellsBy (work_of s) order (answered ++ c ∷ []) q.start c q.rounds.items) (sym replied) (rounds, is_reply)
+
+      by : (d : ℕ) (x : Progress) → ((d ≡ c) × (q ≡ x)) ⊎ ((d ≡ c → ⊥) × (slice_get ps d ≡ Some x)) → TellsCall (work_of s) order (answered ++ c ∷ []) d x
+      by d x (inl h) = subst (λ n. TellsCall (work_of s) order (answered ++ c ∷ []) n x) (sym h.0) (subst (TellsCall (work_of s) order (answered ++ c ∷ []) c) h.1 tells)
+      by d x (inr h) = stays_by (work_of s) order answered x.start c d x.rounds.items x.reply (λ e. h.0 (sym e)) (k.tells d x h.1)
 
 -- Inside
 
 abbrev pub IsInside : Inside → Type 0
-IsInside i = IsBookKept i.script (the_course i.order.items i.low (map live_of i.calls.items)) i.calls.items i.journal.items
+IsInside i = IsBookKept i.script (the_course i.order.items i.low i.answered.items (map live_of i.calls.items)) i.calls.items i.journal.items
 
 pub few_inside : (i : Inside) → IsInside i → length i.order.items < 2 ^ 32
 few_inside i k =
-    let f : Facts (work_of i.script) (length i.journal.items) (the_course i.order.items i.low (map live_of i.calls.items)) = facts i.script _ i.calls.items i.journal.items k in
+    let f : Facts (work_of i.script) (length i.journal.items) (the_course i.order.items i.low i.answered.items (map live_of i.calls.items)) = facts i.script _ i.calls.items i.journal.items k in
     let le : done_in (map live_of i.calls.items) ≤ length (map live_of i.calls.items) = done_within _ in
     omega (arith, le, k.few, f.count, f.done)
 
@@ -228,7 +264,7 @@ commit_live old (Some k) c e = let a = live_at old.course c _ e in (a.0, a.1)
 pub number_fits : (i : Inside) (old : Booked) (c : ℕ) → the_view i ≡ old → IsInside i → IsLiveCall old.course c → length i.order.items + 1 < 2 ^ 32
 number_fits i old c is k live =
     let h = at_call i old c live.0 is live.1 in
-    let f : Facts (work_of i.script) (length i.journal.items) (the_course i.order.items i.low (map live_of i.calls.items)) = facts i.script _ i.calls.items i.journal.items k in
+    let f : Facts (work_of i.script) (length i.journal.items) (the_course i.order.items i.low i.answered.items (map live_of i.calls.items)) = facts i.script _ i.calls.items i.journal.items k in
     let lt : done_in (map live_of i.calls.items) < length (map live_of i.calls.items) = done_below _ c (live_of h.0) (live_here i.calls.items c h.0 h.1.at) (ap is_some h.1.going) in
     omega (arith, lt, k.few, f.count, f.done)
 
@@ -329,7 +365,7 @@ begun_settled i old d q is live has rs told = by (get_last i.calls.items q d y.0
 -- every call has begun
 pub all_begun : (i : Inside) (old : Booked) → the_view i ≡ old → IsInside i → length i.script.calls ≤ length i.calls.items → (length old.course.calls ≡ length old.script.calls) × IsSame old old
 all_begun i old is k le =
-    let f : Facts (work_of i.script) (length i.journal.items) (the_course i.order.items i.low (map live_of i.calls.items)) = facts i.script _ i.calls.items i.journal.items k in
+    let f : Facts (work_of i.script) (length i.journal.items) (the_course i.order.items i.low i.answered.items (map live_of i.calls.items)) = facts i.script _ i.calls.items i.journal.items k in
     let long : length (map live_of i.calls.items) ≡ length i.calls.items = length-map i.calls.items live_of in
     let here : length (the_view i).course.calls ≡ length (the_view i).script.calls = omega (arith, f.count, long, le) in
     (subst (λ (b : Booked). length b.course.calls ≡ length b.script.calls) is here, record { script = refl; course = refl; settled = λ c has. has; journal = refl })
@@ -339,25 +375,25 @@ settled_by old new c same has = subst (λ (fs : List (Filled Round)). (rs : List
 
 -- no more than room was made
 pub begun_none : (Q : NoMemory → Type 0) (i : Inside) (old new : Booked) (ps : List Progress) (r : Result (Option Begun) NoMemory) → the_view i ≡ old → ps ≡ i.calls.items
-    → new.script ≡ i.script → new.course ≡ the_course i.order.items i.low (map live_of ps) → new.rounds ≡ room_for ps → new.journal ≡ i.journal.items → IsErrAnd r Q → HasBegun r old new
+    → new.script ≡ i.script → new.course ≡ the_course i.order.items i.low i.answered.items (map live_of ps) → new.rounds ≡ room_for ps → new.journal ≡ i.journal.items → IsErrAnd r Q → HasBegun r old new
 begun_none Q i old new ps (Ok b) is same script course rounds journal h = absurd h
 begun_none Q i old new ps (Err e) is same script course rounds journal h = record {
   script = script ∙ ap (λ (b : Booked). b.script) is;
-  course = course ∙ (ap (λ qs. the_course i.order.items i.low (map live_of qs)) same ∙ ap (λ (b : Booked). b.course) is);
+  course = course ∙ (ap (λ qs. the_course i.order.items i.low i.answered.items (map live_of qs)) same ∙ ap (λ (b : Booked). b.course) is);
   settled = λ c has. settled_by old new c (rounds ∙ (ap room_for same ∙ ap (λ (b : Booked). b.rounds) is)) has;
   journal = journal ∙ ap (λ (b : Booked). b.journal) is;
 }
 
 -- the next call has begun
 pub begun_made : (i : Inside) (old new : Booked) (n : ℕ) (ps : List Progress) (q : Progress) → the_view i ≡ old → IsInside i → length i.calls.items < length i.script.calls → n ≡ length i.calls.items
-    → IsFresh (length i.order.items) q → ps ≡ i.calls.items ++ q ∷ [] → new.script ≡ i.script → new.course ≡ the_course i.order.items i.low (map live_of ps) → new.rounds ≡ room_for ps → new.journal ≡ i.journal.items ++ B n ∷ []
+    → IsFresh (length i.order.items) q → ps ≡ i.calls.items ++ q ∷ [] → new.script ≡ i.script → new.course ≡ the_course i.order.items i.low i.answered.items (map live_of ps) → new.rounds ≡ room_for ps → new.journal ≡ i.journal.items ++ B n ∷ []
     → Made (B n) old new
 begun_made i old new n ps q is k lt number fresh more script course rounds journal =
     made_on (B n) (the_view i) old new is (subst (λ (b : Booked). refusal (work_in b) b.course (B n) ≡ None) is free)
-    (course ∙ ap (the_course i.order.items i.low) (ap (map live_of) more ∙ (map-append live_of i.calls.items (q ∷ []) ∙ ap (λ l. map live_of i.calls.items ++ l ∷ []) fresh.live)))
+    (course ∙ ap (the_course i.order.items i.low i.answered.items) (ap (map live_of) more ∙ (map-append live_of i.calls.items (q ∷ []) ∙ ap (λ l. map live_of i.calls.items ++ l ∷ []) fresh.live)))
     (λ d live other has rs told. begun_settled i old d q is live has rs (ap (λ (fs : List (Filled Round)). option_map kept_rounds (slice_get fs d)) (sym (rounds ∙ ap room_for more)) ∙ told)) journal script where
-      free : refusal (work_of i.script) (the_course i.order.items i.low (map live_of i.calls.items)) (B n) ≡ None
-      free = (kept_begun i.script i.order.items i.low n i.calls.items i.journal.items new.journal q k lt number fresh journal).0
+      free : refusal (work_of i.script) (the_course i.order.items i.low i.answered.items (map live_of i.calls.items)) (B n) ≡ None
+      free = (kept_begun i.script i.order.items i.low i.answered.items n i.calls.items i.journal.items new.journal q k lt number fresh journal).0
 
 -- A repair or a move
 
@@ -384,17 +420,17 @@ restarted n m p q start steps rounds reply = live_made (live_of q) (again n m (l
   turns : turns_in q.rounds.items ≡ turns_in p.rounds.items ++ record { start = n; mark = m } ∷ []
   turns = ap turns_in rounds ∙ (map-append turn_of (closed m p.rounds.items) (uncounted n m ∷ []) ∙ ap (λ ts. ts ++ record { start = n; mark = m } ∷ []) (turns_closed m p.rounds.items))
 
-pub kept_restart : (s : Script) (order : List ℕ) (low c : ℕ) (ps : List Progress) (journal longer : List Event) (m : Mark) (p q : Progress)
-    → IsBookKept s (the_course order low (map live_of ps)) ps journal → m ≢ Exclusive → refusal (work_of s) (the_course order low (map live_of ps)) (round_event m c) ≡ None
+pub kept_restart : (s : Script) (order : List ℕ) (low : ℕ) (answered : List ℕ) (c : ℕ) (ps : List Progress) (journal longer : List Event) (m : Mark) (p q : Progress)
+    → IsBookKept s (the_course order low answered (map live_of ps)) ps journal → m ≢ Exclusive → refusal (work_of s) (the_course order low answered (map live_of ps)) (round_event m c) ≡ None
     → (m ≡ Plain → IsSome (last_number p.rounds.items)) → slice_get ps c ≡ Some p → p.reply ≡ None
     → q.start ≡ length order → q.steps ≡ p.steps → q.rounds.items ≡ closed m p.rounds.items ++ uncounted (length order) m ∷ [] → q.reply ≡ p.reply
     → longer ≡ journal ++ round_event m c ∷ []
-    → IsBookKept s (the_course order low (map live_of (slice_set ps c q))) (slice_set ps c q) longer
-kept_restart s order low c ps journal longer m p q k ne free has at silent start steps rounds reply adds =
-    kept_one s order low c ps journal longer (round_event m c) (again (length order) m) p q k free restarts adds at new
-    (subst (TellsBy (work_of s) order c q.rounds.items) (sym (reply ∙ silent)) (inr known)) where
-      restarts : after (work_of s) (the_course order low (map live_of ps)) (round_event m c) ≡ with_call (the_course order low (map live_of ps)) c (again (length order) m)
-      restarts = restart_after (work_of s) (the_course order low (map live_of ps)) m c ne
+    → IsBookKept s (the_course order low answered (map live_of (slice_set ps c q))) (slice_set ps c q) longer
+kept_restart s order low answered c ps journal longer m p q k ne free has at silent start steps rounds reply adds =
+    kept_one s order low answered c ps journal longer (round_event m c) (again (length order) m) p q k free restarts adds at new
+    (subst (TellsBy (work_of s) order answered q.start c q.rounds.items) (sym (reply ∙ silent)) (inr known)) where
+      restarts : after (work_of s) (the_course order low answered (map live_of ps)) (round_event m c) ≡ with_call (the_course order low answered (map live_of ps)) c (again (length order) m)
+      restarts = restart_after (work_of s) (the_course order low answered (map live_of ps)) m c ne
 
       new : live_of q ≡ again (length order) m (live_of p)
       new = restarted (length order) m p q start steps rounds reply
@@ -406,7 +442,7 @@ kept_restart s order low c ps journal longer m p q k ne free has at silent start
       all = rounds_of (work_of s) order c (turns_in p.rounds.items)
 
       are : AreRounds p.rounds.items all
-      are = subst (TellsBy (work_of s) order c p.rounds.items) silent (k.tells c p at)
+      are = subst (TellsBy (work_of s) order answered p.start c p.rounds.items) silent (k.tells c p at)
 
       enough : (n : Mark) → m ≡ n → (m ≡ Moved) ⊎ (p.rounds.items ≡ all)
       enough Plain is = inr (some_settled p.rounds.items all are (has is))
@@ -422,33 +458,33 @@ kept_restart s order low c ps journal longer m p q k ne free has at silent start
 
 -- A number
 
-due_here : (w : Work) (order : List ℕ) (low c : ℕ) (ps : List Progress) (p : Progress) → slice_get ps c ≡ Some p
-    → due_number w (the_course order low (map live_of ps)) c ≡ last_number (rounds_of w order c (turns_in p.rounds.items))
-due_here w order low c ps p at = ap (λ o. last_number (rounds_of w order c (turns_of o))) (live_here ps c p at)
+due_here : (w : Work) (order : List ℕ) (low : ℕ) (answered : List ℕ) (c : ℕ) (ps : List Progress) (p : Progress) → slice_get ps c ≡ Some p
+    → due_number w (the_course order low answered (map live_of ps)) c ≡ last_number (rounds_of w order c (turns_in p.rounds.items))
+due_here w order low answered c ps p at = ap (λ o. last_number (rounds_of w order c (turns_of o))) (live_here ps c p at)
 
 pub settled_live : (n : Option ℕ) (p q : Progress) → q.start ≡ p.start → q.steps ≡ p.steps → q.rounds.items ≡ numbered n p.rounds.items → q.reply ≡ p.reply → live_of q ≡ live_of p
 settled_live n p q start steps rounds reply = live_made (live_of q) (live_of p) start (ap turns_in rounds ∙ turns_numbered n p.rounds.items) steps (ap is_some reply)
 
-pub kept_settled : (s : Script) (order : List ℕ) (low c : ℕ) (ps : List Progress) (journal : List Event) (n : ℕ) (p q : Progress)
-    → IsBookKept s (the_course order low (map live_of ps)) ps journal → slice_get ps c ≡ Some p → p.reply ≡ None
-    → due_number (work_of s) (the_course order low (map live_of ps)) c ≡ Some n
+pub kept_settled : (s : Script) (order : List ℕ) (low : ℕ) (answered : List ℕ) (c : ℕ) (ps : List Progress) (journal : List Event) (n : ℕ) (p q : Progress)
+    → IsBookKept s (the_course order low answered (map live_of ps)) ps journal → slice_get ps c ≡ Some p → p.reply ≡ None
+    → due_number (work_of s) (the_course order low answered (map live_of ps)) c ≡ Some n
     → q.start ≡ p.start → q.steps ≡ p.steps → q.rounds.items ≡ numbered (Some n) p.rounds.items → q.reply ≡ p.reply
-    → IsBookKept s (the_course order low (map live_of (slice_set ps c q))) (slice_set ps c q) journal
-kept_settled s order low c ps journal n p q k at silent due start steps rounds reply =
-    kept_same s order order low c ps journal journal p q k refl refl at (settled_live (Some n) p q start steps rounds reply)
-    (subst (TellsBy (work_of s) order c q.rounds.items) (sym (reply ∙ silent)) (inl known)) where
+    → IsBookKept s (the_course order low answered (map live_of (slice_set ps c q))) (slice_set ps c q) journal
+kept_settled s order low answered c ps journal n p q k at silent due start steps rounds reply =
+    kept_same s order order low answered answered c ps journal journal p q k refl refl refl at (settled_live (Some n) p q start steps rounds reply)
+    (subst (TellsBy (work_of s) order answered q.start c q.rounds.items) (sym (reply ∙ silent)) (inl known)) where
       are : AreRounds p.rounds.items (rounds_of (work_of s) order c (turns_in p.rounds.items))
-      are = subst (TellsBy (work_of s) order c p.rounds.items) silent (k.tells c p at)
+      are = subst (TellsBy (work_of s) order answered p.start c p.rounds.items) silent (k.tells c p at)
 
       known : q.rounds.items ≡ rounds_of (work_of s) order c (turns_in q.rounds.items)
       known =
-          rounds ∙ (settles p.rounds.items (rounds_of (work_of s) order c (turns_in p.rounds.items)) (Some n) are (sym (due_here (work_of s) order low c ps p at) ∙ due)
+          rounds ∙ (settles p.rounds.items (rounds_of (work_of s) order c (turns_in p.rounds.items)) (Some n) are (sym (due_here (work_of s) order low answered c ps p at) ∙ due)
           ∙ ap (rounds_of (work_of s) order c) (sym (ap turns_in rounds ∙ turns_numbered (Some n) p.rounds.items)))
 
 -- a number that was set
-pub number_set : (s : Script) (order : List ℕ) (low c : ℕ) (ps : List Progress) (journal : List Event) (n : ℕ) (p q : Progress)
-    → IsBookKept s (the_course order low (map live_of ps)) ps journal → slice_get ps c ≡ Some p → q.rounds.items ≡ numbered (Some n) p.rounds.items → last_number q.rounds.items ≡ Some n
-number_set s order low c ps journal n p q k at rounds = ap last_number rounds ∙ numbered_some p.rounds.items own.first own.rest own.turns where
+pub number_set : (s : Script) (order : List ℕ) (low : ℕ) (answered : List ℕ) (c : ℕ) (ps : List Progress) (journal : List Event) (n : ℕ) (p q : Progress)
+    → IsBookKept s (the_course order low answered (map live_of ps)) ps journal → slice_get ps c ≡ Some p → q.rounds.items ≡ numbered (Some n) p.rounds.items → last_number q.rounds.items ≡ Some n
+number_set s order low answered c ps journal n p q k at rounds = ap last_number rounds ∙ numbered_some p.rounds.items own.first own.rest own.turns where
   own : CallFacts (length order) (length journal) (live_of p)
   own = (facts s _ ps journal k).each c (live_of p) (live_here ps c p at)
 
@@ -477,20 +513,20 @@ other_round Exclusive c d ne other is = ne refl
 
 -- A commit
 
-pub commit_after : (w : Work) (order : List ℕ) (low : ℕ) (ls : List Live) (own : Option ℕ) (c : ℕ)
-    → after w (the_course order low ls) (commit_event own c) ≡ with_call (the_course (order ++ c ∷ []) low ls) c (committed (length order) own)
-commit_after w order low ls None c = refl
-commit_after w order low ls (Some k) c = refl
+pub commit_after : (w : Work) (order : List ℕ) (low : ℕ) (answered : List ℕ) (ls : List Live) (own : Option ℕ) (c : ℕ)
+    → after w (the_course order low answered ls) (commit_event own c) ≡ with_call (the_course (order ++ c ∷ []) low answered ls) c (committed (length order) own)
+commit_after w order low answered ls None c = refl
+commit_after w order low answered ls (Some k) c = refl
 
 pub made_committed : (own : Option ℕ) (c : ℕ) (i : Inside) (old new : Booked) (orders : List ℕ) (p q : Progress) → the_view i ≡ old → refusal (work_in old) old.course (commit_event own c) ≡ None
     → slice_get i.calls.items c ≡ Some p → live_of q ≡ committed (length i.order.items) own (live_of p) → orders ≡ i.order.items ++ c ∷ []
-    → new.course ≡ the_course orders i.low (map live_of (slice_set i.calls.items c q)) → ((d : ℕ) → IsLiveCall old.course d → (BeginsRound (commit_event own c) d → ⊥) → IsSettled old d → IsSettled new d)
+    → new.course ≡ the_course orders i.low i.answered.items (map live_of (slice_set i.calls.items c q)) → ((d : ℕ) → IsLiveCall old.course d → (BeginsRound (commit_event own c) d → ⊥) → IsSettled old d → IsSettled new d)
     → new.journal ≡ i.journal.items ++ commit_event own c ∷ [] → new.script ≡ i.script → Made (commit_event own c) old new
 made_committed own c i old new orders p q is free at live more course settled journal script =
     made_on (commit_event own c) (the_view i) old new is free
-    (course ∙ (ap (λ (o : List ℕ). the_course o i.low (map live_of (slice_set i.calls.items c q))) more
-    ∙ (ap (λ (ls : List Live). the_course (i.order.items ++ c ∷ []) i.low ls) (map_changed (committed (length i.order.items) own) i.calls.items c p q at live)
-    ∙ sym (commit_after (work_of i.script) i.order.items i.low (map live_of i.calls.items) own c)))) settled journal script
+    (course ∙ (ap (λ (o : List ℕ). the_course o i.low i.answered.items (map live_of (slice_set i.calls.items c q))) more
+    ∙ (ap (λ (ls : List Live). the_course (i.order.items ++ c ∷ []) i.low i.answered.items ls) (map_changed (committed (length i.order.items) own) i.calls.items c p q at live)
+    ∙ sym (commit_after (work_of i.script) i.order.items i.low i.answered.items (map live_of i.calls.items) own c)))) settled journal script
 
 -- its number is known, with a round of its own or without
 pub own_known : (n : ℕ) (own : Option ℕ) (rs : List Round) → IsSome (last_number rs) → IsSome (last_number (with_own n own rs))
@@ -498,11 +534,11 @@ own_known n None rs has = has
 own_known n (Some k) rs has = ap is_some (last_of_end rs (counted n Exclusive k))
 
 -- the rounds of a call that commits are Runs'
-pub rounds_committed : (s : Script) (order : List ℕ) (low c : ℕ) (ps : List Progress) (journal : List Event) (own : Option ℕ) (p : Progress)
-    → IsBookKept s (the_course order low (map live_of ps)) ps journal → slice_get ps c ≡ Some p → p.reply ≡ None → IsSome (last_number p.rounds.items)
-    → IsOwnBy own (work_of s) (the_course order low (map live_of ps)) c
+pub rounds_committed : (s : Script) (order : List ℕ) (low : ℕ) (answered : List ℕ) (c : ℕ) (ps : List Progress) (journal : List Event) (own : Option ℕ) (p : Progress)
+    → IsBookKept s (the_course order low answered (map live_of ps)) ps journal → slice_get ps c ≡ Some p → p.reply ≡ None → IsSome (last_number p.rounds.items)
+    → IsOwnBy own (work_of s) (the_course order low answered (map live_of ps)) c
     → with_own (length order) own p.rounds.items ≡ rounds_of (work_of s) (order ++ c ∷ []) c (turns_in (with_own (length order) own p.rounds.items))
-rounds_committed s order low c ps journal own p k at silent has number = by own number where
+rounds_committed s order low answered c ps journal own p k at silent has number = by own number where
   known : CallFacts (length order) (length journal) (live_of p)
   known = (facts s _ ps journal k).each c (live_of p) (live_here ps c p at)
 
@@ -510,12 +546,12 @@ rounds_committed s order low c ps journal own p k at silent has number = by own 
   longer = order ++ c ∷ []
 
   are : AreRounds p.rounds.items (rounds_of (work_of s) order c (turns_in p.rounds.items))
-  are = subst (TellsBy (work_of s) order c p.rounds.items) silent (k.tells c p at)
+  are = subst (TellsBy (work_of s) order answered p.start c p.rounds.items) silent (k.tells c p at)
 
   full : p.rounds.items ≡ rounds_of (work_of s) longer c (turns_in p.rounds.items)
   full = some_settled p.rounds.items (rounds_of (work_of s) order c (turns_in p.rounds.items)) are has ∙ sym (rounds_stay (work_of s) order c c (turns_in p.rounds.items) known.within)
 
-  by : (own : Option ℕ) → IsOwnBy own (work_of s) (the_course order low (map live_of ps)) c
+  by : (own : Option ℕ) → IsOwnBy own (work_of s) (the_course order low answered (map live_of ps)) c
       → with_own (length order) own p.rounds.items ≡ rounds_of (work_of s) longer c (turns_in (with_own (length order) own p.rounds.items))
   by None number = full
   by (Some n) number = left ∙ (sym more ∙ ap (rounds_of (work_of s) longer c) (ap (λ ts. ts ++ record { start = length order; mark = Exclusive } ∷ []) (sym known.turns) ∙ sym turns)) where
@@ -537,14 +573,35 @@ rounds_committed s order low c ps journal own p k at silent has number = by own 
     left : p.rounds.items ++ record { start = length order; count = Some n; mark = Exclusive } ∷ [] ≡ rounds_of (work_of s) longer c (known.first ∷ known.rest) ++ record { start = length order; count = Some n; mark = Exclusive } ∷ []
     left = ap (λ rs. rs ++ record { start = length order; count = Some n; mark = Exclusive } ∷ []) (full ∙ ap (rounds_of (work_of s) longer c) known.turns)
 
+-- An answer
+
+-- the rounds of a call that is answered are Runs'
+pub rounds_answered : (s : Script) (order : List ℕ) (low : ℕ) (answered : List ℕ) (c : ℕ) (ps : List Progress) (journal : List Event) (p : Progress)
+    → IsBookKept s (the_course order low answered (map live_of ps)) ps journal → slice_get ps c ≡ Some p → p.reply ≡ None → IsSome (last_number p.rounds.items)
+    → p.rounds.items ≡ rounds_of (work_of s) order c (turns_in p.rounds.items)
+rounds_answered s order low answered c ps journal p k at silent has =
+    some_settled p.rounds.items (rounds_of (work_of s) order c (turns_in p.rounds.items)) (subst (TellsBy (work_of s) order answered p.start c p.rounds.items) silent (k.tells c p at)) has
+
+pub made_answered : (c : ℕ) (i : Inside) (old new : Booked) (answers : List ℕ) (p q : Progress) → the_view i ≡ old → refusal (work_in old) old.course (R c) ≡ None
+    → slice_get i.calls.items c ≡ Some p → live_of q ≡ finish (live_of p) → answers ≡ i.answered.items ++ c ∷ []
+    → new.course ≡ the_course i.order.items i.low answers (map live_of (slice_set i.calls.items c q)) → ((d : ℕ) → IsLiveCall old.course d → (BeginsRound (R c) d → ⊥) → IsSettled old d → IsSettled new d)
+    → new.journal ≡ i.journal.items ++ R c ∷ [] → new.script ≡ i.script → Made (R c) old new
+made_answered c i old new answers p q is free at live more course settled journal script =
+    made_on (R c) (the_view i) old new is free
+    (course ∙ (ap (λ (a : List ℕ). the_course i.order.items i.low a (map live_of (slice_set i.calls.items c q))) more
+    ∙ ap (λ (ls : List Live). the_course i.order.items i.low (i.answered.items ++ c ∷ []) ls) (map_changed finish i.calls.items c p q at live))) settled journal script
+
 -- What is as before
 
-pub kept_same_told : (s : Script) (order orders : List ℕ) (low c : ℕ) (ps : List Progress) (journal same : List Event) (p q : Progress)
-    → IsBookKept s (the_course order low (map live_of ps)) ps journal → orders ≡ order → same ≡ journal → slice_get ps c ≡ Some p → live_of q ≡ live_of p → q.rounds.items ≡ p.rounds.items → q.reply ≡ p.reply
-    → IsBookKept s (the_course orders low (map live_of (slice_set ps c q))) (slice_set ps c q) same
-kept_same_told s order orders low c ps journal same p q k o j at new rounds reply =
-    kept_same s order orders low c ps journal same p q k o j at new
-    (subst (TellsBy (work_of s) order c q.rounds.items) (sym reply) (subst (λ (rs : List Round). TellsBy (work_of s) order c rs p.reply) (sym rounds) (k.tells c p at)))
+pub kept_same_told : (s : Script) (order orders : List ℕ) (low : ℕ) (answered answers : List ℕ) (c : ℕ) (ps : List Progress) (journal same : List Event) (p q : Progress)
+    → IsBookKept s (the_course order low answered (map live_of ps)) ps journal → orders ≡ order → answers ≡ answered → same ≡ journal → slice_get ps c ≡ Some p → live_of q ≡ live_of p → q.rounds.items ≡ p.rounds.items → q.reply ≡ p.reply
+    → IsBookKept s (the_course orders low answers (map live_of (slice_set ps c q))) (slice_set ps c q) same
+kept_same_told s order orders low answered answers c ps journal same p q k o a j at new rounds reply =
+    kept_same s order orders low answered answers c ps journal same p q k o a j at new
+    (subst (λ n. TellsBy (work_of s) order answered n c q.rounds.items q.reply) (sym start)
+    (subst (TellsBy (work_of s) order answered p.start c q.rounds.items) (sym reply) (subst (λ (rs : List Round). TellsBy (work_of s) order answered p.start c rs p.reply) (sym rounds) (k.tells c p at)))) where
+      start : q.start ≡ p.start
+      start = ap (λ (l : Live). l.start) new
 
 pub room_set : (ps : List Progress) (c n : ℕ) (p q : Progress) → slice_get ps c ≡ Some p → n ≤ q.rounds.room → (f : Filled Round) → slice_get (room_for (slice_set ps c q)) c ≡ Some f → n ≤ f.room
 room_set ps c n p q at enough f there =
@@ -573,7 +630,7 @@ rounds_told i old c p is k at silent = subst (λ (b : Booked). HasRounds b c p.r
   live = live_of p;
   is_live = record { at = live_here i.calls.items c p at; live = ap is_some silent };
   turns = refl;
-  rounds = subst (TellsBy (work_of i.script) i.order.items c p.rounds.items) silent (k.tells c p at);
+  rounds = subst (TellsBy (work_of i.script) i.order.items i.answered.items p.start c p.rounds.items) silent (k.tells c p at);
 })
 
 -- a call has one round more than it was repaired and moved
@@ -586,19 +643,19 @@ rounds_used i c p k at =
 
 -- the number of a call's last round, as it is kept
 pub number_kept : (i : Inside) (old : Booked) (c n : ℕ) (l : Live) (p : Progress) → the_view i ≡ old → IsInside i → IsProgressAt i.calls.items c l p → last_number p.rounds.items ≡ Some n → due_number (work_in old) old.course c ≡ Some n
-number_kept i old c n l p is k here has = subst (λ (b : Booked). due_number (work_in b) b.course c ≡ Some n) is (due_here (work_of i.script) i.order.items i.low c i.calls.items p here.at ∙ (sym (ap last_number (settled p.rounds.items all n are has)) ∙ has)) where
+number_kept i old c n l p is k here has = subst (λ (b : Booked). due_number (work_in b) b.course c ≡ Some n) is (due_here (work_of i.script) i.order.items i.low i.answered.items c i.calls.items p here.at ∙ (sym (ap last_number (settled p.rounds.items all n are has)) ∙ has)) where
   all : List Round
   all = rounds_of (work_of i.script) i.order.items c (turns_in p.rounds.items)
 
   are : AreRounds p.rounds.items all
-  are = subst (TellsBy (work_of i.script) i.order.items c p.rounds.items) here.going (k.tells c p here.at)
+  are = subst (TellsBy (work_of i.script) i.order.items i.answered.items p.start c p.rounds.items) here.going (k.tells c p here.at)
 
 -- a number that isn't kept is missing
 pub unsettled_here : (i : Inside) (old : Booked) (c : ℕ) (p : Progress) → the_view i ≡ old → slice_get i.calls.items c ≡ Some p → last_number p.rounds.items ≡ None → IsSettled old c → ⊥
 unsettled_here i old c p is at none has = let no : true ≡ false = sym (settled_here i old c p is at has) ∙ ap is_some none in absurd (search (rules, no))
 
 pub missing_due : (i : Inside) (old : Booked) (c n : ℕ) (p : Progress) (o : Option ℕ) → the_view i ≡ old → slice_get i.calls.items c ≡ Some p → o ≡ last_number p.rounds.items → is_some o ≡ false → IsMissing n old c
-    → due_number (work_of i.script) (the_course i.order.items i.low (map live_of i.calls.items)) c ≡ Some n
+    → due_number (work_of i.script) (the_course i.order.items i.low i.answered.items (map live_of i.calls.items)) c ≡ Some n
 missing_due i old c n p o is at last unknown missing =
     subst (λ (b : Booked). due_number (work_in b) b.course c ≡ Some n) (sym is) (missing (unsettled_here i old c p is at (sym last ∙ none_of o unknown)))
 

@@ -18,10 +18,10 @@ use Rattle.mv_core.specs.contracts.book.Book.{the_view}
 use Rattle.mv_core.proofs.Lives.{oldest_is}
 use Rattle.mv_core.proofs.Keeping.{the_course, kept_event}
 
-pub kept_low : (s : Script) (order : List ℕ) (low next : ℕ) (ps : List Progress) (journal longer : List Event)
-    → IsBookKept s (the_course order low (map live_of ps)) ps journal → next ≡ next_low (work_of s) (the_course order low (map live_of ps)) → longer ≡ journal ++ G ∷ []
-    → IsBookKept s (the_course order next (map live_of ps)) ps longer
-kept_low s order low next ps journal longer k is adds = kept_event s _ _ ps ps journal longer G k refl (ap (λ n. the_course order n (map live_of ps)) is) adds k.tells
+pub kept_low : (s : Script) (order : List ℕ) (low : ℕ) (answered : List ℕ) (next : ℕ) (ps : List Progress) (journal longer : List Event)
+    → IsBookKept s (the_course order low answered (map live_of ps)) ps journal → next ≡ next_low (work_of s) (the_course order low answered (map live_of ps)) → longer ≡ journal ++ G ∷ []
+    → IsBookKept s (the_course order next answered (map live_of ps)) ps longer
+kept_low s order low answered next ps journal longer k is adds = kept_event s _ _ ps ps journal longer G k refl (ap (λ n. the_course order n answered (map live_of ps)) is) adds k.tells
 
 -- what the live calls tell
 pub oldest_told : (i : Inside) (old : Booked) (n o : ℕ) → the_view i ≡ old → i.live ≡ live_numbers (map live_of i.calls.items) → n ≡ length old.course.order
@@ -53,11 +53,11 @@ low_within w s next le is = (
   past None = omega arith
   past (Some h) = omega arith
 
-pub next_within : (s : Script) (order : List ℕ) (low next : ℕ) (ps : List Progress) → low ≤ length order → next ≡ next_low (work_of s) (the_course order low (map live_of ps)) → (low ≤ next) × (next ≤ length order)
-next_within s order low next ps le is = low_within (work_of s) (the_course order low (map live_of ps)) next le is
+pub next_within : (s : Script) (order : List ℕ) (low : ℕ) (answered : List ℕ) (next : ℕ) (ps : List Progress) → low ≤ length order → next ≡ next_low (work_of s) (the_course order low answered (map live_of ps)) → (low ≤ next) × (next ≤ length order)
+next_within s order low answered next ps le is = low_within (work_of s) (the_course order low answered (map live_of ps)) next le is
 
 -- it is past what no live call needs
-pub next_past : (s : Script) (order : List ℕ) (low next : ℕ) (ps : List Progress) → next ≡ next_low (work_of s) (the_course order low (map live_of ps)) → max low (oldest_of (length order) (map live_of ps)) ≤ next
-next_past s order low next ps is = by (oldest_of (length order) (map live_of ps)) (floor (length order) s.options.horizon) is where
+pub next_past : (s : Script) (order : List ℕ) (low : ℕ) (answered : List ℕ) (next : ℕ) (ps : List Progress) → next ≡ next_low (work_of s) (the_course order low answered (map live_of ps)) → max low (oldest_of (length order) (map live_of ps)) ≤ next
+next_past s order low answered next ps is = by (oldest_of (length order) (map live_of ps)) (floor (length order) s.options.horizon) is where
   by : (o f : ℕ) → next ≡ max low (max o f) → max low o ≤ next
   by o f is = omega (arith, is)

@@ -8,10 +8,12 @@ use Rattle.mv_lawful.specs.Work.{Work, records_at, hit_of}
 use Rattle.mv_lawful.specs.Lawful.{Turn, Live, Course, again, change_live, refusal}
 use Rattle.mv_lawful.specs.Rounds.{whole_run, later_run, round, rounds_of}
 use Rattle.mv_lawful.specs.Outcomes.{turns_of}
+use Rattle.mv_script.specs.declared.script.Script.{Script}
+use Rattle.mv_script.specs.Scripts.{work_of}
 use Rattle.mv_store.specs.Stored.{Versioned}
 use Rattle.mv_core.specs.Calls.{IsLive, closed, last_number}
 use Rattle.mv_core.specs.Lives.{live_numbers}
-use Rattle.mv_core.specs.Books.{Booked, work_in, Made, IsAlone}
+use Rattle.mv_core.specs.Books.{Booked, work_in, Made, IsAlone, IsNoReader}
 use Rattle.mv_core.specs.Cores.{IsStoreOf}
 use Rattle.mv_core.proofs.Numbers.{last_start, last_of_end, rounds_more}
 use Rattle.mv_core.proofs.Lives.{live_kept}
@@ -50,10 +52,10 @@ due_moved b c l live =
       there = ap (λ ls. slice_get ls c) (changed_at b.course.calls c f l live.at) ∙ set_there b.course.calls c (f l) l live.at
 
 -- no commit hits it
-pub moved_free : (old new : Booked) (store : Versioned) (c : ℕ) (l : Live) → IsStoreOf old store → IsLive old.course c l → Made (M c) old new → refusal (work_in new) new.course (C c) ≡ None
-moved_free old new store c l k live made =
+pub moved_free : (old new : Booked) (store : Versioned) (c : ℕ) (l : Live) → IsNoReader old c → IsStoreOf old store → IsLive old.course c l → Made (M c) old new → refusal (work_in new) new.course (C c) ≡ None
+moved_free old new store c l writes k live made =
     let n : ℕ = length old.course.order in
     let order : n ≡ length new.course.order = sym (ap (λ (s : Course). length s.order) made.course) in
-    may_commit (work_in new) new.course c (again n Moved l) (live_moved c old new l live made)
+    may_commit (work_in new) new.course c (again n Moved l) (ap (λ (s : Script). (work_of s).read_only c) made.script ∙ writes) (live_moved c old new l live made)
     (le-ltb n new.course.low (let low = ap (λ (s : Course). s.low) made.course in let below = k.below in omega (arith, low, below)))
     (ap (λ m. hit_of (work_in new) new.course.order m c) order ∙ none_hit (work_in new) new.course.order c)

@@ -3,7 +3,7 @@ use Rattle.std.proofs.Common.{◌≡◌, ◌⊎◌, inl, inr, ℕ, true, false, 
 use Rattle.std.specs.Prelude.{slice_get}
 use Rattle.std.proofs.lemmas.Bool.{eq-eqb, true≢false}
 use Rattle.mv_journal.specs.declared.event.Event.{Event}
-use Rattle.mv_journal.specs.declared.event.Event.TheVariants.{B, S, A, M, C, X, G}
+use Rattle.mv_journal.specs.declared.event.Event.TheVariants.{B, S, A, M, C, X, R, G}
 use Rattle.mv_journal.specs.declared.outcome.Mark.TheVariants.{Plain, Exclusive, Moved}
 use Rattle.mv_lawful.specs.Work.{Work}
 use Rattle.mv_lawful.specs.Lawful.{Live, Course, beginning, begin, again, finish, change_live, used, after}
@@ -46,6 +46,7 @@ was w s (A d) c l live = was_changed (A d) s (again (length s.order) Plain) d c 
 was w s (M d) c l live = was_changed (M d) s (again (length s.order) Moved) d c l (λ x at going. inr (inl (inr refl))) live.at live.live
 was w s (C d) c l live = was_changed (C d) s finish d c l (λ x at going. absurd (true≢false going)) live.at live.live
 was w s (X d) c l live = was_changed (X d) s (λ x. finish (again (length s.order) Exclusive x)) d c l (λ x at going. absurd (true≢false going)) live.at live.live
+was w s (R d) c l live = was_changed (R d) s finish d c l (λ x at going. absurd (true≢false going)) live.at live.live
 was w s G c l live = inr (inr (l, record { at = live.at; live = live.live }, refl))
 
 -- All live calls after an event

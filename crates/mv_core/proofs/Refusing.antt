@@ -15,10 +15,10 @@ use Rattle.mv_graph.specs.declared.graph.Graph.{Graph}
 use Rattle.mv_graph.specs.Nodes.{meaning_of}
 use Rattle.mv_exec.specs.Running.{IsTaskOf, HasLeft}
 use Rattle.mv_journal.specs.declared.event.Event.{Event}
-use Rattle.mv_journal.specs.declared.event.Event.TheVariants.{B, A, C, X}
+use Rattle.mv_journal.specs.declared.event.Event.TheVariants.{B, A, C, X, R}
 use Rattle.mv_journal.specs.declared.outcome.Round.{Round}
 use Rattle.mv_lawful.specs.declared.fault.Fault.{Fault}
-use Rattle.mv_lawful.specs.declared.fault.Fault.TheVariants.{Order, Stale, Conflict, Idle, Rounds}
+use Rattle.mv_lawful.specs.declared.fault.Fault.TheVariants.{Order, Kind, Stale, Conflict, Idle, Rounds}
 use Rattle.mv_lawful.specs.Work.{Work, table_at, records_at, hit_of}
 use Rattle.mv_lawful.specs.Lawful.{Live, Course, used, has_step, has_round, is_stale, is_hit, unless, of_live, of_call, refusal, begin, first_open, open_call}
 use Rattle.mv_script.specs.declared.script.Script.{Script}
@@ -81,37 +81,41 @@ hit_repairs w s c l may e = by (is_stale s l) (is_hit w s c l) e where
 pub record Repairs (w : Work) (s : Course) (c : ℕ) (l : Live) (e : Event) (may : Bool) : Type 0 where
   pub law : refusal w s e ≡ unless (not (is_stale s l)) Stale (unless (is_hit w s c l) Idle (unless may Rounds None))
 
-pub repairs_again : (w : Work) (s : Course) (c : ℕ) (l : Live) → IsLive s c l → Repairs w s c l (A c) (has_round w l)
-repairs_again w s c l live = record { law = live_is s c (λ x. repair_by w s c x (has_round w x)) l live }
+-- the law asks first whether the call is read only
+pub if_writes : (w : Work) (s : Course) (c : ℕ) (f : Live → Option Fault) (l : Live) → w.read_only c ≡ false → IsLive s c l → of_call s c (λ x. unless (not (w.read_only c)) Kind (f x)) ≡ f l
+if_writes w s c f l writes live = live_is s c (λ x. unless (not (w.read_only c)) Kind (f x)) l live ∙ ap (λ r. unless (not r) Kind (f l)) writes
 
-pub repairs_last : (w : Work) (s : Course) (c : ℕ) (l : Live) → IsLive s c l → Repairs w s c l (X c) (not (has_round w l))
-repairs_last w s c l live = record { law = live_is s c (λ x. repair_by w s c x (not (has_round w x))) l live }
+pub repairs_again : (w : Work) (s : Course) (c : ℕ) (l : Live) → w.read_only c ≡ false → IsLive s c l → Repairs w s c l (A c) (has_round w l)
+repairs_again w s c l writes live = record { law = if_writes w s c (λ x. repair_by w s c x (has_round w x)) l writes live }
 
-commit_is : (w : Work) (s : Course) (c : ℕ) (l : Live) → IsLive s c l → refusal w s (C c) ≡ commit_by w s c l
-commit_is w s c l live = live_is s c (commit_by w s c) l live
+pub repairs_last : (w : Work) (s : Course) (c : ℕ) (l : Live) → w.read_only c ≡ false → IsLive s c l → Repairs w s c l (X c) (not (has_round w l))
+repairs_last w s c l writes live = record { law = if_writes w s c (λ x. repair_by w s c x (not (has_round w x))) l writes live }
+
+commit_is : (w : Work) (s : Course) (c : ℕ) (l : Live) → w.read_only c ≡ false → IsLive s c l → refusal w s (C c) ≡ commit_by w s c l
+commit_is w s c l writes live = if_writes w s c (commit_by w s c) l writes live
 
 -- a live call may commit if its start isn't below low and no commit after it hits the call
-pub may_commit : (w : Work) (s : Course) (c : ℕ) (l : Live) → IsLive s c l → is_stale s l ≡ false → hit_of w s.order l.start c ≡ None → refusal w s (C c) ≡ None
-may_commit w s c l live fresh free =
-    commit_is w s c l live ∙ (ap (λ b. unless (not b) Stale (unless (not (is_hit w s c l)) Conflict None)) fresh ∙ ap (λ o. unless (not (is_some o)) Conflict None) free)
+pub may_commit : (w : Work) (s : Course) (c : ℕ) (l : Live) → w.read_only c ≡ false → IsLive s c l → is_stale s l ≡ false → hit_of w s.order l.start c ≡ None → refusal w s (C c) ≡ None
+may_commit w s c l writes live fresh free =
+    commit_is w s c l writes live ∙ (ap (λ b. unless (not b) Stale (unless (not (is_hit w s c l)) Conflict None)) fresh ∙ ap (λ o. unless (not (is_some o)) Conflict None) free)
 
 -- the law calls a call stale only if it is
-pub refused_stale : (w : Work) (s : Course) (c : ℕ) (l : Live) → IsLive s c l → refusal w s (C c) ≡ Some Stale → is_stale s l ≡ true
-refused_stale w s c l live e = by (is_stale s l) (is_hit w s c l) refl (sym (commit_is w s c l live) ∙ e) where
+pub refused_stale : (w : Work) (s : Course) (c : ℕ) (l : Live) → w.read_only c ≡ false → IsLive s c l → refusal w s (C c) ≡ Some Stale → is_stale s l ≡ true
+refused_stale w s c l writes live e = by (is_stale s l) (is_hit w s c l) refl (sym (commit_is w s c l writes live) ∙ e) where
   by : (stale hit : Bool) → is_stale s l ≡ stale → unless (not stale) Stale (unless (not hit) Conflict None) ≡ Some Stale → is_stale s l ≡ true
   by true hit is e = is
   by false true is e = absurd (search (rules, e))
   by false false is e = absurd (search (rules, e))
 
 -- what validation tells of it
-pub told_idle : (w : Work) (s : Course) (c : ℕ) (l : Live) (e : Event) (may : Bool) → IsLive s c l → Repairs w s c l e may → IsAnswer check.Free w s c l → refusal w s e ≡ Some Idle
-told_idle w s c l e may live r free = r.law ∙ free_is_idle w s c l may (sym (commit_is w s c l live) ∙ free)
+pub told_idle : (w : Work) (s : Course) (c : ℕ) (l : Live) (e : Event) (may : Bool) → w.read_only c ≡ false → IsLive s c l → Repairs w s c l e may → IsAnswer check.Free w s c l → refusal w s e ≡ Some Idle
+told_idle w s c l e may writes live r free = r.law ∙ free_is_idle w s c l may (sym (commit_is w s c l writes live) ∙ free)
 
-pub told_stale : (w : Work) (s : Course) (c start low : ℕ) (l : Live) (e : Event) (may : Bool) → IsLive s c l → Repairs w s c l e may → IsAnswer (check.Stale start low) w s c l → refusal w s e ≡ Some Stale
-told_stale w s c start low l e may live r h = r.law ∙ stale_stays w s c l may (sym (commit_is w s c l live) ∙ h.0)
+pub told_stale : (w : Work) (s : Course) (c start low : ℕ) (l : Live) (e : Event) (may : Bool) → w.read_only c ≡ false → IsLive s c l → Repairs w s c l e may → IsAnswer (check.Stale start low) w s c l → refusal w s e ≡ Some Stale
+told_stale w s c start low l e may writes live r h = r.law ∙ stale_stays w s c l may (sym (commit_is w s c l writes live) ∙ h.0)
 
-pub told_hit : (w : Work) (s : Course) (c number commit : ℕ) (l : Live) (e : Event) (may : Bool) → IsLive s c l → Repairs w s c l e may → IsAnswer (check.Hit number commit) w s c l → refusal w s e ≡ unless may Rounds None
-told_hit w s c number commit l e may live r h = r.law ∙ hit_repairs w s c l may (sym (commit_is w s c l live) ∙ h.0)
+pub told_hit : (w : Work) (s : Course) (c number commit : ℕ) (l : Live) (e : Event) (may : Bool) → w.read_only c ≡ false → IsLive s c l → Repairs w s c l e may → IsAnswer (check.Hit number commit) w s c l → refusal w s e ≡ unless may Rounds None
+told_hit w s c number commit l e may writes live r h = r.law ∙ hit_repairs w s c l may (sym (commit_is w s c l writes live) ∙ h.0)
 
 -- an event that is refused only since the call is stale, of a call that isn't
 pub fresh_allowed : (b : Booked) (c : ℕ) (l : Live) (e : Event) (may : Bool) → Repairs (work_in b) b.course c l e may → IsAllowedIfFresh b e → is_stale b.course l ≡ false → refusal (work_in b) b.course e ≡ None
@@ -163,7 +167,7 @@ used_rounds b c n l rs h live turns =
     let all = ap length turns.turns in
     omega (arith, many, all)
 
--- The first call that hasn't committed
+-- The first call that isn't done
 
 first_at : (w : Work) (s : Course) (k : ℕ) → first_open 0 s.calls ≡ k → k < w.count → Some k ≡ open_call w s
 first_at w s k is lt = sym (ap (λ n. if nat_lt n w.count then Some n else None) is ∙ ap (λ b. if b then Some k else None) (lt-ltb k w.count lt))
@@ -172,7 +176,7 @@ first_at w s k is lt = sym (ap (λ n. if nat_lt n w.count then Some n else None)
 open_by : (ls : List Live) (k : ℕ) → k < length ls → first_open k (drop k ls) ≡ (if (get_or ls k (begin 0)).done then first_open (k + 1) (drop (k + 1) ls) else k)
 open_by ls k lt = ap (first_open k) (drop_more ls k (begin 0) lt)
 
--- all calls before this one have committed, and it is live
+-- all calls before this one are done, and it is live
 pub open_at : (b : Booked) (k : ℕ) → first_open 0 b.course.calls ≡ first_open k (drop k b.course.calls) → IsLiveCall b.course k → k < length b.script.calls → Some k ≡ open_call (work_in b) b.course
 open_at b k before live lt =
     first_at (work_in b) b.course k (before ∙ (open_by ls k within ∙ ap (λ x. if x then first_open (k + 1) (drop (k + 1) ls) else k) (ap (λ (l : Live). l.done) one ∙ live.1.live))) lt where
@@ -188,7 +192,7 @@ open_at b k before live lt =
       one : get_or ls k (begin 0) ≡ live.0
       one = search (rules, both)
 
--- it isn't live, so it has committed too
+-- it isn't live, so it is done too
 pub open_next : (s : Course) (k : ℕ) → first_open 0 s.calls ≡ first_open k (drop k s.calls) → (IsLiveCall s k → ⊥) → k < length s.calls → first_open 0 s.calls ≡ first_open (k + 1) (drop (k + 1) s.calls)
 open_next s k before none lt = before ∙ (open_by s.calls k lt ∙ ap (λ x. if x then first_open (k + 1) (drop (k + 1) s.calls) else k) (done l.done refl)) where
   l : Live
@@ -197,3 +201,50 @@ open_next s k before none lt = before ∙ (open_by s.calls k lt ∙ ap (λ x. if
   done : (d : Bool) → l.done ≡ d → l.done ≡ true
   done true e = e
   done false e = absurd (none (l, record { at = slice_get-get_or s.calls k (begin 0) lt; live = e }))
+
+-- An answer
+
+answer_is : (w : Work) (s : Course) (c : ℕ) (l : Live) → w.read_only c ≡ true → IsLive s c l → refusal w s (R c) ≡ unless (not (is_stale s l)) Stale None
+answer_is w s c l reads live = live_is s c (λ x. unless (w.read_only c) Kind (unless (not (is_stale s x)) Stale None)) l live ∙ ap (λ r. unless r Kind (unless (not (is_stale s l)) Stale None)) reads
+
+-- a live read only call is answered exactly if it isn't stale
+pub may_answer : (w : Work) (s : Course) (c : ℕ) (l : Live) → w.read_only c ≡ true → IsLive s c l → is_stale s l ≡ false → refusal w s (R c) ≡ None
+may_answer w s c l reads live fresh = answer_is w s c l reads live ∙ ap (λ b. unless (not b) Stale None) fresh
+
+pub answer_stale : (w : Work) (s : Course) (c : ℕ) (l : Live) → w.read_only c ≡ true → IsLive s c l → is_stale s l ≡ true → refusal w s (R c) ≡ Some Stale
+answer_stale w s c l reads live stale = answer_is w s c l reads live ∙ ap (λ b. unless (not b) Stale None) stale
+
+-- an event of the other kind
+pub read_refused : (w : Work) (s : Course) (c : ℕ) (l : Live) → w.read_only c ≡ false → IsLive s c l → refusal w s (R c) ≡ Some Kind
+read_refused w s c l writes live = live_is s c (λ x. unless (w.read_only c) Kind (unless (not (is_stale s x)) Stale None)) l live ∙ ap (λ r. unless r Kind (unless (not (is_stale s l)) Stale None)) writes
+
+pub write_refused : (w : Work) (s : Course) (c : ℕ) (f : Live → Option Fault) (l : Live) → w.read_only c ≡ true → IsLive s c l → of_call s c (λ x. unless (not (w.read_only c)) Kind (f x)) ≡ Some Kind
+write_refused w s c f l reads live = live_is s c (λ x. unless (not (w.read_only c)) Kind (f x)) l live ∙ ap (λ r. unless (not r) Kind (f l)) reads
+
+-- so a call that may be repaired, if it isn't stale, isn't read only
+no_reader : (b : Booked) (c : ℕ) (e : Event) (f : Live → Option Fault) (l : Live) → IsLive b.course c l → refusal (work_in b) b.course e ≡ of_call b.course c (λ x. unless (not ((work_in b).read_only c)) Kind (f x)) → IsAllowedIfFresh b e
+    → (work_in b).read_only c ≡ false
+no_reader b c e f l live law allowed = by ((work_in b).read_only c) refl where
+  by : (r : Bool) → (work_in b).read_only c ≡ r → (work_in b).read_only c ≡ false
+  by false is = is
+  by true is = let same : Kind ≡ Stale = allowed Kind (law ∙ write_refused (work_in b) b.course c f l is live) in absurd (search (rules, same))
+
+pub again_writes : (b : Booked) (c : ℕ) (l : Live) → IsLive b.course c l → IsAllowedIfFresh b (A c) → (work_in b).read_only c ≡ false
+again_writes b c l live allowed = no_reader b c (A c) (λ x. repair_by (work_in b) b.course c x (has_round (work_in b) x)) l live refl allowed
+
+pub last_writes : (b : Booked) (c : ℕ) (l : Live) → IsLive b.course c l → IsAllowedIfFresh b (X c) → (work_in b).read_only c ≡ false
+last_writes b c l live allowed = no_reader b c (X c) (λ x. repair_by (work_in b) b.course c x (not (has_round (work_in b) x))) l live refl allowed
+
+-- a call for which an event of other calls isn't refused for its kind isn't read only
+pub kind_writes : (b : Booked) (c : ℕ) (e : Event) (f : Live → Option Fault) (l : Live) (o : Option Fault) → IsLive b.course c l → refusal (work_in b) b.course e ≡ of_call b.course c (λ x. unless (not ((work_in b).read_only c)) Kind (f x))
+    → refusal (work_in b) b.course e ≡ o → (Some Kind ≡ o → ⊥) → (work_in b).read_only c ≡ false
+kind_writes b c e f l o live law is other = by ((work_in b).read_only c) refl where
+  by : (r : Bool) → (work_in b).read_only c ≡ r → (work_in b).read_only c ≡ false
+  by false at = at
+  by true at = absurd (other (sym (law ∙ write_refused (work_in b) b.course c f l at live) ∙ is))
+
+pub commit_writes : (b : Booked) (c : ℕ) (l : Live) (o : Option Fault) → IsLive b.course c l → refusal (work_in b) b.course (C c) ≡ o → (Some Kind ≡ o → ⊥) → (work_in b).read_only c ≡ false
+commit_writes b c l o live is other = kind_writes b c (C c) (commit_by (work_in b) b.course c) l o live refl is other
+
+pub repair_writes : (b : Booked) (c : ℕ) (l : Live) (o : Option Fault) → IsLive b.course c l → refusal (work_in b) b.course (A c) ≡ o → (Some Kind ≡ o → ⊥) → (work_in b).read_only c ≡ false
+repair_writes b c l o live is other = kind_writes b c (A c) (λ x. repair_by (work_in b) b.course c x (has_round (work_in b) x)) l o live refl is other

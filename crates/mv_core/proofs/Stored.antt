@@ -22,7 +22,7 @@ use Rattle.mv_history.proofs.Joining.{covers_join}
 use Rattle.mv_history.proofs.Judging.{all_of, no_hit_is_unhit}
 use Rattle.mv_alike.specs.Laws.{AreRuns}
 use Rattle.mv_alike.proofs.Unhit.{unhit_same}
-use Rattle.mv_lawful.specs.declared.fault.Fault.TheVariants.{Stale, Conflict}
+use Rattle.mv_lawful.specs.declared.fault.Fault.TheVariants.{Kind, Stale, Conflict}
 use Rattle.mv_exec.specs.declared.task.Task.{Task}
 use Rattle.mv_lawful.specs.Work.{Work, tables_after, table_at, records_at, changes_after, changes_up_to, since, hit_of}
 use Rattle.mv_lawful.specs.Lawful.{Live, Course, unless, refusal, after, next_low, is_stale}
@@ -39,7 +39,7 @@ use Rattle.mv_script.specs.Scripts.{work_of, run_in, run_by, IsCallOf, CanRun, I
 use Rattle.mv_script.proofs.Databases.{run_database, table_database}
 use Rattle.mv_core.specs.Told.{reply_told, writes_told}
 use Rattle.mv_core.specs.Calls.{IsLive, IsLiveCall}
-use Rattle.mv_core.specs.Books.{Booked, work_in, last_tables, last_run, last_changes, Made, IsSame, commit_event, IsNotStale, AreRecordsOf}
+use Rattle.mv_core.specs.Books.{Booked, work_in, last_tables, last_run, last_changes, start_run, Made, IsSame, commit_event, IsNotStale, AreRecordsOf}
 use Rattle.mv_core.specs.Cores.{RunsOn, CanRepair, IsDatabaseIn, IsStored, IsStoreOf, Shows, ShowsStart, ShowsLast}
 use Rattle.mv_core.proofs.Telling.{told_reply, told_tables}
 use Rattle.mv_core.proofs.Lows.{low_within}
@@ -160,17 +160,18 @@ unhit_records s order c start k lt none =
 
 -- a call that may commit isn't stale and isn't hit
 pub commit_free : (w : Work) (s : Course) (c : ℕ) (l : Live) → IsLive s c l → refusal w s (C c) ≡ None → (is_stale s l ≡ false) × (hit_of w s.order l.start c ≡ None)
-commit_free w s c l live free = by (live_at s c (λ x. unless (not (is_stale s x)) Stale (unless (not (is_some (hit_of w s.order x.start c))) Conflict None)) free) where
-  parts : (stale : Bool) (hit : Option Hit) → unless (not stale) Stale (unless (not (is_some hit)) Conflict None) ≡ None → (stale ≡ false) × (hit ≡ None)
-  parts false None e = (refl, refl)
-  parts false (Some h) e = absurd (search (rules, e))
-  parts true hit e = absurd (search (rules, e))
+commit_free w s c l live free = by (live_at s c (λ x. unless (not (w.read_only c)) Kind (unless (not (is_stale s x)) Stale (unless (not (is_some (hit_of w s.order x.start c))) Conflict None))) free) where
+  parts : (writes stale : Bool) (hit : Option Hit) → unless writes Kind (unless (not stale) Stale (unless (not (is_some hit)) Conflict None)) ≡ None → (stale ≡ false) × (hit ≡ None)
+  parts true false None e = (refl, refl)
+  parts true false (Some h) e = absurd (search (rules, e))
+  parts true true hit e = absurd (search (rules, e))
+  parts false stale hit e = absurd (search (rules, e))
 
-  by : (x : Live) × IsLive s c x × (unless (not (is_stale s x)) Stale (unless (not (is_some (hit_of w s.order x.start c))) Conflict None) ≡ None) → (is_stale s l ≡ false) × (hit_of w s.order l.start c ≡ None)
+  by : (x : Live) × IsLive s c x × (unless (not (w.read_only c)) Kind (unless (not (is_stale s x)) Stale (unless (not (is_some (hit_of w s.order x.start c))) Conflict None)) ≡ None) → (is_stale s l ≡ false) × (hit_of w s.order l.start c ≡ None)
   by h =
       let both : Some h.0 ≡ Some l = sym h.1.at ∙ live.at in
       let one : h.0 ≡ l = search (rules, both) in
-      subst (λ (x : Live). (is_stale s x ≡ false) × (hit_of w s.order x.start c ≡ None)) one (parts (is_stale s h.0) (hit_of w s.order h.0.start c) h.2)
+      subst (λ (x : Live). (is_stale s x ≡ false) × (hit_of w s.order x.start c ≡ None)) one (parts (not (w.read_only c)) (is_stale s h.0) (hit_of w s.order h.0.start c) h.2)
 
 -- Stores
 
@@ -343,6 +344,10 @@ pub last_records : (b : Booked) (c : ℕ) (rs : List Record) → IsScript b.scri
     → rs ≡ records_at (work_in b) b.course.order (length b.course.order) c
 last_records b c rs k lt live are free =
     are live.0 live.1 ∙ sym (unhit_records b.script b.course.order c live.0.start k lt (commit_free (work_in b) b.course c live.0 live.1 free).1)
+
+-- the reply of a live call at its start
+pub start_reply : (b : Booked) (c : ℕ) (l : Live) (rs : List Record) → IsScript b.script → c < length b.script.calls → rs ≡ records_at (work_in b) b.course.order l.start c → reply_told rs ≡ (start_run b c l).reply
+start_reply b c l rs k lt are = (told_run b.script b.course.order c l.start rs k lt are).0
 
 pub last_reply : (b : Booked) (c : ℕ) (rs : List Record) → IsScript b.script → c < length b.script.calls → rs ≡ records_at (work_in b) b.course.order (length b.course.order) c → reply_told rs ≡ (last_run b c).reply
 last_reply b c rs k lt are = (told_run b.script b.course.order c (length b.course.order) rs k lt are).0

@@ -18,11 +18,11 @@ use Rattle.mv_exec.specs.Running.{IsTaskOf, IsTaskOn, IsUnchanged, HasLeft}
 use Rattle.mv_exec.proofs.Fronts.{ends_exactly}
 use Rattle.mv_journal.specs.declared.outcome.Mark.{Mark}
 use Rattle.mv_journal.specs.declared.outcome.Mark.TheVariants.{Plain, Exclusive, Moved}
-use Rattle.mv_journal.specs.declared.event.Event.TheVariants.{B, S, X, G}
+use Rattle.mv_journal.specs.declared.event.Event.TheVariants.{B, S, X, R, G}
 use Rattle.mv_history.specs.declared.change.Change.{Change}
 use Rattle.mv_history.specs.Kept.{executions}
 use Rattle.mv_lawful.specs.Work.{Work, table_at, records_at, since}
-use Rattle.mv_lawful.specs.Lawful.{Turn, Live, Course, begin, again, used, has_step}
+use Rattle.mv_lawful.specs.Lawful.{Turn, Live, Course, begin, again, finish, used, has_step}
 use Rattle.mv_lawful.specs.Rounds.{whole_run, later_run, round, rounds_of}
 use Rattle.mv_lawful.specs.Outcomes.{turns_of}
 use Rattle.mv_script.specs.declared.script.Script.{Script}
@@ -348,6 +348,19 @@ tasks_committed s course ts c l m k live ended = record {
       let had = k.running d x (record { at = h.1; live = alive }) in
       (had.0, set_apart ts c d None h.0 ∙ had.1, task_grows s course.order c d x had.0 had.2)
 
+-- one call is answered
+tasks_answered : (s : Script) (course : Course) (ts : List (Option Running)) (c : ℕ) (l m : Live) → HasTasks s course ts → IsLive course c l → m.done ≡ true
+    → HasTasks s (record course { answered = course.answered ++ c ∷ []; calls = slice_set course.calls c m }) (slice_set ts c None)
+tasks_answered s course ts c l m k live ended = record {
+  few = let n = length-set course.calls c m in let h = k.few in omega (arith, n, h);
+  count = let a = length-set ts c None in let b = length-set course.calls c m in let n = k.count in omega (arith, a, b, n);
+  running = λ d x alive. by d x (get_set course.calls c d m x alive.at) alive.live;
+} where
+  by : (d : ℕ) (x : Live) → ((d ≡ c) × (m ≡ x)) ⊎ ((d ≡ c → ⊥) × (slice_get course.calls d ≡ Some x)) → x.done ≡ false
+      → (u : Running) × (slice_get (slice_set ts c None) d ≡ Some (Some u)) × IsLiveTask s course.order d x u
+  by d x (inl h) alive = let both : true ≡ false = sym ended ∙ (ap (λ (y : Live). y.done) h.1 ∙ alive) in absurd (search (rules, both))
+  by d x (inr h) alive = let had = k.running d x (record { at = h.1; live = alive }) in (had.0, set_apart ts c d None h.0 ∙ had.1, had.2)
+
 -- Events of a book
 
 pub begun_on : (old new : Booked) (ts : List (Option Running)) (c : ℕ) (t : Task) → HasTasks old.script old.course ts → Made (B c) old new → c ≡ length old.course.calls → c < length old.script.calls
@@ -375,11 +388,17 @@ restarted_on m old new ts c l t ne k live made task =
 pub committed_on : (own : Option ℕ) (old new : Booked) (ts : List (Option Running)) (c : ℕ) (l : Live) → HasTasks old.script old.course ts → IsLive old.course c l → Made (commit_event own c) old new → HasTasks new.script new.course (slice_set ts c None)
 committed_on own old new ts c l k live made =
     tasks_same old.script new.script _ new.course (slice_set ts c None) (tasks_committed old.script old.course ts c l (committed (length old.course.order) own l) k live (done own)) made.script
-    (made.course ∙ (commit_after (work_in old) old.course.order old.course.low old.course.calls own c
+    (made.course ∙ (commit_after (work_in old) old.course.order old.course.low old.course.answered old.course.calls own c
     ∙ ap (λ ls. record old.course { order = old.course.order ++ c ∷ []; calls = ls }) (changed_at old.course.calls c (committed (length old.course.order) own) l live.at))) where
       done : (o : Option ℕ) → (committed (length old.course.order) o l).done ≡ true
       done None = refl
       done (Some n) = refl
+
+-- an answer
+pub answered_on : (old new : Booked) (ts : List (Option Running)) (c : ℕ) (l : Live) → HasTasks old.script old.course ts → IsLive old.course c l → Made (R c) old new → HasTasks new.script new.course (slice_set ts c None)
+answered_on old new ts c l k live made =
+    tasks_same old.script new.script _ new.course (slice_set ts c None) (tasks_answered old.script old.course ts c l (finish l) k live refl) made.script
+    (made.course ∙ ap (λ ls. record old.course { answered = old.course.answered ++ c ∷ []; calls = ls }) (changed_at old.course.calls c finish l live.at))
 
 -- a commit in a round of its own, after which the task is dropped
 pub decided_on : (old new : Booked) (ts : List (Option Running)) (c : ℕ) (l : Live) (r : Running) → HasTasks old.script old.course ts → IsLive old.course c l → Made (X c) old new

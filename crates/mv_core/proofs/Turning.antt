@@ -1,5 +1,5 @@
 -- Whole runs: the calls in turn, or a journal.
-use Rattle.std.proofs.Common.{◌≡◌, ◌≤◌, ◌⊎◌, inl, inr, ℕ, suc, ◌+◌, List, [], ◌∷◌, ◌++◌, Option, Some, None, Ok, length, drop, refl, sym, ap, subst, ◌∙◌, arith, append_assoc, append-nil, length-append, rules}
+use Rattle.std.proofs.Common.{◌≡◌, ◌≤◌, ◌⊎◌, inl, inr, ℕ, suc, ◌+◌, Bool, true, false, List, [], ◌∷◌, ◌++◌, Option, Some, None, Ok, length, drop, refl, sym, ap, subst, ◌∙◌, arith, append_assoc, append-nil, length-append, rules}
 use Rattle.std.specs.Prelude.{slice_get}
 use Rattle.std.specs.Option.{option_map}
 use Rattle.std.proofs.lemmas.Grind.{flat_map-append}
@@ -12,12 +12,14 @@ use Rattle.mv_history.specs.declared.change.Change.{Change}
 use Rattle.mv_history.specs.declared.change.Hit.{Hit}
 use Rattle.mv_history.specs.Hits.{first_hit}
 use Rattle.mv_journal.specs.declared.event.Event.{Event}
-use Rattle.mv_journal.specs.declared.event.Event.TheVariants.{B, C, G}
+use Rattle.mv_journal.specs.declared.event.Event.TheVariants.{B, C, R, G}
 use Rattle.mv_journal.specs.declared.outcome.Outcome.{Outcome}
+use Rattle.mv_lawful.specs.declared.fault.Fault.{Fault}
+use Rattle.mv_lawful.specs.declared.fault.Fault.TheVariants.{Kind}
 use Rattle.mv_lawful.specs.declared.fault.Wrong.TheVariants as wrong
 use Rattle.mv_lawful.specs.Work.{Work, changes_after, records_at, hit_of}
-use Rattle.mv_lawful.specs.Lawful.{Live, Course, beginning, begin, finish, change_live, after, reach, open_call, wrong_from}
-use Rattle.mv_lawful.specs.Outcomes.{turn, in_turn, is_of_call, without_collections, IsOutcomeInTurn, outcome_of}
+use Rattle.mv_lawful.specs.Lawful.{Live, Course, beginning, begin, finish, change_live, unless, refusal, after, reach, open_call, wrong_from}
+use Rattle.mv_lawful.specs.Outcomes.{ending, turn, in_turn, is_of_call, without_collections, IsOutcomeInTurn, outcome_of}
 use Rattle.mv_lawful.proofs.Collections.{collections_unseen}
 use Rattle.mv_lawful.proofs.Turns.{at_end, turned, turns_reach, closed, no_commits, only_open}
 use Rattle.mv_core.specs.declared.engine.Attempt.{Attempt}
@@ -27,8 +29,8 @@ use Rattle.mv_script.specs.Scripts.{work_of}
 use Rattle.mv_core.specs.Calls.{IsLive, IsLiveCall}
 use Rattle.mv_core.specs.Books.{Booked, work_in, Made, IsSame}
 use Rattle.mv_core.specs.Drives.{HasMade, HasTurned, Driven, HasReplayed}
-use Rattle.mv_core.specs.Cores.{HasTried, IsStaleAt, IsHitAt}
-use Rattle.mv_core.proofs.Journals.{get_last}
+use Rattle.mv_core.specs.Cores.{HasTried, HasTriedToEnd, IsStaleAt, IsHitAt}
+use Rattle.mv_core.proofs.Journals.{get_last, live_at}
 use Rattle.mv_core.proofs.Lows.{low_within}
 use Rattle.mv_core.proofs.Driving.{made_more, made_none}
 use Rattle.mv_core.proofs.Refusing.{begun_number, same_made}
@@ -74,11 +76,11 @@ never_hit c old new hit made h =
 
 -- The calls in turn
 
--- each call that has begun did so after the one before it had committed, and has committed. Low isn't past the commits
+-- each call that has begun did so after the one before it had ended, and has ended. Low isn't past the commits
 pub record IsTurned (start b : Booked) : Type 0 where
   first : start.course ≡ beginning
   events : List Event
-  turns : without_collections events ≡ in_turn (length b.course.calls)
+  turns : without_collections events ≡ in_turn (work_in start).read_only (length b.course.calls)
   made : HasMade events start b
   low : b.course.low ≤ length b.course.order
 
@@ -86,7 +88,7 @@ pub turned_none : (start : Booked) → start.course ≡ beginning → IsTurned s
 turned_none start first = record {
   first = first;
   events = [];
-  turns = ap (λ (s : Course). in_turn (length s.calls)) (sym first);
+  turns = ap (λ (s : Course). in_turn (work_in start).read_only (length s.calls)) (sym first);
   made = record { allowed = tt; course = refl; journal = sym (append-nil start.journal); script = refl };
   low = subst (λ (s : Course). s.low ≤ length s.order) (sym first) (omega arith);
 }
@@ -108,64 +110,108 @@ turn_commits c (Committed n) start old mid new t made h = h.0
 turn_commits c (Hits number commit) start old mid new t made h = absurd (never_hit c old mid _ made h.0)
 turn_commits c (Stale first low) start old mid new t made h = absurd (never_stale c first low start old mid t made h.0)
 
-as_many : (w : Work) (s : Course) (c : ℕ) → length (after w s (C c)).calls ≡ length s.calls
-as_many w s c = by (slice_get s.calls c) where
+-- the event that ends a call
+abbrev pub end_of : Booked → ℕ → Event
+end_of b c = ending ((work_in b).read_only c) c
+
+-- the law answers read only calls alone
+read_allowed : (w : Work) (s : Course) (c : ℕ) → refusal w s (R c) ≡ None → w.read_only c ≡ true
+read_allowed w s c free = let it = live_at s c _ free in by (w.read_only c) refl _ it.2 where
+  by : (b : Bool) → w.read_only c ≡ b → (later : Option Fault) → unless b Kind later ≡ None → w.read_only c ≡ true
+  by true e later h = e
+  by false e later h = absurd (search (rules, h))
+
+-- its end is made
+pub turn_ends : (c : ℕ) (start old mid new : Booked) → IsTurned start old → Made (B c) old mid → HasTriedToEnd c mid new → Made (end_of mid c) mid new
+turn_ends c start old mid new t made (inl (inl read)) = subst (λ b. Made (ending b c) mid new) (sym (read_allowed (work_in mid) mid.course c read.allowed)) read
+turn_ends c start old mid new t made (inl (inr stale)) = absurd (never_stale c stale.0 stale.1 start old mid t made stale.2)
+turn_ends c start old mid new t made (inr h) = subst (λ b. Made (ending b c) mid new) (sym h.0) (turn_commits c h.1.0 start old mid new t made h.1.1)
+
+as_many : (w : Work) (s : Course) (c : ℕ) (b : Bool) → length (after w s (ending b c)).calls ≡ length s.calls
+as_many w s c b = kind b where
   by : (o : Option Live) → length (change_live o finish s.calls c) ≡ length s.calls
   by None = refl
   by (Some l) = length-set s.calls c (finish l)
 
+  kind : (b : Bool) → length (after w s (ending b c)).calls ≡ length s.calls
+  kind true = by (slice_get s.calls c)
+  kind false = by (slice_get s.calls c)
+
+no_fewer : (w : Work) (s : Course) (c : ℕ) (b : Bool) → length s.order ≤ length (after w s (ending b c)).order
+no_fewer w s c true = omega arith
+no_fewer w s c false = let n = length-append s.order (c ∷ []) in omega (arith, n)
+
+same_low : (w : Work) (s : Course) (c : ℕ) (b : Bool) → (after w s (ending b c)).low ≡ s.low
+same_low w s c true = refl
+same_low w s c false = refl
+
 pub many_begun : (c : ℕ) (old new : Booked) → Made (B c) old new → length new.course.calls ≡ length old.course.calls + 1
 many_begun c old new made = ap (λ (s : Course). length s.calls) made.course ∙ length-append old.course.calls (begin (length old.course.order) ∷ [])
 
-pub many_turned : (c : ℕ) (old mid new : Booked) → Made (B c) old mid → Made (C c) mid new → length new.course.calls ≡ length old.course.calls + 1
-many_turned c old mid new a b = ap (λ (s : Course). length s.calls) b.course ∙ (as_many (work_in mid) mid.course c ∙ many_begun c old mid a)
+pub many_turned : (c : ℕ) (old mid new : Booked) → Made (B c) old mid → Made (end_of mid c) mid new → length new.course.calls ≡ length old.course.calls + 1
+many_turned c old mid new a b = ap (λ (s : Course). length s.calls) b.course ∙ (as_many (work_in mid) mid.course c ((work_in mid).read_only c) ∙ many_begun c old mid a)
 
-turn_more : (k : ℕ) → (in_turn k ++ B k ∷ []) ++ C k ∷ [] ≡ in_turn (suc k)
-turn_more k = append_assoc (in_turn k) (B k ∷ []) (C k ∷ []) ∙ sym (flat_map-append turn (first_numbers k) (k ∷ []))
+turn_more : (reads : ℕ → Bool) (k : ℕ) → (in_turn reads k ++ B k ∷ []) ++ ending (reads k) k ∷ [] ≡ in_turn reads (suc k)
+turn_more reads k = append_assoc (in_turn reads k) (B k ∷ []) (ending (reads k) k ∷ []) ∙ sym (flat_map-append (turn reads) (first_numbers k) (k ∷ []))
 
 without_more : (es : List Event) (e : Event) → without_collections (es ++ e ∷ []) ≡ without_collections es ++ without_collections (e ∷ [])
 without_more es e = filter-append is_of_call es (e ∷ [])
 
-with_turn : (es : List Event) (k : ℕ) → without_collections es ≡ in_turn k → without_collections ((es ++ B k ∷ []) ++ C k ∷ []) ≡ in_turn (suc k)
-with_turn es k h =
-    without_more (es ++ B k ∷ []) (C k) ∙ (ap (λ xs. xs ++ C k ∷ []) (without_more es (B k)) ∙ (ap (λ xs. (xs ++ B k ∷ []) ++ C k ∷ []) h ∙ turn_more k))
+end_stays : (b : Bool) (k : ℕ) → without_collections (ending b k ∷ []) ≡ ending b k ∷ []
+end_stays true k = refl
+end_stays false k = refl
 
-pub turned_more : (c : ℕ) (start old mid new : Booked) → IsTurned start old → Made (B c) old mid → Made (C c) mid new → IsTurned start new
+with_turn : (reads : ℕ → Bool) (es : List Event) (k : ℕ) → without_collections es ≡ in_turn reads k → without_collections ((es ++ B k ∷ []) ++ ending (reads k) k ∷ []) ≡ in_turn reads (suc k)
+with_turn reads es k h =
+    without_more (es ++ B k ∷ []) (ending (reads k) k)
+    ∙ (ap (λ xs. without_collections (es ++ B k ∷ []) ++ xs) (end_stays (reads k) k)
+    ∙ (ap (λ xs. xs ++ ending (reads k) k ∷ []) (without_more es (B k)) ∙ (ap (λ xs. (xs ++ B k ∷ []) ++ ending (reads k) k ∷ []) h ∙ turn_more reads k)))
+
+pub turned_more : (c : ℕ) (start old mid new : Booked) → IsTurned start old → Made (B c) old mid → Made (end_of mid c) mid new → IsTurned start new
 turned_more c start old mid new t a b = record {
   first = t.first;
-  events = (t.events ++ B k ∷ []) ++ C k ∷ [];
-  turns = with_turn t.events k t.turns ∙ ap in_turn (sym next);
-  made = made_more (t.events ++ B k ∷ []) (C k) start mid new (made_more t.events (B k) start old mid t.made (subst (λ n. Made (B n) old mid) is a)) (subst (λ n. Made (C n) mid new) is b);
-  low = let past = t.low in omega (arith, past, low_is, more);
+  events = (t.events ++ B k ∷ []) ++ ending (reads k) k ∷ [];
+  turns = with_turn reads t.events k t.turns ∙ ap (in_turn reads) (sym next);
+  made = made_more (t.events ++ B k ∷ []) (ending (reads k) k) start mid new (made_more t.events (B k) start old mid t.made (subst (λ n. Made (B n) old mid) is a)) (subst (λ n. Made (ending (reads n) n) mid new) is last);
+  low = let past = t.low in let more = no_fewer (work_in mid) mid.course c ((work_in mid).read_only c) in omega (arith, past, low_is, more, many, order_is);
 } where
+  reads : ℕ → Bool
+  reads = (work_in start).read_only
+
   k : ℕ
   k = length old.course.calls
 
   is : c ≡ k
   is = begun_number c old mid a
 
+  last : Made (ending (reads c) c) mid new
+  last = subst (λ (s : Script). Made (ending ((work_of s).read_only c) c) mid new) (a.script ∙ t.made.script) b
+
   next : length new.course.calls ≡ suc k
   next = let many = many_turned c old mid new a b in omega (arith, many)
 
   low_is : new.course.low ≡ old.course.low
-  low_is = ap (λ (s : Course). s.low) b.course ∙ ap (λ (s : Course). s.low) a.course
+  low_is = ap (λ (s : Course). s.low) b.course ∙ (same_low (work_in mid) mid.course c ((work_in mid).read_only c) ∙ ap (λ (s : Course). s.low) a.course)
 
-  more : length new.course.order ≡ length old.course.order + 1
-  more = ap (λ (s : Course). length s.order) b.course ∙ (length-append mid.course.order (c ∷ []) ∙ ap (λ (s : Course). length s.order + 1) a.course)
+  many : length mid.course.order ≡ length old.course.order
+  many = ap (λ (s : Course). length s.order) a.course
+
+  order_is : length new.course.order ≡ length (after (work_in mid) mid.course (end_of mid c)).order
+  order_is = ap (λ (s : Course). length s.order) b.course
 
 -- after a collection too, or if nothing happened
 pub turned_on : (start old new : Booked) → IsTurned start old → IsSame old new ⊎ Made G old new → IsTurned start new
 turned_on start old new t (inl same) = record {
   first = t.first;
   events = t.events;
-  turns = t.turns ∙ ap (λ (s : Course). in_turn (length s.calls)) (sym same.course);
+  turns = t.turns ∙ ap (λ (s : Course). in_turn (work_in start).read_only (length s.calls)) (sym same.course);
   made = made_none t.events start old new t.made (same_made old new same);
   low = subst (λ (s : Course). s.low ≤ length s.order) (sym same.course) t.low;
 }
 turned_on start old new t (inr a) = record {
   first = t.first;
   events = t.events ++ G ∷ [];
-  turns = without_more t.events G ∙ (append-nil (without_collections t.events) ∙ (t.turns ∙ ap (λ (s : Course). in_turn (length s.calls)) (sym a.course)));
+  turns = without_more t.events G ∙ (append-nil (without_collections t.events) ∙ (t.turns ∙ ap (λ (s : Course). in_turn (work_in start).read_only (length s.calls)) (sym a.course)));
   made = made_more t.events G start old new t.made a;
   low = subst (λ (s : Course). s.low ≤ length s.order) (sym a.course) (low_within (work_in old) old.course _ t.low refl).1;
 }
@@ -191,7 +237,7 @@ lawful_shut es old new made none =
 pub turned_all : (start old new : Booked) → IsTurned start old → length old.course.calls ≡ length old.script.calls → IsSame old new → HasTurned start new
 turned_all start old new t many same = record {
   events = t.events;
-  turns = t.turns ∙ ap in_turn (many ∙ ap (λ (s : Script). length s.calls) t.made.script);
+  turns = t.turns ∙ ap (in_turn (work_in start).read_only) (many ∙ ap (λ (s : Script). length s.calls) t.made.script);
   made = made_none t.events start old new t.made (same_made old new same);
 }
 
@@ -199,22 +245,22 @@ turned_all start old new t many same = record {
 pub turned_shut : (start new : Booked) → start.course ≡ beginning → HasTurned start new → open_call (work_in new) new.course ≡ None
 turned_shut start new first h =
     subst (λ (s : Script). open_call (work_of s) new.course ≡ None) (sym h.made.script)
-    (ap (λ (ls : List Live). open_call w (record { order = []; calls = ls; low = 0 })) calls_are ∙ some_open (open_call w (turned w.count)) (closed w w.count refl))
+    (ap (λ (ls : List Live). open_call w (record { order = []; calls = ls; low = 0; answered = [] })) calls_are ∙ some_open (open_call w (turned w w.count)) (closed w w.count refl))
   where
     w : Work
     w = work_in start
 
-    calls_are : new.course.calls ≡ (turned w.count).calls
+    calls_are : new.course.calls ≡ (turned w w.count).calls
     calls_are =
         ap (λ (s : Course). s.calls) (h.made.course ∙ ap (λ s. reach w s h.events) first)
-        ∙ ((collections_unseen w beginning beginning h.events (refl, refl)).1
+        ∙ ((collections_unseen w beginning beginning h.events (refl, refl, refl)).1
         ∙ ap (λ (s : Course). s.calls) (ap (reach w beginning) h.turns ∙ turns_reach w w.count))
 
 pub turned_outcome : (s : Script) (start new : Booked) (o : Outcome) → HasTurned start new → start.script ≡ s → start.journal ≡ []
     → o ≡ outcome_of (work_in new) new.journal → IsOutcomeInTurn (work_of s) (length s.calls) o
 turned_outcome s start new o h script journal is = record {
   journal = h.events;
-  turns = h.turns ∙ ap (λ (x : Script). in_turn (length x.calls)) script;
+  turns = h.turns ∙ ap (λ (x : Script). in_turn (work_of x).read_only (length x.calls)) script;
   outcome = is ∙ (ap (λ x. outcome_of (work_of x) new.journal) (h.made.script ∙ script) ∙ ap (outcome_of (work_of s)) (h.made.journal ∙ ap (λ es. es ++ h.events) journal));
 }
 

@@ -1,6 +1,6 @@
 -- Defines the contents of a book, and how events change it. The law of journals says which events are allowed. This
 -- project's own.
-use Rattle.std.specs.Prelude.{◌≡◌, ◌⊎◌, ◌<◌, ◌≤◌, ◌+◌, ◌^◌, ℕ, max, false, List, [], ◌∷◌, ◌++◌, Option, Some, None, Result, Ok, Err, length, slice_get, IsSome}
+use Rattle.std.specs.Prelude.{◌≡◌, ◌⊎◌, ◌<◌, ◌≤◌, ◌+◌, ◌^◌, ℕ, max, true, false, List, [], ◌∷◌, ◌++◌, Option, Some, None, Result, Ok, Err, length, slice_get, IsSome}
 use Rattle.std.specs.Option.{ForSome, option_map}
 use Rattle.mv_values.specs.declared.memory.NoMemory.{NoMemory}
 use Rattle.mv_values.specs.Tables.{Tables}
@@ -9,8 +9,10 @@ use Rattle.mv_record.specs.Runs.{Run}
 use Rattle.mv_history.specs.declared.change.Change.{Change}
 use Rattle.mv_history.specs.Changes.{changes_between}
 use Rattle.mv_changes.specs.Commits.{Window}
+use Rattle.mv_view.specs.declared.view.Refused.{Refused}
+use Rattle.mv_view.specs.declared.view.Refused.TheVariants as refused
 use Rattle.mv_journal.specs.declared.event.Event.{Event}
-use Rattle.mv_journal.specs.declared.event.Event.TheVariants.{B, A, M, C, X}
+use Rattle.mv_journal.specs.declared.event.Event.TheVariants.{B, A, M, C, X, R}
 use Rattle.mv_journal.specs.declared.outcome.Mark.{Mark}
 use Rattle.mv_journal.specs.declared.outcome.Mark.TheVariants.{Plain, Exclusive, Moved}
 use Rattle.mv_journal.specs.declared.outcome.Round.{Round}
@@ -60,7 +62,7 @@ pub record IsBookKept (s : Script) (course : Course) (calls : List Progress) (jo
   pub few : length s.calls < 2 ^ 32
   pub allowed : AllAllowed (work_of s) beginning journal
   pub reaches : course ≡ course_of (work_of s) journal
-  pub tells : (c : ℕ) (p : Progress) → slice_get calls c ≡ Some p → TellsCall (work_of s) course.order c p
+  pub tells : (c : ℕ) (p : Progress) → slice_get calls c ≡ Some p → TellsCall (work_of s) course.order course.answered c p
 
 -- the changes of the last commits, for the calls of the order executed one after another: at least those after low and
 -- after the oldest start of a live call
@@ -87,6 +89,17 @@ last_run b c = (work_in b).run c (last_tables b)
 -- the changes of its commit
 abbrev pub last_changes : Booked → ℕ → List Change
 last_changes b c = changes_between (last_tables b) (last_run b c).tables
+
+-- a full run of a live call at its start
+abbrev pub start_run : Booked → ℕ → Live → Run
+start_run b c l = (work_in b).run c (table_at (work_in b) b.course.order l.start)
+
+-- the call is read only, or isn't
+abbrev pub IsReader : Booked → ℕ → Type 0
+IsReader b c = (work_in b).read_only c ≡ true
+
+abbrev pub IsNoReader : Booked → ℕ → Type 0
+IsNoReader b c = (work_in b).read_only c ≡ false
 
 -- this call is live, and no other is
 abbrev pub IsAlone : Booked → ℕ → Type 0
@@ -203,3 +216,23 @@ abbrev pub IsAnswer : Check → Work → Course → ℕ → Live → Type 0
 IsAnswer Free w s c l = refusal w s (C c) ≡ None
 IsAnswer (Hit number commit) w s c l = (refusal w s (C c) ≡ Some fault.Conflict) × (hit_of w s.order l.start c ≡ Some (record { number = number; commit = commit }))
 IsAnswer (Stale start low) w s c l = (refusal w s (C c) ≡ Some fault.Stale) × (start ≡ l.start) × (low ≡ s.low)
+
+-- Answers
+
+-- the call's start is below low
+pub record IsStaleAt (b : Booked) (c start low : ℕ) : Type 0 where
+  pub live : Live
+  pub is_live : IsLive b.course c live
+  pub start_is : start ≡ live.start
+  pub low_is : low ≡ b.course.low
+  pub stale : start < low
+
+-- nothing happened, and the call is stale if its view says so
+abbrev pub HasRefused : ℕ → Refused → Booked → Booked → Type 0
+HasRefused c refused.NoMemory old new = IsSame old new
+HasRefused c (refused.Stale start low) old new = IsStaleAt old c start low × IsSame old new
+
+-- the call was answered at its start, or nothing happened
+abbrev pub HasAnswered : ℕ → Result ℕ Refused → Booked → Booked → Type 0
+HasAnswered c (Ok n) old new = Made (R c) old new × ((l : Live) → IsLive old.course c l → n ≡ l.start)
+HasAnswered c (Err why) old new = HasRefused c why old new

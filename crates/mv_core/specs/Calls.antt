@@ -1,6 +1,6 @@
 -- Defines what is kept of a call that has begun: its rounds with their numbers, and its reply. This project's own.
-use Rattle.std.specs.Prelude.{◌≡◌, ◌⊎◌, ◌<◌, ◌≤◌, ℕ, ◌==◌, false, List, [], ◌∷◌, ◌++◌, Option, Some, None, map, length, slice_get, option_to_list}
-use Rattle.std.specs.List.{position, flat_map}
+use Rattle.std.specs.Prelude.{◌≡◌, ◌⊎◌, ◌≤◌, ℕ, false, List, [], ◌∷◌, ◌++◌, Option, Some, None, map, length, slice_get, option_to_list}
+use Rattle.std.specs.List.{flat_map}
 use Rattle.std.specs.Option.{is_some}
 use Rattle.mv_values.specs.declared.calls.Reply.{Reply}
 use Rattle.mv_journal.specs.declared.outcome.Mark.{Mark}
@@ -10,7 +10,8 @@ use Rattle.mv_journal.specs.declared.outcome.HistoryLine.{HistoryLine}
 use Rattle.mv_lawful.specs.Work.{Work, table_at}
 use Rattle.mv_lawful.specs.Lawful.{Turn, Live, Course, begin, again, finish}
 use Rattle.mv_lawful.specs.Rounds.{rounds_of}
-use Rattle.mv_lawful.specs.Outcomes.{turns_of}
+use Rattle.mv_lawful.specs.declared.places.Place.{Place}
+use Rattle.mv_lawful.specs.Outcomes.{commits_before, turns_of}
 use Rattle.mv_core.specs.declared.progress.Progress.{Progress}
 
 -- a round without its number
@@ -75,19 +76,20 @@ uncounted n mark = record { start = n; count = None; mark = mark }
 
 -- Replies
 
--- the reply of a call of the order, alone after those before it
-abbrev pub IsReply : Work → List ℕ → ℕ → Reply → Type 0
-IsReply w order c reply = (k : ℕ) × (position (λ d. d == c) order ≡ Some k) × (k < length order) × (reply ≡ (w.run c (table_at w order k)).reply)
+-- the reply of a call of the order, alone after those before it; that of an answered call, alone after those up to its
+-- start
+abbrev pub IsReply : Work → List ℕ → List ℕ → ℕ → ℕ → Reply → Type 0
+IsReply w order answered start c reply = (k : ℕ) × (commits_before order answered start c ≡ Some k) × (k ≤ length order) × (reply ≡ (w.run c (table_at w order k)).reply)
 
 -- Both
 
-abbrev pub TellsBy : Work → List ℕ → ℕ → List Round → Option Reply → Type 0
-TellsBy w order c kept None = AreRounds kept (rounds_of w order c (turns_in kept))
-TellsBy w order c kept (Some reply) = (kept ≡ rounds_of w order c (turns_in kept)) × IsReply w order c reply
+abbrev pub TellsBy : Work → List ℕ → List ℕ → ℕ → ℕ → List Round → Option Reply → Type 0
+TellsBy w order answered start c kept None = AreRounds kept (rounds_of w order c (turns_in kept))
+TellsBy w order answered start c kept (Some reply) = (kept ≡ rounds_of w order c (turns_in kept)) × IsReply w order answered start c reply
 
--- it has the rounds that Runs says, and the reply of a call that has committed
-abbrev pub TellsCall : Work → List ℕ → ℕ → Progress → Type 0
-TellsCall w order c p = TellsBy w order c p.rounds.items p.reply
+-- it has the rounds that Runs says, and the reply of a call that is done
+abbrev pub TellsCall : Work → List ℕ → List ℕ → ℕ → Progress → Type 0
+TellsCall w order answered c p = TellsBy w order answered p.start c p.rounds.items p.reply
 
 -- it began after this many commits, and has executed nothing
 pub record IsFresh (n : ℕ) (p : Progress) : Type 0 where
@@ -112,10 +114,14 @@ abbrev pub rounds_by : Option Progress → List Round
 rounds_by None = []
 rounds_by (Some p) = p.rounds.items
 
--- the commit of a call, with the rounds that are kept of it
-abbrev pub line_of : List Progress → ℕ → HistoryLine
-line_of ps c = record { call = c; rounds = rounds_by (slice_get ps c) }
+-- a call in its place, with the rounds that are kept of it
+abbrev pub line_of : List Progress → Place → HistoryLine
+line_of ps p = record { commit = p.commit; call = p.call; rounds = rounds_by (slice_get ps p.call) }
 
--- the replies of those that have committed
+-- what the law of journals sees of the calls that have begun, the commits and the answered calls
+abbrev pub course_with : List Progress → List ℕ → List ℕ → Course
+course_with ps order answered = record { order = order; calls = map live_of ps; low = 0; answered = answered }
+
+-- the replies of those that are done
 abbrev pub replies_in : List Progress → List Reply
 replies_in ps = flat_map (λ p. option_to_list p.reply) ps

@@ -1,5 +1,5 @@
 -- Defines what a core keeps beside its history: the tables after each commit, and running calls. This project's own.
-use Rattle.std.specs.Prelude.{◌≡◌, ◌<◌, ◌≤◌, ◌+◌, ℕ, Bool, true, false, not, List, [], ◌∷◌, ◌++◌, Option, Some, None, Result, Ok, Err, length, slice_get}
+use Rattle.std.specs.Prelude.{◌≡◌, ◌⊎◌, ◌<◌, ◌≤◌, ◌+◌, ℕ, Bool, true, false, not, List, [], ◌∷◌, ◌++◌, Option, Some, None, Result, Ok, Err, length, slice_get}
 use mathlib.Core.List.{IsPrefix}
 use Rattle.mv_values.specs.declared.memory.NoMemory.{NoMemory}
 use Rattle.mv_values.specs.declared.calls.Call.{Call}
@@ -7,7 +7,7 @@ use Rattle.mv_values.specs.Tables.{Tables}
 use Rattle.mv_record.specs.declared.record.Record.{Record}
 use Rattle.mv_record.specs.Databases.{IsDatabaseOf}
 use Rattle.mv_journal.specs.declared.event.Event.{Event}
-use Rattle.mv_journal.specs.declared.event.Event.TheVariants.{B, S, A, M, C, X, G}
+use Rattle.mv_journal.specs.declared.event.Event.TheVariants.{B, S, A, M, C, X, R, G}
 use Rattle.mv_view.specs.declared.view.Refused.{Refused}
 use Rattle.mv_view.specs.declared.view.Refused.TheVariants as refused
 use Rattle.mv_view.specs.Viewing.{Sight}
@@ -31,7 +31,8 @@ use Rattle.mv_script.specs.declared.script.Script.{Script}
 use Rattle.mv_script.specs.Scripts.{IsCallOf, IsScript, work_of}
 use Rattle.mv_core.specs.declared.tasks.Running.{Running}
 use Rattle.mv_core.specs.Calls.{IsLive, IsLiveCall, WithinRounds, last_number, due_number}
-use Rattle.mv_core.specs.Books.{Booked, work_in, Made, IsSame, IsSettled, HaveNumbers, AreRecordsOf}
+pub use Rattle.mv_core.specs.Books.{IsStaleAt, HasRefused, HasAnswered}
+use Rattle.mv_core.specs.Books.{Booked, work_in, Made, IsSame, IsSettled, HaveNumbers, AreRecordsOf, IsReader, IsNoReader}
 
 -- Tables
 
@@ -159,8 +160,8 @@ pub record HasTasks (s : Script) (course : Course) (tasks : List (Option Running
 
 -- A core
 
--- what contracts see of a core: its history, and the tasks of the calls that have begun, by number. A call that has
--- committed has none
+-- what contracts see of a core: its history, and the tasks of the calls that have begun, by number. A call that is done
+-- has none
 pub record Cored : Type 0 where
   pub book : Booked
   pub tasks : List (Option Running)
@@ -209,6 +210,7 @@ HasRunWhole (B c) k = Unit {0}
 HasRunWhole (S c) k = Unit {0}
 HasRunWhole (C c) k = Unit {0}
 HasRunWhole (X c) k = Unit {0}
+HasRunWhole (R c) k = Unit {0}
 HasRunWhole G k = Unit {0}
 
 -- Results
@@ -254,22 +256,9 @@ RunsWhole c (attempt.Committed n) k = Unit {0}
 RunsWhole c (attempt.Hit number commit) k = HasAllRecords k c
 RunsWhole c (attempt.Stale start low) k = Unit {0}
 
--- the call's start is below low
-pub record IsStaleAt (b : Booked) (c start low : ℕ) : Type 0 where
-  pub live : Live
-  pub is_live : IsLive b.course c live
-  pub start_is : start ≡ live.start
-  pub low_is : low ≡ b.course.low
-  pub stale : start < low
-
 -- `Ended` if its first run has no statement left
 abbrev pub TellsStep : Booked → ℕ → Stepped → Type 0
 TellsStep b c it = (l : Live) → IsLive b.course c l → it ≡ stepped (not (has_step (work_in b) b.course c l))
-
--- nothing happened, and the call is stale if its view says so
-abbrev pub HasRefused : ℕ → Refused → Booked → Booked → Type 0
-HasRefused c refused.NoMemory old new = IsSame old new
-HasRefused c (refused.Stale start low) old new = IsStaleAt old c start low × IsSame old new
 
 -- a statement was executed, and `Ended` says that none is left
 abbrev pub HasStepped : ℕ → Result Stepped Refused → Booked → Booked → Type 0
@@ -289,6 +278,10 @@ HasTried c (Ok (attempt.Committed n)) old new = Made (C c) old new × (n ≡ len
 HasTried c (Ok (attempt.Hit number commit)) old new = IsHitAt old c (record { number = number; commit = commit }) × IsSame old new
 HasTried c (Ok (attempt.Stale start low)) old new = IsStaleAt old c start low × IsSame old new
 HasTried c (Err e) old new = IsSame old new
+
+-- a read only call was answered, or is stale; any other one has tried to commit
+abbrev pub HasTriedToEnd : ℕ → Booked → Booked → Type 0
+HasTriedToEnd c old new = (Made (R c) old new ⊎ ((start low : ℕ) × IsStaleAt old c start low)) ⊎ (IsNoReader old c × ((a : Attempt) × HasTried c (Ok a) old new))
 
 -- the commit was made, or nothing happened
 abbrev pub HasCommitted : Event → Result ℕ NoMemory → Booked → Booked → Type 0

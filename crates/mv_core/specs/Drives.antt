@@ -29,7 +29,7 @@ pub record HasMade (es : List Event) (old new : Booked) : Type 0 where
 -- the calls were made in turn, with collections between events
 pub record HasTurned (old new : Booked) : Type 0 where
   pub events : List Event
-  pub turns : without_collections events ≡ in_turn (length old.script.calls)
+  pub turns : without_collections events ≡ in_turn (work_in old).read_only (length old.script.calls)
   pub made : HasMade events old new
 
 -- the refusal of an event whose view refuses

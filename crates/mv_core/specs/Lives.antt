@@ -3,6 +3,7 @@ use Rattle.std.specs.Prelude.{ℕ, ◌+◌, min, List, [], ◌∷◌, Option, So
 use Rattle.std.specs.Set.{remove_key}
 use Rattle.std.specs.Ordering.{is_eq, nat_cmp}
 use Rattle.mv_lawful.specs.Lawful.{Live}
+pub use Rattle.mv_lawful.specs.Places.{start_by, start_in}
 
 -- the numbers of the live calls; the first call has this number
 abbrev pub live_from : ℕ → List Live → List ℕ
@@ -15,14 +16,6 @@ live_numbers ls = live_from 0 ls
 -- without a number
 abbrev pub without : ℕ → List ℕ → List ℕ
 without c cs = remove_key (λ d. is_eq (nat_cmp c d)) cs
-
-abbrev pub start_by : Option Live → ℕ
-start_by None = 0
-start_by (Some l) = l.start
-
--- the start of a call
-abbrev pub start_in : List Live → ℕ → ℕ
-start_in ls c = start_by (slice_get ls c)
 
 -- the least start of these calls, or n
 abbrev pub least_start : ℕ → List Live → List ℕ → ℕ

@@ -1,21 +1,24 @@
 //! The history of a run: its events, and their outcome so far.
 
-ghost use Rattle.std.specs.Prelude.{◌≡◌, ◌<◌, ◌≤◌, ◌+◌, ◌++◌, ◌∷◌, ◌^◌, ◌≢◌, ◌↔◌, [], None, Some, length, map, IsTrue, IfOk, IfSome, IfNone, OnOk};
+ghost use Rattle.std.specs.Prelude.{◌≡◌, ◌<◌, ◌≤◌, ◌+◌, ◌++◌, ◌∷◌, ◌^◌, ◌≢◌, ◌↔◌, [], None, Some, length, map, IsTrue, IfOk, IfErr, IfSome, IfNone, OnOk};
 ghost use Rattle.std.specs.Option.{option_copied};
 ghost use Rattle.mv_values.specs.Counts.{first_numbers};
 ghost use Rattle.mv_lawful.specs.Work.{since};
 ghost use Rattle.mv_lawful.specs.Lawful.{Live, Lawful, beginning, course_of, open_call, refusal, is_stale, has_round, oldest, floor, next_low, AllAllowed};
+ghost use Rattle.mv_lawful.specs.Places.{places};
 ghost use Rattle.mv_lawful.specs.Outcomes.{history_line, outcome_of, reply_in};
+ghost use Rattle.mv_view.specs.declared.view.Refused.TheVariants as refused;
 ghost use Rattle.mv_changes.specs.Commits.{changes_in, AreNumbered};
 ghost use Rattle.mv_undo.specs.Owning.{HasWritesOf};
 ghost use Rattle.mv_core.specs.Calls.{IsLive, IsLiveCall, due_number};
-ghost use Rattle.mv_core.specs.Books.{work_in, IsSettled, last_run, last_tables, last_changes, Made, IsSame, HasBegun, round_event, IsMissing, commit_event, own_number, IsOwnNumber, HasRoom, UsesOne, KeepsRoom, HasRounds, IsNotStale, IsAlone, Remembers, AreRecordsOf, IsAnswer};
+ghost use Rattle.mv_core.specs.Books.{work_in, IsSettled, last_run, last_tables, last_changes, start_run, IsReader, IsNoReader, Made, IsSame, HasBegun, round_event, IsMissing, commit_event, own_number, IsOwnNumber, HasRoom, UsesOne, KeepsRoom, HasRounds, IsNotStale, IsAlone, Remembers, AreRecordsOf, IsAnswer, HasAnswered};
 ghost use Rattle.mv_journal.specs.declared.event.Event.TheVariants.{S, G};
 ghost use Rattle.mv_journal.specs.declared.outcome.Mark.TheVariants.{Plain, Exclusive};
 
 use crate::copies::append_copies;
+use crate::history::history_of;
 use crate::live::LiveCalls;
-use crate::progress::{Progress, history_of, live_at, replies_of};
+use crate::progress::{Progress, live_at, replies_of};
 use crate::roomy::{Roomy, last_number};
 use crate::shared::SharedScript;
 use mv_changes::changes::Changes;
@@ -28,6 +31,7 @@ use mv_values::calls::Reply;
 use mv_values::list::List;
 use mv_values::memory::NoMemory;
 use mv_values::rows::Database;
+use mv_view::view::Refused;
 use std::alloc::Global;
 use std::marker::Model;
 
@@ -57,6 +61,8 @@ pub struct Book {
     script: SharedScript,
     /// The calls that have committed, in order.
     order: Roomy<u32>,
+    /// The calls that were answered, in order.
+    answered: Roomy<u32>,
     /// The calls that have begun, by number.
     calls: Vec<Progress>,
     live: LiveCalls,
@@ -81,13 +87,13 @@ impl Model for Book {
 
     ghost view = { λ b. record {
       script = b.script;
-      course = record { order = b.order.items; calls = map live_of b.calls.items; low = b.low };
+      course = record { order = b.order.items; calls = map live_of b.calls.items; low = b.low; answered = b.answered.items };
       rounds = map (λ p. p.rounds) b.calls.items;
       journal = b.journal.items;
-      room = min b.order.room (min b.journal.room b.recent.room);
+      room = min b.order.room (min b.answered.room (min b.journal.room b.recent.room));
     } };
 
-    ghost invariant = { λ b. IsBook b.script (record { order = b.order.items; calls = map live_of b.calls.items; low = b.low }) b.calls.items b.journal.items b.live b.recent };
+    ghost invariant = { λ b. IsBook b.script (record { order = b.order.items; calls = map live_of b.calls.items; low = b.low; answered = b.answered.items }) b.calls.items b.journal.items b.live b.recent };
 }
 
 impl Book {
@@ -101,6 +107,7 @@ impl Book {
         Book {
             script,
             order: Roomy::new(alloc),
+            answered: Roomy::new(alloc),
             calls: Vec::new(alloc),
             live: LiveCalls::new(alloc),
             recent: Recent::new(alloc),
@@ -245,6 +252,33 @@ impl Book {
         number
     }
 
+    /// Answers a read only call with this reply, which is that of the call alone on the tables at its start. Returns
+    /// the start. The call is no commit, and adds no changes. Fails with `Stale` exactly if the start is below low, and
+    /// then does nothing. It allocates no memory.
+    pub fn answer_read(&mut self, call: u32, reply: Reply) -> Result<u32, Refused>
+        requires live { IsLiveCall self.old.course call }
+        requires kind { IsReader self.old call }
+        requires reply { (l : Live) → IsLive self.old.course call l → reply ≡ (start_run self.old call l).reply }
+        requires settled { IsSettled self.old call }
+        requires room { 0 < self.old.room }
+        ensures answered { HasAnswered call result self.old self.new }
+        ensures never { IfErr result (λ why. why ≢ refused.NoMemory) }
+        ensures room { UsesOne self.old self.new }
+    {
+        let start = self.start(call);
+        if start < self.low {
+            return Err(Refused::Stale {
+                start,
+                low: self.low,
+            });
+        }
+        self.calls[call as usize].answer(reply);
+        self.live.remove(call);
+        self.answered.put(call);
+        self.journal.put(Event::R(call));
+        Ok(start)
+    }
+
     /// Drops the changes up to the least start of a live call, or up to low if that is greater. Waits until as many calls
     /// have committed as had begun the last time. So it passes no more live calls than have begun since.
     fn trim(&mut self)
@@ -298,6 +332,7 @@ impl Book {
     {
         self.recent.reserve(1)?;
         self.order.reserve(1)?;
+        self.answered.reserve(1)?;
         self.journal.reserve(1)
     }
 
@@ -310,12 +345,13 @@ impl Book {
     {
         self.recent.reserve(2)?;
         self.order.reserve(2)?;
+        self.answered.reserve(2)?;
         self.journal.reserve(2)?;
         self.calls[call as usize].reserve()
     }
 
-    /// Returns the rounds of a live call. Returns `None` for a call that hasn't begun or has committed. The last round
-    /// has the call's start, and may not have its number yet.
+    /// Returns the rounds of a live call. Returns `None` for a call that hasn't begun or is done. The last round has
+    /// the call's start, and may not have its number yet.
     pub fn rounds(&self, call: u32) -> Option<&[Round]>
         ensures live { IfSome result (λ rounds. HasRounds self.now call rounds.now) }
         ensures none { IfNone result (IsLiveCall self.now.course call → ⊥) }
@@ -408,11 +444,12 @@ impl Book {
         Ok(commits)
     }
 
-    /// Validates a live call against the commits after its start. Its task must have executed all its statements at
-    /// that start. Returns `Free` exactly if the law of journals allows its commit. It allocates no memory. It tries each
-    /// predicate of the records on each change of the predicate's table.
+    /// Validates a live call that isn't read only against the commits after its start. Its task must have executed all
+    /// its statements at that start. Returns `Free` exactly if the law of journals allows its commit. It allocates no
+    /// memory. It tries each predicate of the records on each change of the predicate's table.
     pub fn check(&self, call: u32, task: &Task) -> Check
         requires live { IsLiveCall self.now.course call }
+        requires kind { IsNoReader self.now call }
         requires records { AreRecordsOf self.now call task.now.log.records }
         requires writes { HasWritesOf task.now.undo task.now.log.records }
         ensures { (l : Live) → IsLive self.now.course call l → IsAnswer result (work_in self.now) self.now.course call l }
@@ -433,12 +470,17 @@ impl Book {
         }
     }
 
-    /// Returns the commits, in order, with the rounds of their calls, and a copy of the events.
+    /// Returns the calls in the order of the history, with their rounds, and a copy of the events.
     fn copies(&self, alloc: Global) -> Result<(List<HistoryLine>, List<Event>), NoMemory>
-        ensures history { IfOk result (λ copies. copies.0 ≡ map (history_line (work_in self.now) self.now.course) self.now.course.order) }
+        ensures history { IfOk result (λ copies. copies.0 ≡ map (history_line (work_in self.now) self.now.course) (places self.now.course)) }
         ensures events { IfOk result (λ copies. copies.1 ≡ self.now.journal) }
     {
-        let history = history_of(alloc, self.calls.as_slice(), self.order.as_slice())?;
+        let history = history_of(
+            alloc,
+            self.calls.as_slice(),
+            self.order.as_slice(),
+            self.answered.as_slice(),
+        )?;
         let mut events = List::new(alloc);
         events.append(self.journal.as_slice())?;
         Ok((history, events))
@@ -447,13 +489,13 @@ impl Book {
     /// Returns the replies, by call.
     fn replies(self, alloc: Global) -> Result<List<Reply>, NoMemory>
         requires { open_call (work_in self) self.course ≡ None }
-        ensures { IfOk result (λ replies. replies ≡ map (reply_in (work_in self) self.course.order) (first_numbers (work_in self).count)) }
+        ensures { IfOk result (λ replies. replies ≡ map (reply_in (work_in self) self.course) (first_numbers (work_in self).count)) }
     {
         replies_of(alloc, self.calls)
     }
 
-    /// Turns the history into the outcome of the run: the replies by call, the commits with their rounds, the events,
-    /// and these tables, which are those after all commits. Its journal is lawful.
+    /// Turns the history into the outcome of the run: the replies by call, the calls in their order with their rounds,
+    /// the events, and these tables, which are those after all commits. Its journal is lawful.
     pub fn outcome(self, alloc: Global, tables: Database) -> Result<Outcome, NoMemory>
         requires ended { open_call (work_in self) self.course ≡ None }
         requires tables { tables ≡ last_tables self }

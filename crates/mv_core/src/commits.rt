@@ -9,7 +9,7 @@ ghost use Rattle.mv_store.specs.Changes.{HasRaised};
 ghost use Rattle.mv_store.specs.Stored.{IsLike};
 ghost use Rattle.mv_core.specs.declared.book.Check.TheVariants.{Free as IsFree, Hit as IsHit};
 ghost use Rattle.mv_core.specs.Calls.{IsLive, IsLiveCall};
-ghost use Rattle.mv_core.specs.Books.{work_in, last_tables, last_run, last_changes, commit_event, own_number, Made, IsSame, IsSettled, IsMissing, IsNotStale, IsAlone, IsOwnNumber, AreRecordsOf, AreLastOf, IsAnswer};
+ghost use Rattle.mv_core.specs.Books.{work_in, last_tables, last_run, last_changes, commit_event, own_number, Made, IsSame, IsSettled, IsMissing, IsNotStale, IsAlone, IsNoReader, IsOwnNumber, AreRecordsOf, AreLastOf, IsAnswer};
 ghost use Rattle.mv_core.specs.Cores.{RunsOn, IsStoreOf, IsTaskIn, IsRunningIn, IsRepaired, IsPrepared, HasCommitted, HasMovedAndCommitted, HasCollected};
 
 use crate::book::{Book, Check};
@@ -25,8 +25,8 @@ use mv_store::view::StoreView;
 use mv_values::memory::NoMemory;
 use std::alloc::Global;
 
-/// Validates a live call over the tables of the store. First it runs the rest of the call at its start, unless that is
-/// below low. Fails with `NoMemory` if memory runs out.
+/// Validates a live call that isn't read only over the tables of the store. First it runs the rest of the call at its
+/// start, unless that is below low. Fails with `NoMemory` if memory runs out.
 pub(crate) fn check_task(
     alloc: Global,
     book: &Book,
@@ -36,6 +36,7 @@ pub(crate) fn check_task(
 ) -> Result<Check, NoMemory>
     requires stored { IsStoreOf book.now store.now }
     requires call { IsRunningIn book.now call running.old }
+    requires kind { IsNoReader book.now call }
     ensures answer { IfOk result (λ check. (l : Live) → IsLive book.now.course call l → IsAnswer check (work_in book.now) book.now.course call l) }
     ensures records { IfOk result (λ check. check ≡ IsFree → AreRecordsOf book.now call running.new.task.log.records) }
     ensures hit { IfOk result (λ check. (number commit : ℕ) → check ≡ IsHit number commit → AreRecordsOf book.now call running.new.task.log.records) }
@@ -228,6 +229,7 @@ pub fn move_and_commit(
 ) -> Result<u32, NoMemory>
     requires stored { IsStoreOf book.old store.old }
     requires live { IsLiveCall book.old.course call }
+    requires kind { IsNoReader book.old call }
     requires number { call < length book.old.script.calls }
     ensures made { HasMovedAndCommitted call result book.old book.new }
     ensures stored { IsStoreOf book.new store.new }
@@ -290,9 +292,9 @@ pub fn collect_versions(book: &mut Book, store: &mut Store) -> Result<(), NoMemo
     Ok(())
 }
 
-/// Turns a history and its tables into the outcome of the run: the replies by call, the commits with their rounds, the
-/// events, and the tables after all commits. Each call must have committed. It copies the events. Fails with `NoMemory` if
-/// memory runs out.
+/// Turns a history and its tables into the outcome of the run: the replies by call, the calls in their order with their
+/// rounds, the events, and the tables after all commits. Each call must have committed or been answered. It copies the
+/// events. Fails with `NoMemory` if memory runs out.
 pub fn outcome_of(alloc: Global, book: Book, store: Store) -> Result<Outcome, NoMemory>
     requires stored { IsStoreOf book store }
     requires ended { open_call (work_in book) book.course ≡ None }

@@ -50,7 +50,7 @@ impl From<Refused> for Refusal {
 pub enum DriveFault {
     /// The event with this number, counted from 1, is refused.
     Refused { n: u32, fault: Fault },
-    /// All events are made, but this call hasn't committed. It is the least such call.
+    /// All events are made, but this call has neither committed nor been answered. It is the least such call.
     Open { call: u32 },
     /// Memory ran out.
     NoMemory,
@@ -76,7 +76,7 @@ pub trait Events {
     fn event(&mut self, alloc: Global, event: &Event, n: u32) -> Result<(), DriveFault>
         ensures { TakesLine event.now n (booked self.old) (booked self.new) result };
 
-    /// Returns the least call that hasn't committed.
+    /// Returns the least call that has neither committed nor been answered.
     fn open_call(&self) -> Option<u32>
         ensures { result ≡ open_call (work_in (booked self.now)) (booked self.now).course };
 }

@@ -9,7 +9,7 @@ ghost use Rattle.mv_changes.specs.Commits.{changes_in, AreNumbered};
 ghost use Rattle.mv_lawful.specs.Work.{since};
 ghost use Rattle.mv_core.specs.Calls.{IsLive, IsLiveCall, last_number, due_number};
 ghost use Rattle.mv_script.specs.Scripts.{IsScript};
-ghost use Rattle.mv_core.specs.Books.{work_in, HasRounds, IsSame, IsNotStale, IsAnswer, AreRecordsOf};
+ghost use Rattle.mv_core.specs.Books.{work_in, HasRounds, IsSame, IsNotStale, IsReader, IsNoReader, IsAnswer, AreRecordsOf, HasAnswered};
 ghost use Rattle.mv_core.specs.Cores.{HasStep, HasEnded, MayStep, IsAllowedIfFresh, HasRefused, HasBegunCall, HasStepped, HasTried, HasRepaired, HasDecided, HasMovedUp, HasCollected, AreFirstOf, AreOfLast, HasAllRecords, KeepsOtherTasks, BeginsTask, RunsOne, RunsWhole, records_in};
 
 use crate::block::Block;
@@ -17,9 +17,12 @@ use crate::book::{Book, Check};
 use crate::commits::{
     check_task, collect_versions, decide_task, move_last, outcome_of, settle_and_commit,
 };
+use crate::running::is_read_only;
 use crate::shared::SharedScript;
 use crate::spare::Spare;
-use crate::tasks::{Running, finish_task, has_step, new_task, rerun_task, step_task, whole_task};
+use crate::tasks::{
+    Running, answer_task, finish_task, has_step, new_task, rerun_task, step_task, whole_task,
+};
 use mv_changes::recent::Committed;
 use mv_exec::step::Stepped;
 use mv_exec::task::Task;
@@ -53,12 +56,12 @@ pub enum Attempt {
 pub struct Core {
     book: Book,
     store: Store,
-    /// The tasks of the calls that have begun, by number. A call that has committed has none.
+    /// The tasks of the calls that have begun, by number. A call that is done has none.
     tasks: Vec<Option<Block<Running>>>,
     spare: Spare,
     /// The task of the latest commit, with its records.
     last: Option<Block<Running>>,
-    /// The block of a call that committed before, for the next call. It has the task of that call until then.
+    /// The block of a call that was done before, for the next call. It has the task of that call until then.
     block: Option<Block<Running>>,
 }
 
@@ -157,11 +160,33 @@ impl Core {
         Ok(stepped_of(running.has_more(self.book.steps(call))))
     }
 
-    /// Tries to commit a live call. First it runs the rest of the call at its start. Returns `Hit` exactly if a commit
-    /// after the start hits a record of the call, and `Stale` exactly if the start is below low. Then nothing is
-    /// committed, as after `NoMemory`, which comes if memory runs out.
+    /// Answers a live read only call at its start: event R. First it runs the rest of the call there. Returns the
+    /// start. Fails with `Stale` exactly if the start is below low, and with `NoMemory` if memory runs out. Then the
+    /// call isn't answered.
+    pub fn answer_read(&mut self, alloc: Global, call: u32) -> Result<u32, Refused>
+        requires live { IsLiveCall self.old.book.course call }
+        requires kind { IsReader self.old.book call }
+        ensures answered { HasAnswered call result self.old.book self.new.book }
+        ensures others { KeepsOtherTasks call self.old self.new }
+    {
+        self.refuse_stale(call)?;
+        let Some(block) = &mut self.tasks[call as usize] else {
+            unreachable!();
+        };
+        let running = block.get_mut();
+        let mut view = StoreView::new(&self.store, self.book.start(call));
+        finish_task(alloc, &self.book, &mut view, call, running)?;
+        let start = answer_task(alloc, &mut self.book, call, &running.task)?;
+        drop_task(&mut self.tasks, call, &mut self.block);
+        Ok(start)
+    }
+
+    /// Tries to commit a live call that isn't read only. First it runs the rest of the call at its start. Returns `Hit`
+    /// exactly if a commit after the start hits a record of the call, and `Stale` exactly if the start is below low.
+    /// Then nothing is committed, as after `NoMemory`, which comes if memory runs out.
     pub fn attempt(&mut self, alloc: Global, call: u32) -> Result<Attempt, NoMemory>
-        requires { IsLiveCall self.old.book.course call }
+        requires live { IsLiveCall self.old.book.course call }
+        requires kind { IsNoReader self.old.book call }
         ensures made { HasTried call result self.old.book self.new.book }
         ensures whole { IfOk result (λ attempt. RunsWhole call attempt self.new) }
         ensures others { KeepsOtherTasks call self.old self.new }
@@ -182,9 +207,11 @@ impl Core {
         }
     }
 
-    /// Validates a live call. First it runs the rest of the call at its start, unless that is below low.
+    /// Validates a live call that isn't read only. First it runs the rest of the call at its start, unless that is
+    /// below low.
     pub(crate) fn validate(&mut self, alloc: Global, call: u32) -> Result<Check, NoMemory>
-        requires { IsLiveCall self.old.book.course call }
+        requires live { IsLiveCall self.old.book.course call }
+        requires kind { IsNoReader self.old.book call }
         ensures answer { IfOk result (λ check. (l : Live) → IsLive self.old.book.course call l → IsAnswer check (work_in self.old.book) self.old.book.course call l) }
         ensures same { IsSame self.old.book self.new.book }
     {
@@ -276,8 +303,8 @@ impl Core {
         self.book.journal()
     }
 
-    /// Returns the rounds of a live call. Returns `None` for a call that hasn't begun or has committed. The last round
-    /// has the call's start. Only a first round may not have its number yet.
+    /// Returns the rounds of a live call. Returns `None` for a call that hasn't begun or is done. The last round has
+    /// the call's start. Only a first round may not have its number yet.
     pub fn rounds(&self, call: u32) -> Option<&[Round]>
         ensures live { IfSome result (λ rounds. HasRounds self.now.book call rounds.now) }
         ensures numbers { IfSome result (λ rounds. last_number rounds.now ≡ None → length rounds.now ≡ 1) }
@@ -395,6 +422,14 @@ impl Core {
         self.book.next_call()
     }
 
+    /// Whether a live call is of a READ ONLY procedure.
+    pub fn is_read_only(&self, call: u32) -> bool
+        requires { IsLiveCall self.now.book.course call }
+        ensures { result ≡ (work_in self.now.book).read_only call }
+    {
+        is_read_only(self.book.script(), call)
+    }
+
     /// Whether this call begins next.
     pub(crate) fn is_next(&self, call: u32) -> bool
         ensures { result ≡ ((call == length self.now.book.course.calls) && nat_lt call (length self.now.book.script.calls)) }
@@ -428,7 +463,8 @@ impl Core {
         self.book.has_round(call)
     }
 
-    /// Returns the least call that hasn't committed. Takes time linear in the number of calls that have begun.
+    /// Returns the least call that has neither committed nor been answered. Takes time linear in the number of calls
+    /// that have begun.
     pub fn open_call(&self) -> Option<u32>
         ensures { result ≡ open_call (work_in self.now.book) self.now.book.course }
     {
@@ -440,8 +476,9 @@ impl Core {
         self.next_call()
     }
 
-    /// Turns the core into the outcome of its run: the replies by call, the commits with their rounds, the events, and
-    /// the tables after all commits. Each call must have committed. Fails with `NoMemory` if memory runs out.
+    /// Turns the core into the outcome of its run: the replies by call, the calls in their order with their rounds, the
+    /// events, and the tables after all commits. Each call must have committed or been answered. Fails with `NoMemory`
+    /// if memory runs out.
     pub fn outcome(self, alloc: Global) -> Result<Outcome, NoMemory>
         requires { open_call (work_in self.book) self.book.course ≡ None }
         ensures outcome { IfOk result (λ outcome. outcome ≡ outcome_of (work_in self.book) self.book.journal) }
@@ -496,4 +533,12 @@ fn end_task(
     ensures last { slice_get tasks.old.items call ≡ Some last.new }
 {
     *kept = mem::replace(last, tasks[call as usize].take());
+}
+
+/// Ends the task of a call that was answered, and keeps its block.
+fn drop_task(tasks: &mut Vec<Option<Block<Running>>>, call: u32, kept: &mut Option<Block<Running>>)
+    requires { call < length tasks.old.items }
+    ensures { tasks.new.items ≡ slice_set tasks.old.items call None }
+{
+    *kept = tasks[call as usize].take();
 }

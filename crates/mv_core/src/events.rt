@@ -1,7 +1,7 @@
 //! The events of a core.
 
 ghost use Rattle.std.specs.Prelude.{OnOk};
-ghost use Rattle.mv_journal.specs.declared.event.Event.TheVariants.{B, S, A, M, C, X, G};
+ghost use Rattle.mv_journal.specs.declared.event.Event.TheVariants.{B, S, A, M, C, X, R, G};
 ghost use Rattle.mv_core.specs.Drives.{HasTaken, TakesLine, TellsRound};
 ghost use Rattle.mv_core.specs.Cores.{HasAllRecords, HasRunWhole};
 
@@ -53,6 +53,9 @@ fn commit_event(core: &mut Core, alloc: Global, call: u32) -> Result<(), Refusal
     if core.rounds(call).is_none() {
         return Err(Refusal::Refused(Fault::Order));
     }
+    if core.is_read_only(call) {
+        return Err(Refusal::Refused(Fault::Kind));
+    }
     match core.attempt(alloc, call)? {
         Attempt::Committed(_) => Ok(()),
         Attempt::Hit { .. } => Err(Refusal::Refused(Fault::Conflict)),
@@ -67,6 +70,9 @@ fn round_left(core: &mut Core, alloc: Global, call: u32) -> Result<bool, Refusal
 {
     if core.rounds(call).is_none() {
         return Err(Refusal::Refused(Fault::Order));
+    }
+    if core.is_read_only(call) {
+        return Err(Refusal::Refused(Fault::Kind));
     }
     match core.validate(alloc, call)? {
         Check::Free => return Err(Refusal::Refused(Fault::Idle)),
@@ -101,6 +107,20 @@ fn decide_event(core: &mut Core, alloc: Global, call: u32) -> Result<(), Refusal
     Ok(())
 }
 
+/// Answers a call, if it is live and read only.
+fn answer_event(core: &mut Core, alloc: Global, call: u32) -> Result<(), Refusal>
+    ensures { HasTaken (R call) core.old.book core.new.book result }
+{
+    if core.rounds(call).is_none() {
+        return Err(Refusal::Refused(Fault::Order));
+    }
+    if !core.is_read_only(call) {
+        return Err(Refusal::Refused(Fault::Kind));
+    }
+    core.answer_read(alloc, call)?;
+    Ok(())
+}
+
 /// Collects old versions.
 fn collect_event(core: &mut Core) -> Result<(), Refusal>
     ensures { HasTaken G core.old.book core.new.book result }
@@ -121,6 +141,7 @@ fn take(core: &mut Core, alloc: Global, event: Event) -> Result<(), Refusal>
         Event::M(call) => move_event(core, alloc, call),
         Event::C(call) => commit_event(core, alloc, call),
         Event::X(call) => decide_event(core, alloc, call),
+        Event::R(call) => answer_event(core, alloc, call),
         Event::G => collect_event(core),
     }
 }

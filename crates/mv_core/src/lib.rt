@@ -9,6 +9,7 @@ pub mod drive;
 pub mod engine;
 mod events;
 pub mod fresh;
+mod history;
 mod live;
 mod progress;
 mod roomy;

@@ -1,10 +1,11 @@
 //! A call that has begun.
 
-ghost use Rattle.std.specs.Prelude.{◌≡◌, ◌<◌, ◌≤◌, ◌+◌, ◌++◌, ◌∷◌, [], None, Some, All, IfOk, IfSome, IfNone, OnOk, length, map, slice_get};
-ghost use Rattle.mv_core.specs.Calls.{live_of, numbered, closed, uncounted, committed, with_own, line_of, replies_in, IsFresh};
+ghost use Rattle.std.specs.Prelude.{◌≡◌, ◌<◌, ◌≤◌, ◌+◌, ◌++◌, ◌∷◌, [], None, Some, IfOk, IfSome, IfNone, OnOk, slice_get};
+ghost use Rattle.mv_lawful.specs.Lawful.{finish};
+ghost use Rattle.mv_core.specs.Calls.{live_of, numbered, closed, uncounted, committed, with_own, replies_in, IsFresh};
 
 use crate::roomy::Roomy;
-use mv_journal::outcome::{HistoryLine, Mark, Round};
+use mv_journal::outcome::{Mark, Round};
 use mv_values::calls::Reply;
 use mv_values::list::List;
 use mv_values::memory::NoMemory;
@@ -18,7 +19,7 @@ pub(crate) struct Progress {
     pub(crate) rounds: Roomy<Round>,
     /// The number of its statements in the journal.
     pub(crate) steps: usize,
-    /// Its reply, after it has committed.
+    /// Its reply, after it has committed or was answered.
     pub(crate) reply: Option<Reply>,
 }
 
@@ -105,8 +106,18 @@ impl Progress {
         self.reply = Some(reply);
     }
 
+    /// Answers the call with this reply.
+    pub(crate) fn answer(&mut self, reply: Reply)
+        ensures live { live_of self.new ≡ finish (live_of self.old) }
+        ensures start { self.new.start ≡ self.old.start }
+        ensures rounds { self.new.rounds ≡ self.old.rounds }
+        ensures reply { self.new.reply ≡ Some reply }
+    {
+        self.reply = Some(reply);
+    }
+
     /// Copies its rounds.
-    fn copy_rounds(&self, alloc: Global) -> Result<List<Round>, NoMemory>
+    pub(crate) fn copy_rounds(&self, alloc: Global) -> Result<List<Round>, NoMemory>
         ensures { IfOk result (λ rounds. rounds ≡ self.now.rounds.items) }
     {
         let mut rounds = List::new(alloc);
@@ -115,27 +126,7 @@ impl Progress {
     }
 }
 
-/// Returns the commits of these calls, in order.
-pub(crate) fn history_of(
-    alloc: Global,
-    calls: &[Progress],
-    order: &[u32],
-) -> Result<List<HistoryLine>, NoMemory>
-    requires { All (λ c. c < length calls.now) order.now }
-    ensures { IfOk result (λ history. history ≡ map (line_of calls.now) order.now) }
-{
-    let mut history = List::new(alloc);
-    for call in order {
-        let rounds = calls[*call as usize].copy_rounds(alloc)?;
-        history.push(HistoryLine {
-            call: *call,
-            rounds,
-        })?;
-    }
-    Ok(history)
-}
-
-/// Returns the replies of the calls that have committed.
+/// Returns the replies of the calls that have committed or were answered.
 pub(crate) fn replies_of(alloc: Global, calls: Vec<Progress>) -> Result<List<Reply>, NoMemory>
     ensures { IfOk result (λ replies. replies ≡ replies_in calls.items) }
 {

@@ -62,6 +62,15 @@ pub(crate) fn find_call(script: &Script, number: u32) -> Called<'_>
     Called { call, graph }
 }
 
+/// Whether a call is of a READ ONLY procedure.
+pub fn is_read_only(script: &Script, number: u32) -> bool
+    requires script { IsScript script.now }
+    requires number { number < length script.now.calls }
+    ensures { result ≡ (work_of script.now).read_only number }
+{
+    find_call(script, number).graph.read_only()
+}
+
 /// Executes the next statement of a call of the script over a view. Fails with `NoMemory` if memory runs out, and with
 /// `Stale` if the view reports it.
 pub fn run_next<V: View>(

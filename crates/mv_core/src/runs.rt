@@ -4,7 +4,9 @@ ghost use Rattle.std.specs.Prelude.{◌≡◌, ◌⊎◌, ◌<◌, ◌^◌, leng
 ghost use Rattle.mv_journal.specs.declared.event.Event.TheVariants.{G};
 ghost use Rattle.mv_lawful.specs.Lawful.{beginning};
 ghost use Rattle.mv_lawful.specs.Outcomes.{IsOutcomeInTurn};
+ghost use Rattle.mv_core.specs.Calls.{IsLiveCall};
 ghost use Rattle.mv_core.specs.Books.{Made, IsSame};
+ghost use Rattle.mv_core.specs.Cores.{HasTriedToEnd};
 ghost use Rattle.mv_script.specs.Scripts.{IsScript, work_of};
 ghost use Rattle.mv_core.specs.Drives.{HasTurned, HasReplayed};
 
@@ -14,9 +16,10 @@ use mv_journal::event::Event;
 use mv_journal::outcome::Outcome;
 use mv_script::script::Script;
 use mv_values::memory::NoMemory;
+use mv_view::view::Refused;
 use std::alloc::Global;
 
-/// The number of commits from one collection to the next.
+/// The number of calls from one collection to the next.
 const PERIOD: u32 = 64;
 
 /// Collects old versions, if this is the last call of a period.
@@ -29,20 +32,35 @@ fn collect_after(core: &mut Core, call: u32) -> Result<(), NoMemory>
     Ok(())
 }
 
-/// Begins and commits the calls of a core without events, one after another, and collects old versions from time to time.
+/// Answers a live call if it is read only, and tries to commit any other.
+fn end_call(alloc: Global, core: &mut Core, call: u32) -> Result<(), NoMemory>
+    requires { IsLiveCall core.old.book.course call }
+    ensures { OnOk result (HasTriedToEnd call core.old.book core.new.book) }
+{
+    if !core.is_read_only(call) {
+        core.attempt(alloc, call)?;
+        return Ok(());
+    }
+    match core.answer_read(alloc, call) {
+        Err(Refused::NoMemory) => Err(NoMemory),
+        Ok(_) | Err(Refused::Stale { .. }) => Ok(()),
+    }
+}
+
+/// Begins and ends the calls of a core without events, one after another, and collects old versions from time to time.
 fn run_calls(alloc: Global, core: &mut Core) -> Result<(), NoMemory>
     requires { core.old.book.course ≡ beginning }
     ensures { OnOk result (HasTurned core.old.book core.new.book) }
 {
     while let Some(call) = core.begin(alloc)? {
-        core.attempt(alloc, call)?;
+        end_call(alloc, core, call)?;
         collect_after(core, call)?;
     }
     Ok(())
 }
 
-/// Runs the calls of a script in order: each begins and commits before the next begins. After each 64 commits it collects
-/// old versions. Fails with `NoMemory` if memory runs out.
+/// Runs the calls of a script in order: each begins and ends before the next begins. After each 64 calls it collects old
+/// versions. Fails with `NoMemory` if memory runs out.
 pub fn run_in_turn(alloc: Global, script: Script) -> Result<Outcome, NoMemory>
     requires { IsScript script }
     ensures { IfOk result (IsOutcomeInTurn (work_of script) (length script.calls)) }

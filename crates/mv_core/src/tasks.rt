@@ -15,7 +15,7 @@ ghost use Rattle.mv_lawful.specs.Lawful.{Live, has_step, refusal};
 ghost use Rattle.mv_core.specs.declared.book.Check.TheVariants.{Free as IsFree, Hit as IsHit};
 ghost use Rattle.mv_script.specs.Scripts.{IsScript, work_of};
 ghost use Rattle.mv_core.specs.Calls.{IsLive, IsLiveCall, due_number};
-ghost use Rattle.mv_core.specs.Books.{work_in, last_tables, last_run, last_changes, Made, IsSame, IsSettled, IsMissing, IsNotStale, IsAlone, AreRecordsOf, AreLastOf, IsAnswer};
+ghost use Rattle.mv_core.specs.Books.{work_in, last_tables, last_run, last_changes, Made, IsSame, IsSettled, IsMissing, IsNotStale, IsAlone, IsReader, IsNoReader, AreRecordsOf, AreLastOf, IsAnswer, HasAnswered};
 ghost use Rattle.mv_core.specs.Cores.{RunsOn, IsDatabaseIn, IsTaskIn, IsRunningIn, HasRunOn, HasRunOne, IsLiveTask, IsRepaired, HasStep, ShowsStart, ShowsLast, count_or};
 
 use crate::book::{Book, Check};
@@ -157,9 +157,9 @@ pub fn finish_task<V: View>(
     run_all(alloc, book.script(), call, &mut running.task, view)
 }
 
-/// Validates a live call. First it runs the rest of the call at its start, unless that is below low. The view shows the
-/// tables there, or need not if the start is below low. Fails with `NoMemory` if memory runs out, and with `Stale` if the
-/// view reports it, but only if the start isn't below low.
+/// Validates a live call that isn't read only. First it runs the rest of the call at its start, unless that is below
+/// low. The view shows the tables there, or need not if the start is below low. Fails with `NoMemory` if memory runs
+/// out, and with `Stale` if the view reports it, but only if the start isn't below low.
 pub fn validate_task<V: View>(
     alloc: Global,
     book: &Book,
@@ -168,6 +168,7 @@ pub fn validate_task<V: View>(
     running: &mut Running,
 ) -> Result<Check, Refused>
     requires call { IsRunningIn book.now call running.old }
+    requires kind { IsNoReader book.now call }
     requires shows { IsNotStale book.now call → ShowsStart book.now call (V.sight view.old) }
     ensures answer { IfOk result (λ check. (l : Live) → IsLive book.now.course call l → IsAnswer check (work_in book.now) book.now.course call l) }
     ensures records { IfOk result (λ check. check ≡ IsFree → AreRecordsOf book.now call running.new.task.log.records) }
@@ -295,6 +296,23 @@ pub fn move_task<V: View>(
     book.restart(call, Mark::Moved);
     book.settle(call, &task);
     Ok(task)
+}
+
+/// Event R of a live read only call that has run whole at its start. Returns the start. Fails with `Stale` exactly if
+/// the start is below low, and with `NoMemory` if memory runs out. Then the call isn't answered.
+pub fn answer_task(alloc: Global, book: &mut Book, call: u32, task: &Task) -> Result<u32, Refused>
+    requires script { IsScript book.old.script }
+    requires live { IsLiveCall book.old.course call }
+    requires number { call < length book.old.script.calls }
+    requires kind { IsReader book.old call }
+    requires missing { IsMissing task.now.executed book.old call }
+    requires whole { AreRecordsOf book.old call task.now.log.records }
+    ensures { HasAnswered call result book.old book.new }
+{
+    let reply = reply_of(alloc, &task.records())?;
+    book.reserve(call)?;
+    book.settle(call, task);
+    book.answer_read(call, reply)
 }
 
 /// Returns the changes that a call with these records makes to the tables after all commits, which the view shows. Fails

@@ -17,10 +17,10 @@ use Rattle.mv_why.specs.Causes.{changes_since}
 use Rattle.mv_why.specs.Laws.{AreFullRuns}
 use Rattle.mv_why.specs.Text.{repair_text}
 use Rattle.mv_journal.specs.declared.event.Event.{Event}
-use Rattle.mv_journal.specs.declared.event.Event.TheVariants.{B, S, A, M, C, X, G}
+use Rattle.mv_journal.specs.declared.event.Event.TheVariants.{B, S, A, M, C, X, R, G}
 use Rattle.mv_journal.specs.declared.outcome.Mark.TheVariants.{Plain, Exclusive}
 use Rattle.mv_lawful.specs.declared.fault.Fault.{Fault}
-use Rattle.mv_lawful.specs.declared.fault.Fault.TheVariants.{Stale, Idle, Rounds}
+use Rattle.mv_lawful.specs.declared.fault.Fault.TheVariants.{Kind, Stale, Idle, Rounds}
 use Rattle.mv_lawful.specs.Work.{Work, table_at, records_at, since}
 use Rattle.mv_lawful.specs.Lawful.{Live, Course, is_stale, is_hit, has_round, unless, refusal, again}
 use Rattle.mv_script.specs.declared.script.Script.{Script}
@@ -72,6 +72,11 @@ past_stale b c start low at l live =
 
 -- The new records
 
+-- it isn't read only
+writes : (b : Bool) (o : Option Fault) → unless b Kind o ≡ None → o ≡ None
+writes true o e = e
+writes false o e = absurd (search (rules, e))
+
 not_stale : (stale : Bool) (o : Option Fault) → unless (not stale) Stale o ≡ None → stale ≡ false
 not_stale false o e = refl
 not_stale true o e = absurd (search (rules, e))
@@ -79,15 +84,18 @@ not_stale true o e = absurd (search (rules, e))
 -- a call that may be repaired is live, and isn't stale
 pub may_repair : (w : Work) (s : Course) (e : Event) (c : ℕ) → IsRepair e c → refusal w s e ≡ None → (l : Live) × IsLive s c l × (is_stale s l ≡ false)
 may_repair w s (A d) c is free =
-    let at = live_at s d (λ l. unless (not (is_stale s l)) Stale (unless (is_hit w s d l) Idle (unless (has_round w l) Rounds None))) free in
-    subst (λ n. (l : Live) × IsLive s n l × (is_stale s l ≡ false)) is (at.0, at.1, not_stale (is_stale s at.0) (unless (is_hit w s d at.0) Idle (unless (has_round w at.0) Rounds None)) at.2)
+    let at = live_at s d (λ l. unless (not (w.read_only d)) Kind (unless (not (is_stale s l)) Stale (unless (is_hit w s d l) Idle (unless (has_round w l) Rounds None)))) free in
+    subst (λ n. (l : Live) × IsLive s n l × (is_stale s l ≡ false)) is
+    (at.0, at.1, not_stale (is_stale s at.0) (unless (is_hit w s d at.0) Idle (unless (has_round w at.0) Rounds None)) (writes (not (w.read_only d)) _ at.2))
 may_repair w s (X d) c is free =
-    let at = live_at s d (λ l. unless (not (is_stale s l)) Stale (unless (is_hit w s d l) Idle (unless (not (has_round w l)) Rounds None))) free in
-    subst (λ n. (l : Live) × IsLive s n l × (is_stale s l ≡ false)) is (at.0, at.1, not_stale (is_stale s at.0) (unless (is_hit w s d at.0) Idle (unless (not (has_round w at.0)) Rounds None)) at.2)
+    let at = live_at s d (λ l. unless (not (w.read_only d)) Kind (unless (not (is_stale s l)) Stale (unless (is_hit w s d l) Idle (unless (not (has_round w l)) Rounds None)))) free in
+    subst (λ n. (l : Live) × IsLive s n l × (is_stale s l ≡ false)) is
+    (at.0, at.1, not_stale (is_stale s at.0) (unless (is_hit w s d at.0) Idle (unless (not (has_round w at.0)) Rounds None)) (writes (not (w.read_only d)) _ at.2))
 may_repair w s (B d) c is free = absurd is
 may_repair w s (S d) c is free = absurd is
 may_repair w s (M d) c is free = absurd is
 may_repair w s (C d) c is free = absurd is
+may_repair w s (R d) c is free = absurd is
 may_repair w s G c is free = absurd is
 
 apart : Plain ≢ Exclusive
@@ -132,6 +140,7 @@ is_again (B d) c is other = absurd is
 is_again (S d) c is other = absurd is
 is_again (M d) c is other = absurd is
 is_again (C d) c is other = absurd is
+is_again (R d) c is other = absurd is
 is_again G c is other = absurd is
 
 -- The lines
@@ -167,4 +176,5 @@ repair_lines tables (B d) b c n rs fresh commits is before at new = absurd is
 repair_lines tables (S d) b c n rs fresh commits is before at new = absurd is
 repair_lines tables (M d) b c n rs fresh commits is before at new = absurd is
 repair_lines tables (C d) b c n rs fresh commits is before at new = absurd is
+repair_lines tables (R d) b c n rs fresh commits is before at new = absurd is
 repair_lines tables G b c n rs fresh commits is before at new = absurd is

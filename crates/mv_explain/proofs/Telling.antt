@@ -7,7 +7,7 @@ use Rattle.std.proofs.lemmas.List.{drop_more, drop_all}
 use Rattle.mv_values.specs.declared.schema.TableInfo.{TableInfo}
 use Rattle.mv_values.specs.Texts.{line}
 use Rattle.mv_journal.specs.declared.event.Event.{Event}
-use Rattle.mv_journal.specs.declared.event.Event.TheVariants.{B, S, A, M, C, X, G}
+use Rattle.mv_journal.specs.declared.event.Event.TheVariants.{B, S, A, M, C, X, R, G}
 use Rattle.mv_lawful.specs.declared.fault.Wrong.TheVariants as wrong
 use Rattle.mv_lawful.specs.Work.{Work}
 use Rattle.mv_lawful.specs.Lawful.{Course, beginning, after, is_stale, open_call, wrong_from, wrong_with}
@@ -45,6 +45,7 @@ no_lines tables w s (B c) q = refl
 no_lines tables w s (S c) q = refl
 no_lines tables w s (M c) q = refl
 no_lines tables w s (C c) q = refl
+no_lines tables w s (R c) q = refl
 no_lines tables w s G q = refl
 
 pub quiet_told : (tables : List TableInfo) (e : Event) (n : ℕ) (old new : Booked) (text : List ℕ) (r : Result (Unit {0}) DriveFault) → IsQuiet e → TakesLine e n old new r → TellsEvent tables e n old new text text r

@@ -6,7 +6,7 @@ use Rattle.mv_record.specs.declared.record.Record.{Record}
 use Rattle.mv_changes.specs.declared.recent.Committed.{Committed}
 use Rattle.mv_changes.specs.Commits.{changes_in, AreNumbered}
 use Rattle.mv_journal.specs.declared.event.Event.{Event}
-use Rattle.mv_journal.specs.declared.event.Event.TheVariants.{B, S, A, M, C, X, G}
+use Rattle.mv_journal.specs.declared.event.Event.TheVariants.{B, S, A, M, C, X, R, G}
 use Rattle.mv_lawful.specs.Work.{Work, records_at, since}
 use Rattle.mv_lawful.specs.declared.fault.Wrong.TheVariants as wrong
 use Rattle.mv_lawful.specs.Lawful.{Live, refusal, wrong_from, open_call, is_stale, Lawful}
@@ -25,6 +25,7 @@ IsRepair (B d) c = ⊥
 IsRepair (S d) c = ⊥
 IsRepair (M d) c = ⊥
 IsRepair (C d) c = ⊥
+IsRepair (R d) c = ⊥
 IsRepair G c = ⊥
 
 -- the records of a full run of a live call at its start, and the commits after that

@@ -5,7 +5,7 @@ use Rattle.mv_values.specs.Texts.{line}
 use Rattle.mv_history.specs.declared.change.Change.{Change}
 use Rattle.mv_changes.specs.declared.recent.Committed.{Committed}
 use Rattle.mv_journal.specs.declared.event.Event.{Event}
-use Rattle.mv_journal.specs.declared.event.Event.TheVariants.{B, S, A, M, C, X, G}
+use Rattle.mv_journal.specs.declared.event.Event.TheVariants.{B, S, A, M, C, X, R, G}
 use Rattle.mv_lawful.specs.Work.{Work, records_at, since}
 use Rattle.mv_lawful.specs.Lawful.{Live, Course, beginning, after}
 use Rattle.mv_why.specs.Text.{repair_text}
@@ -29,6 +29,7 @@ event_lines tables w s (B c) = []
 event_lines tables w s (S c) = []
 event_lines tables w s (M c) = []
 event_lines tables w s (C c) = []
+event_lines tables w s (R c) = []
 event_lines tables w s G = []
 
 -- the lines of events, one after another

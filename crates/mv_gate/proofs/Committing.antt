@@ -1,6 +1,6 @@
 -- A commit in the history, after the shards have it.
 use Rattle.std.proofs.Common.{Bool, true, false, not, ◌≡◌, ◌≤◌, ◌<◌, ℕ, List, Some, None, length, refl, sym, ap, subst, ◌∙◌, arith, rules}
-use Rattle.std.proofs.lemmas.Bool.{le-ltb}
+use Rattle.std.proofs.lemmas.Bool.{le-ltb, lt-ltb}
 use Rattle.mv_values.specs.Tables.{Tables}
 use Rattle.mv_record.specs.declared.record.Record.{Record}
 use Rattle.mv_record.specs.Runs.{Run}
@@ -10,6 +10,8 @@ use Rattle.mv_changes.specs.declared.recent.Committed.{Committed}
 use Rattle.mv_changes.specs.Commits.{changes_in}
 use Rattle.mv_repair.specs.Repairing.{changes_since}
 use Rattle.mv_exec.specs.declared.task.Task.{Task}
+use Rattle.mv_view.specs.declared.view.Refused.{Refused}
+use Rattle.mv_view.specs.declared.view.Refused.TheVariants as refused
 use Rattle.mv_journal.specs.declared.event.Event.TheVariants.{A, M, C, X}
 use Rattle.mv_journal.specs.declared.outcome.Mark.TheVariants.{Plain, Exclusive, Moved}
 use Rattle.mv_lawful.specs.Work.{table_at, records_at, hit_of, since}
@@ -24,12 +26,12 @@ use Rattle.mv_shards.specs.Scripts.{script_in, work}
 use Rattle.mv_shards.specs.Histories.{tables_at}
 use Rattle.mv_shards.specs.Ledgers.{Entered}
 use Rattle.mv_core.specs.Calls.{IsLive, IsLiveCall, due_number}
-use Rattle.mv_core.specs.Books.{Booked, work_in, last_tables, last_run, last_changes, Made, IsSame, IsNotStale, AreRecordsOf, IsOwnNumber}
+use Rattle.mv_core.specs.Books.{Booked, work_in, last_tables, last_run, last_changes, start_run, Made, IsSame, IsNotStale, IsNoReader, AreRecordsOf, IsOwnNumber, IsStaleAt, HasRefused}
 use Rattle.mv_core.specs.Cores.{RunsOn, HasTurns}
 use Rattle.mv_core.proofs.Stored.{unhit_records, commit_free}
 use Rattle.mv_core.proofs.Taking.{one_live}
 use Rattle.mv_core.proofs.Turning.{none_hit}
-use Rattle.mv_core.proofs.Refusing.{may_commit, live_is, refused_stale}
+use Rattle.mv_core.proofs.Refusing.{may_commit, live_is, refused_stale, if_writes, commit_writes, repair_writes}
 use Rattle.mv_core.proofs.Changed.{live_restarted, due_decided, due_made, due_restarted}
 use Rattle.mv_core.proofs.Moving.{live_moved, due_moved}
 use Rattle.mv_gate.specs.Gates.{IsWhole, IsLatest, HasRepaired, MayMove}
@@ -105,7 +107,8 @@ again_free b new c below live made =
     let next : Live = again (length b.course.order) Plain live.0 in
     let here : IsLive new.course c next = live_restarted Plain c b new live.0 apart live.1 made in
     let last = again_last b new c live made next here in
-    may_commit (work_in new) new.course c next here (le-ltb next.start new.course.low (omega (arith, last, below))) (ap (λ n. hit_of (work_in new) new.course.order n c) last ∙ none_hit (work_in new) new.course.order c)
+    let writes : (work_in b).read_only c ≡ false = repair_writes b c live.0 None live.1 made.allowed (λ e. search (rules, e)) in
+    may_commit (work_in new) new.course c next (ap (λ (s : Script). (work_of s).read_only c) made.script ∙ writes) here (le-ltb next.start new.course.low (omega (arith, last, below))) (ap (λ n. hit_of (work_in new) new.course.order n c) last ∙ none_hit (work_in new) new.course.order c)
 
 pub again_whole : (b new : Booked) (c : ℕ) (t : Task) → IsLiveCall b.course c → c < length b.script.calls → ((l : Live) → IsLive b.course c l → HasTurns (length b.course.order) l) → Made (A c) b new → IsLatest b c t → HasRepaired b c t → IsWhole new c t
 again_whole b new c t live there turns made latest repaired =
@@ -127,16 +130,49 @@ again_whole b new c t live there turns made latest repaired =
     }
 
 -- after a move no commit hits the call
-pub moved_free : (b new : Booked) (c : ℕ) → b.course.low ≤ length b.course.order → IsLiveCall b.course c → Made (M c) b new → refusal (work_in new) new.course (C c) ≡ None
-moved_free b new c below live made =
+pub moved_free : (b new : Booked) (c : ℕ) → IsNoReader b c → b.course.low ≤ length b.course.order → IsLiveCall b.course c → Made (M c) b new → refusal (work_in new) new.course (C c) ≡ None
+moved_free b new c writes below live made =
     let n : ℕ = length b.course.order in
     let order : n ≡ length new.course.order = sym (ap (λ (s : Course). length s.order) made.course) in
-    may_commit (work_in new) new.course c (again n Moved live.0) (live_moved c b new live.0 live.1 made) (le-ltb n new.course.low (let low = ap (λ (s : Course). s.low) made.course in omega (arith, low, below)))
+    may_commit (work_in new) new.course c (again n Moved live.0) (ap (λ (s : Script). (work_of s).read_only c) made.script ∙ writes) (live_moved c b new live.0 live.1 made) (le-ltb n new.course.low (let low = ap (λ (s : Course). s.low) made.course in omega (arith, low, below)))
     (ap (λ m. hit_of (work_in new) new.course.order m c) order ∙ none_hit (work_in new) new.course.order c)
 
--- and the number of its round is that of a whole run
+-- the number of its round is that of a whole run
 pub moved_number : (b new : Booked) (c : ℕ) (t : Task) → IsLiveCall b.course c → Made (M c) b new → IsLatest b c t → t.executed ≡ length t.log.records → due_number (work_in new) new.course c ≡ Some t.executed
 moved_number b new c t live made latest all = due_made Moved b new c t.executed made (due_moved b c live.0 live.1 ∙ ap Some (sym (all ∙ ap length latest.records)))
+
+-- it starts after all commits
+pub moved_last : (b new : Booked) (c : ℕ) → IsLiveCall b.course c → Made (M c) b new → (m : Live) → IsLive new.course c m → m.start ≡ length new.course.order
+moved_last b new c live made m at =
+    let next : Live = again (length b.course.order) Moved live.0 in
+    let order : new.course.order ≡ b.course.order = ap (λ (s : Course). s.order) made.course in
+    sym (ap (λ (x : Live). x.start) (one_live new.course c next m (live_moved c b new live.0 live.1 made) at)) ∙ ap length (sym order)
+
+-- so it isn't stale, and its reply is that of a run after all commits
+pub moved_fresh : (b new : Booked) (c : ℕ) → b.course.low ≤ length b.course.order → IsLiveCall b.course c → Made (M c) b new → IsNotStale new c
+moved_fresh b new c below live made m at =
+    let last = moved_last b new c live made m at in
+    let order : length new.course.order ≡ length b.course.order = ap (λ (s : Course). length s.order) made.course in
+    let low : new.course.low ≡ b.course.low = ap (λ (s : Course). s.low) made.course in
+    le-ltb m.start new.course.low (omega (arith, last, order, low, below))
+
+pub moved_reply : (b new : Booked) (c : ℕ) → IsLiveCall b.course c → Made (M c) b new → (m : Live) → IsLive new.course c m → (last_run new c).reply ≡ (start_run new c m).reply
+moved_reply b new c live made m at = ap (λ n. ((work_in new).run c (table_at (work_in new) new.course.order n)).reply) (sym (moved_last b new c live made m at))
+
+-- An answer
+
+-- a call that isn't stale isn't refused as one
+not_refused : (b : Booked) (c start low : ℕ) → IsNotStale b c → IsStaleAt b c start low → ⊥
+not_refused b c start low fresh h =
+    let at = h.start_is in
+    let is = h.low_is in
+    let less = h.stale in
+    let both : true ≡ false = sym (lt-ltb h.live.start b.course.low (omega (arith, at, is, less))) ∙ fresh h.live h.is_live in
+    search (rules, both)
+
+pub must_answer : (c : ℕ) (why : Refused) (old new : Booked) → (why ≡ refused.NoMemory → ⊥) → IsNotStale old c → HasRefused c why old new → ⊥
+must_answer c refused.NoMemory old new never fresh h = never refl
+must_answer c (refused.Stale start low) old new never fresh h = not_refused old c start low fresh h.0
 
 -- A task after all commits
 
@@ -173,19 +209,22 @@ last_kept s old new c rs are seen commits = are ∙ (ap (λ (xs : List ℕ). rec
 
 -- What the law of journals tells of a call that has run whole
 
+hit_writes : (b : Booked) (c : ℕ) (l : Live) → IsLive b.course c l → refusal (work_in b) b.course (C c) ≡ Some Conflict → (work_in b).read_only c ≡ false
+hit_writes b c l live hit = commit_writes b c l (Some Conflict) live hit (λ e. search (rules, e))
+
 pub hit_fresh : (b : Booked) (c : ℕ) → refusal (work_in b) b.course (C c) ≡ Some Conflict → IsNotStale b c
 hit_fresh b c hit l live = by (is_stale b.course l) refl where
   by : (r : Bool) → is_stale b.course l ≡ r → is_stale b.course l ≡ false
   by false is = is
   by true is =
       let law : refusal (work_in b) b.course (C c) ≡ unless (not true) Stale (unless (not (is_hit (work_in b) b.course c l)) Conflict None) =
-      live_is b.course c (λ x. unless (not (is_stale b.course x)) Stale (unless (not (is_hit (work_in b) b.course c x)) Conflict None)) l live
+      if_writes (work_in b) b.course c (λ x. unless (not (is_stale b.course x)) Stale (unless (not (is_hit (work_in b) b.course c x)) Conflict None)) l (hit_writes b c l live hit) live
       ∙ ap (λ r. unless (not r) Stale (unless (not (is_hit (work_in b) b.course c l)) Conflict None)) is in
       let both : Some Stale ≡ Some Conflict = sym law ∙ hit in
       absurd (search (rules, both))
 
 hit_is : (b : Booked) (c : ℕ) (l : Live) → IsLive b.course c l → refusal (work_in b) b.course (C c) ≡ Some Conflict → is_hit (work_in b) b.course c l ≡ true
-hit_is b c l live hit = by (is_stale b.course l) (is_hit (work_in b) b.course c l) refl (sym (live_is b.course c (λ x. unless (not (is_stale b.course x)) Stale (unless (not (is_hit (work_in b) b.course c x)) Conflict None)) l live) ∙ hit) where
+hit_is b c l live hit = by (is_stale b.course l) (is_hit (work_in b) b.course c l) refl (sym (if_writes (work_in b) b.course c (λ x. unless (not (is_stale b.course x)) Stale (unless (not (is_hit (work_in b) b.course c x)) Conflict None)) l (hit_writes b c l live hit) live) ∙ hit) where
   by : (s h : Bool) → is_hit (work_in b) b.course c l ≡ h → unless (not s) Stale (unless (not h) Conflict None) ≡ Some Conflict → is_hit (work_in b) b.course c l ≡ true
   by s true is e = is
   by false false is e = absurd (search (rules, e))
@@ -193,13 +232,13 @@ hit_is b c l live hit = by (is_stale b.course l) (is_hit (work_in b) b.course c 
 
 pub may_repair : (b : Booked) (c : ℕ) (l : Live) → IsLive b.course c l → refusal (work_in b) b.course (C c) ≡ Some Conflict → has_round (work_in b) l ≡ true → refusal (work_in b) b.course (A c) ≡ None
 may_repair b c l live hit left =
-    live_is b.course c (λ x. unless (not (is_stale b.course x)) Stale (unless (is_hit (work_in b) b.course c x) Idle (unless (has_round (work_in b) x) Rounds None))) l live
+    if_writes (work_in b) b.course c (λ x. unless (not (is_stale b.course x)) Stale (unless (is_hit (work_in b) b.course c x) Idle (unless (has_round (work_in b) x) Rounds None))) l (hit_writes b c l live hit) live
     ∙ (ap (λ r. unless (not r) Stale (unless (is_hit (work_in b) b.course c l) Idle (unless (has_round (work_in b) l) Rounds None))) (hit_fresh b c hit l live)
     ∙ (ap (λ r. unless r Idle (unless (has_round (work_in b) l) Rounds None)) (hit_is b c l live hit) ∙ ap (λ r. unless r Rounds None) left))
 
 pub may_decide : (b : Booked) (c : ℕ) (l : Live) → IsLive b.course c l → refusal (work_in b) b.course (C c) ≡ Some Conflict → has_round (work_in b) l ≡ false → refusal (work_in b) b.course (X c) ≡ None
 may_decide b c l live hit none =
-    live_is b.course c (λ x. unless (not (is_stale b.course x)) Stale (unless (is_hit (work_in b) b.course c x) Idle (unless (not (has_round (work_in b) x)) Rounds None))) l live
+    if_writes (work_in b) b.course c (λ x. unless (not (is_stale b.course x)) Stale (unless (is_hit (work_in b) b.course c x) Idle (unless (not (has_round (work_in b) x)) Rounds None))) l (hit_writes b c l live hit) live
     ∙ (ap (λ r. unless (not r) Stale (unless (is_hit (work_in b) b.course c l) Idle (unless (not (has_round (work_in b) l)) Rounds None))) (hit_fresh b c hit l live)
     ∙ (ap (λ r. unless r Idle (unless (not (has_round (work_in b) l)) Rounds None)) (hit_is b c l live hit) ∙ ap (λ r. unless (not r) Rounds None) none))
 
@@ -209,13 +248,13 @@ pub stale_moves : (b : Booked) (c : ℕ) → AllAllowed (work_in b) beginning b.
 stale_moves b c allowed reaches live there stale = record {
   live = live;
   there = there;
-  past = λ l at. stale_past b c l allowed reaches at (refused_stale (work_in b) b.course c l at (stale l at));
+  past = λ l at. stale_past b c l allowed reaches at (refused_stale (work_in b) b.course c l (commit_writes b c l (Some Stale) at (stale l at) (λ e. search (rules, e))) at (stale l at));
 }
 
 -- a call that isn't stale isn't told so
 pub not_stale : (b : Booked) (c : ℕ) → IsNotStale b c → IsLiveCall b.course c → refusal (work_in b) b.course (C c) ≡ Some Stale → ⊥
 not_stale b c fresh live stale =
-    let both : true ≡ false = sym (refused_stale (work_in b) b.course c live.0 live.1 stale) ∙ fresh live.0 live.1 in
+    let both : true ≡ false = sym (refused_stale (work_in b) b.course c live.0 (commit_writes b c live.0 (Some Stale) live.1 stale (λ e. search (rules, e))) live.1 stale) ∙ fresh live.0 live.1 in
     search (rules, both)
 
 pub told_moves : (b : Booked) (c : ℕ) → AllAllowed (work_in b) beginning b.journal → b.course ≡ course_of (work_in b) b.journal → IsLiveCall b.course c → c < length b.script.calls → ((l : Live) → IsLive b.course c l → is_stale b.course l ≡ true) → MayMove b c

@@ -8,7 +8,7 @@ use Rattle.std.proofs.lemmas.Bool.{eqb-true}
 use Rattle.std.proofs.lemmas.List.Elements.{filter-append}
 use lib.Dec.{eqb}
 use Rattle.mv_journal.specs.declared.event.Event.{Event}
-use Rattle.mv_journal.specs.declared.event.Event.TheVariants.{B, A, M, C, X, G}
+use Rattle.mv_journal.specs.declared.event.Event.TheVariants.{B, A, M, C, X, R, G}
 use Rattle.mv_lawful.specs.Work.{Work}
 use Rattle.mv_lawful.specs.Lawful.{Live, Course, beginning, used, is_stale, refusal, after, course_of, AllAllowed}
 use Rattle.mv_lawful.specs.Rounds.{is_round, IsPast, IsBounded}
@@ -27,10 +27,10 @@ use Rattle.mv_core.specs.Books.{Booked, work_in, Made, IsSame}
 use Rattle.mv_core.specs.Cores.{HasCommitted, HasMovedAndCommitted}
 use Rattle.mv_core.proofs.Journals.{Facts, facts_of, live_apart, done_within}
 use Rattle.mv_core.proofs.Lows.{low_within}
-use Rattle.mv_gate.specs.Gates.{HaveTurns, UseRounds, HaveTouched, IsDesk, IsPastIn, HasRound, StartsLast}
+use Rattle.mv_gate.specs.Gates.{HaveTurns, UseRounds, HaveTouched, IsDesk, IsPastIn, HasRound, StartsLast, HasMovedAndAnswered}
 use Rattle.mv_gate.proofs.Turns.{turns_after}
-use Rattle.mv_gate.proofs.Used.{use_other, use_repair, use_move, use_move_and_commit}
-use Rattle.mv_gate.proofs.Starts.{touched_same, touched_begun, touched_again, touched_moved, touched_committed, touched_decided, touched_gone}
+use Rattle.mv_gate.proofs.Used.{use_other, use_repair, use_move, use_move_and_commit, use_move_and_answer}
+use Rattle.mv_gate.proofs.Starts.{touched_same, touched_begun, touched_again, touched_moved, touched_committed, touched_decided, touched_answered, touched_gone, touched_read}
 
 -- a commit is the last one of the order
 pub order_committed : (c : ℕ) (old new : Booked) → Made (C c) old new → new.course.order ≡ old.course.order ++ c ∷ []
@@ -114,6 +114,13 @@ desk_decided c s old new ledger now starts d live made seen commits =
     (let low = ap (λ (x : Course). x.low) made.course in let long = ap length order in let more = length-append old.course.order (c ∷ []) in let below = d.low in omega (arith, low, long, more, below))
     (seen_more c old.course.order new.course.order ledger now (desk_seen s old ledger starts d) order seen commits) (touched_decided s c old new starts d.turns d.touched live made)
 
+-- after an answer. The ledger stays as it was
+pub desk_answered : (c : ℕ) (s : BoardScript) (old new : Booked) (ledger : Entered) (starts : List (Option (List ℕ))) → IsDesk s old ledger starts → IsLiveCall old.course c → Made (R c) old new → IsDesk s new ledger (slice_set starts c None)
+desk_answered c s old new ledger starts d live made =
+    let order : new.course.order ≡ old.course.order = ap (λ (x : Course). x.order) made.course in
+    desk_other (R c) s old new ledger ledger starts (slice_set starts c None) d made (λ x. refl) (low_same old.course new.course (ap (λ (x : Course). x.low) made.course) (sym order) d.low)
+    (seen_still old.course.order new.course.order ledger ledger (desk_seen s old ledger starts d) order refl refl) (touched_answered s c old new starts d.turns d.touched live made)
+
 -- after a collection
 pub desk_collected : (s : BoardScript) (old new : Booked) (ledger : Entered) (starts : List (Option (List ℕ))) → IsDesk s old ledger starts → Made G old new → IsDesk s new ledger starts
 desk_collected s old new ledger starts d made =
@@ -196,33 +203,44 @@ desk_moved c s old new ledger now starts touched d allowed reaches live past lef
     (low_same old.course new.course (ap (λ (x : Course). x.low) made.course) (sym order) d.low) (seen_still old.course.order new.course.order ledger now (desk_seen s old ledger starts d) order seen commits)
     (touched_moved s c old new starts touched d.touched live made are)
 
--- after a move and the commit of that call
+-- after a move and the end of that call
+desk_ended : (e : Event) (c : ℕ) (s : BoardScript) (old mid new : Booked) (ledger now : Entered) (starts later : List (Option (List ℕ))) → IsDesk s old ledger starts → AllAllowed (work_in old) beginning old.journal → old.course ≡ course_of (work_in old) old.journal
+    → IsLiveCall old.course c → IsPastIn old c → Made (M c) old mid → Made e mid new → ((x : ℕ) → is_round x e ≡ false) → UseRounds s.options.rounds (after (work_in mid) (after (work_in old) old.course (M c)) e)
+    → new.course.low ≤ length new.course.order → HasSeen now new.course.order → HaveTouched s new.course later → IsDesk s new now later
+desk_ended e c s old mid new ledger now starts later d allowed reaches live past moved made none rounds low seen touched = record {
+  script = made.script ∙ (moved.script ∙ d.script);
+  sound = d.sound;
+  seen = seen.seen;
+  commits = seen.commits;
+  low = low;
+  turns = subst HaveTurns (sym made.course) (turns_after (work_in mid) mid.course e (subst HaveTurns (sym moved.course) (turns_after (work_in old) old.course (M c) d.turns)));
+  bounded = subst (IsBounded (work s)) (sym made.journal) (bounded_other (work s) mid.journal e none (subst (IsBounded (work s)) (sym moved.journal) (moved_bounded s old ledger starts c d allowed reaches live past)));
+  rounds = subst (UseRounds s.options.rounds) (sym made.course) (subst (λ (x : Course). UseRounds s.options.rounds (after (work_in mid) x e)) (sym moved.course) rounds);
+  touched = touched;
+}
+
+-- by its commit
 pub desk_gone : (c : ℕ) (s : BoardScript) (old mid new : Booked) (ledger now : Entered) (starts : List (Option (List ℕ))) → IsDesk s old ledger starts → AllAllowed (work_in old) beginning old.journal → old.course ≡ course_of (work_in old) old.journal
     → IsLiveCall old.course c → IsPastIn old c → Made (M c) old mid → Made (C c) mid new → now.knows.seen ≡ ledger.knows.seen ++ c ∷ [] → now.commits ≡ ledger.commits + 1 → IsDesk s new now (slice_set starts c None)
 desk_gone c s old mid new ledger now starts d allowed reaches live past moved committed seen commits =
     let order : new.course.order ≡ old.course.order ++ c ∷ [] = ap (λ (x : Course). x.order) committed.course ∙ ap (λ (x : Course). x.order ++ c ∷ []) moved.course in
-    let now_seen = seen_more c old.course.order new.course.order ledger now (desk_seen s old ledger starts d) order seen commits in
-    record {
-      script = committed.script ∙ (moved.script ∙ d.script);
-      sound = d.sound;
-      seen = now_seen.seen;
-      commits = now_seen.commits;
-      low =
-          let low = ap (λ (x : Course). x.low) committed.course in
-          let was = ap (λ (x : Course). x.low) moved.course in
-          let long = ap length order in
-          let more = length-append old.course.order (c ∷ []) in
-          let below = d.low in
-          omega (arith, low, was, long, more, below);
-      turns = subst HaveTurns (sym committed.course) (turns_after (work_in mid) mid.course (C c) (subst HaveTurns (sym moved.course) (turns_after (work_in old) old.course (M c) d.turns)));
-      bounded =
-          subst (IsBounded (work s)) (sym committed.journal)
-          (bounded_other (work s) mid.journal (C c) (λ x. refl) (subst (IsBounded (work s)) (sym moved.journal) (moved_bounded s old ledger starts c d allowed reaches live past)));
-      rounds =
-          subst (UseRounds s.options.rounds) (sym committed.course)
-          (subst (λ (x : Course). UseRounds s.options.rounds (after (work_in mid) x (C c))) (sym moved.course) (use_move_and_commit (work_in old) (work_in mid) s.options.rounds old.course c d.rounds));
-      touched = touched_gone s c old mid new starts d.turns d.touched live moved committed;
-    }
+    let low = ap (λ (x : Course). x.low) committed.course in
+    let was = ap (λ (x : Course). x.low) moved.course in
+    let long = ap length order in
+    let more = length-append old.course.order (c ∷ []) in
+    let below = d.low in
+    desk_ended (C c) c s old mid new ledger now starts (slice_set starts c None) d allowed reaches live past moved committed (λ x. refl) (use_move_and_commit (work_in old) (work_in mid) s.options.rounds old.course c d.rounds)
+    (omega (arith, low, was, long, more, below)) (seen_more c old.course.order new.course.order ledger now (desk_seen s old ledger starts d) order seen commits) (touched_gone s c old mid new starts d.turns d.touched live moved committed)
+
+-- by its answer
+pub desk_read : (c : ℕ) (s : BoardScript) (old mid new : Booked) (ledger now : Entered) (starts : List (Option (List ℕ))) → IsDesk s old ledger starts → AllAllowed (work_in old) beginning old.journal → old.course ≡ course_of (work_in old) old.journal
+    → IsLiveCall old.course c → IsPastIn old c → Made (M c) old mid → Made (R c) mid new → now.knows.seen ≡ ledger.knows.seen → now.commits ≡ ledger.commits → IsDesk s new now (slice_set starts c None)
+desk_read c s old mid new ledger now starts d allowed reaches live past moved answered seen commits =
+    let order : new.course.order ≡ old.course.order = ap (λ (x : Course). x.order) answered.course ∙ ap (λ (x : Course). x.order) moved.course in
+    let low : new.course.low ≡ old.course.low = ap (λ (x : Course). x.low) answered.course ∙ ap (λ (x : Course). x.low) moved.course in
+    desk_ended (R c) c s old mid new ledger now starts (slice_set starts c None) d allowed reaches live past moved answered (λ x. refl) (use_move_and_answer (work_in old) (work_in mid) s.options.rounds old.course c d.rounds)
+    (low_same old.course new.course low (sym order) d.low) (seen_still old.course.order new.course.order ledger now (desk_seen s old ledger starts d) order seen commits)
+    (touched_read s c old mid new starts d.turns d.touched live moved answered)
 
 -- Without an event
 
@@ -275,6 +293,10 @@ commit_failed Q e (Err x) old new err same = same
 pub gone_failed : (Q : NoMemory → Type 0) (c : ℕ) (r : Result ℕ NoMemory) (old new : Booked) → IsErrAnd r Q → IsSame old new → HasMovedAndCommitted c r old new
 gone_failed Q c (Ok n) old new err same = absurd err
 gone_failed Q c (Err x) old new err same = same
+
+pub read_failed : (Q : NoMemory → Type 0) (c : ℕ) (r : Result ℕ NoMemory) (old new : Booked) → IsErrAnd r Q → IsSame old new → HasMovedAndAnswered c r old new
+read_failed Q c (Ok n) old new err same = absurd err
+read_failed Q c (Err x) old new err same = same
 
 -- What a hold has made ready
 

@@ -5,7 +5,7 @@ use Rattle.std.proofs.lemmas.Bool.{ltb-true, cases_eq}
 use Rattle.std.proofs.lemmas.List.{length-set}
 use mathlib.Core.List.{IsPrefix}
 use Rattle.mv_journal.specs.declared.event.Event.{Event}
-use Rattle.mv_journal.specs.declared.event.Event.TheVariants.{B, A, M, C, X}
+use Rattle.mv_journal.specs.declared.event.Event.TheVariants.{B, A, M, C, X, R}
 use Rattle.mv_journal.specs.declared.outcome.Outcome.{Outcome}
 use Rattle.mv_lawful.specs.Work.{Work}
 use Rattle.mv_journal.specs.declared.outcome.Mark.TheVariants.{Plain, Exclusive, Moved}
@@ -26,7 +26,7 @@ use Rattle.mv_core.specs.Cores.{HasCommitted, HasMovedAndCommitted}
 use Rattle.mv_core.proofs.Moving.{live_moved}
 use Rattle.mv_core.proofs.Turning.{many_begun}
 use Rattle.mv_core.proofs.Journals.{get_front, set_there, set_apart, changed_at}
-use Rattle.mv_gate.specs.Gates.{IsDesk, Waiting, HandsOut, IsOutcome, IsDone, GoesOn}
+use Rattle.mv_gate.specs.Gates.{IsDesk, Waiting, HandsOut, HasMovedAndAnswered, IsOutcome, IsDone, GoesOn}
 
 pub outcome_told : (s : BoardScript) (b : Booked) (ledger : Entered) (starts : List (Option (List ℕ))) (o : Outcome) → IsDesk s b ledger starts → Lawful (work_in b) b.journal → o ≡ outcome_of (work_in b) b.journal → IsOutcome (work s) o
 outcome_told s b ledger starts o d lawful is =
@@ -50,7 +50,7 @@ events_made e old new made = (e ∷ [], sym made.journal)
 pub events_both : (a b c : List Event) → IsPrefix a b → IsPrefix b c → IsPrefix a c
 events_both a b c p q = subst (IsPrefix a) q.1 (prefix_more a b q.0 p)
 
--- Calls that have committed
+-- Calls that are done
 
 done_still : (ls : List Live) (c : ℕ) (f : Live → Live) (l : Live) → slice_get ls c ≡ Some l → l.done ≡ false → (d : ℕ) → (m : Live) × (slice_get ls d ≡ Some m) × (m.done ≡ true)
     → (m : Live) × (slice_get (change_live (slice_get ls c) f ls c) d ≡ Some m) × (m.done ≡ true)
@@ -97,6 +97,9 @@ keeps_committed c old new made live = keeps_changed (C c) c finish old new made 
 keeps_decided : (c : ℕ) (old new : Booked) → Made (X c) old new → IsLiveCall old.course c → GoesOn old new
 keeps_decided c old new made live = keeps_changed (X c) c (λ l. finish (again (length old.course.order) Exclusive l)) old new made (ap (λ (s : Course). s.calls) made.course) live
 
+pub keeps_answered : (c : ℕ) (old new : Booked) → Made (R c) old new → IsLiveCall old.course c → GoesOn old new
+keeps_answered c old new made live = keeps_changed (R c) c finish old new made (ap (λ (s : Course). s.calls) made.course) live
+
 -- it is live after it has moved
 moved_live : (c : ℕ) (old new : Booked) → Made (M c) old new → IsLiveCall old.course c → IsLiveCall new.course c
 moved_live c old new made live = (again (length old.course.order) Moved live.0, live_moved c old new live.0 live.1 made)
@@ -140,6 +143,11 @@ pub keeps_late : (r : Result ℕ NoMemory) (c : ℕ) (old new : Booked) → HasM
 keeps_late (Ok n) c old new h live = keeps_moved_and_committed c old h.0.0 new h.0.1 h.0.2 live
 keeps_late (Err e) c old new h live = keeps_same old new h
 
+-- a call moved and was answered
+pub keeps_read : (r : Result ℕ NoMemory) (c : ℕ) (old new : Booked) → HasMovedAndAnswered c r old new → IsLiveCall old.course c → GoesOn old new
+keeps_read (Ok n) c old new h live = keeps_both old h.0.0 new (keeps_moved c old h.0.0 h.0.1 live) (keeps_answered c h.0.0 new h.0.2 (moved_live c old h.0.0 h.0.1 live))
+keeps_read (Err e) c old new h live = keeps_same old new h
+
 done_by : (c : ℕ) (f : Live → Live) (old new : Booked) → new.course.calls ≡ change_live (slice_get old.course.calls c) f old.course.calls c → IsLiveCall old.course c → ((l : Live) → (f l).done ≡ true) → IsDone new.course c
 done_by c f old new is live ends = let h = done_now old.course.calls c f live.0 live.1.at (ends live.0) in (h.0, ap (λ ls. slice_get ls c) is ∙ h.1, h.2)
 
@@ -148,6 +156,12 @@ done_committed c old new made live = done_by c finish old new (ap (λ (s : Cours
 
 pub done_late : (c n : ℕ) (old new : Booked) → HasMovedAndCommitted c (Ok n) old new → IsLiveCall old.course c → IsDone new.course c
 done_late c n old new h live = done_committed c h.0.0 new h.0.2 (moved_live c old h.0.0 h.0.1 live)
+
+pub done_answered : (c : ℕ) (old new : Booked) → Made (R c) old new → IsLiveCall old.course c → IsDone new.course c
+done_answered c old new made live = done_by c finish old new (ap (λ (s : Course). s.calls) made.course) live (λ l. refl)
+
+pub done_read : (c n : ℕ) (old new : Booked) → HasMovedAndAnswered c (Ok n) old new → IsLiveCall old.course c → IsDone new.course c
+done_read c n old new h live = done_answered c h.0.0 new h.0.2 (moved_live c old h.0.0 h.0.1 live)
 
 pub done_decided : (c : ℕ) (old new : Booked) → Made (X c) old new → IsLiveCall old.course c → IsDone new.course c
 done_decided c old new made live = done_by c (λ l. finish (again (length old.course.order) Exclusive l)) old new (ap (λ (s : Course). s.calls) made.course) live (λ l. refl)
@@ -162,7 +176,7 @@ pub keeps_commit : (r : Result ℕ NoMemory) (c : ℕ) (old new : Booked) → Ha
 keeps_commit (Ok n) c old new h live = keeps_committed c old new h.0 live
 keeps_commit (Err e) c old new h live = keeps_same old new h
 
--- a call that has begun and isn't live has committed
+-- a call that has begun and isn't live is done
 pub shut : (s : Course) (c : ℕ) → c < length s.calls → (IsLiveCall s c → ⊥) → IsDone s c
 shut s c lt never = there (some_at s.calls c lt) where
   ended : (l : Live) → slice_get s.calls c ≡ Some l → (b : Bool) → l.done ≡ b → b ≡ true
@@ -194,14 +208,14 @@ first_is n (x ∷ ls) i l is at done = by x.done i refl is at (first_is (n + 1) 
       search (rules, no)
   by false (suc j) e is at go le = omega (arith, is)
 
--- no call is open where each has committed
+-- no call is open where each is done
 all_shut : (w : Work) (s : Course) → ((c : ℕ) → c < w.count → IsDone s c) → open_call w s ≡ None
 all_shut w s all = by (nat_lt (first_open 0 s.calls) w.count) refl where
   by : (b : Bool) → nat_lt (first_open 0 s.calls) w.count ≡ b → (if b then Some (first_open 0 s.calls) else None) ≡ None
   by true less = let h = all (first_open 0 s.calls) (ltb-true (first_open 0 s.calls) w.count less) in absurd (first_is 0 s.calls (first_open 0 s.calls) h.0 (omega arith) h.1 h.2)
   by false less = refl
 
--- one call more has committed
+-- one call more is done
 pub done_more : (old new : Booked) (k : ℕ) → ((d : ℕ) → d < k → IsDone old.course d) → GoesOn old new → IsDone new.course k → (d : ℕ) → d < k + 1 → IsDone new.course d
 done_more old new k all kept now d lt = by (cases_eq d k) where
   below : (d k : ℕ) → d < k + 1 → (d ≡ k → ⊥) → d < k

@@ -1,12 +1,14 @@
 -- What the desk keeps of the starts of live calls, after an event.
 use Rattle.std.proofs.Common.{◌≡◌, ◌⊎◌, inl, inr, ℕ, ◌<◌, true, false, List, [], ◌∷◌, ◌++◌, Option, Some, None, length, slice_set, get_or, refl, sym, ap, subst, ◌∙◌, arith, rules, length-append}
 use Rattle.std.specs.Prelude.{slice_get}
+use mathlib.Core.List.{IsPrefix}
 use Rattle.std.proofs.lemmas.List.{length-set}
 use Rattle.std.proofs.lemmas.Option.{slice_get_within, slice_get_read}
-use Rattle.mv_journal.specs.declared.event.Event.TheVariants.{B, A, M, C, X}
+use Rattle.mv_journal.specs.declared.event.Event.TheVariants.{B, A, M, C, X, R}
 use Rattle.mv_journal.specs.declared.outcome.Mark.TheVariants.{Plain, Exclusive, Moved}
-use Rattle.mv_lawful.specs.Lawful.{Live, Course, begin, again, finish}
+use Rattle.mv_lawful.specs.Lawful.{Live, Course, begin, again, finish, change_live}
 use Rattle.mv_seats.specs.Scripts.{Script as BoardScript}
+use Rattle.mv_seats.proofs.Prefixes.{prefix_self}
 use Rattle.mv_shards.specs.Reads.{Started, IsStart}
 use Rattle.mv_shards.specs.Ledgers.{Entered, AreLastChanges}
 use Rattle.mv_shards.proofs.Histories.{touch_front}
@@ -72,64 +74,71 @@ touched_moved s c old new starts touched h live made are =
     subst (λ (x : Course). HaveTouched s x (slice_set starts c (Some touched))) (sym (made.course ∙ ap (λ ls. record old.course { calls = ls }) (changed_at old.course.calls c (again (length old.course.order) Moved) live.0 live.1.at)))
     (restarted s old.course starts touched c live.0 m h live.1 are)
 
--- one call commits
-ended : (s : BoardScript) (course : Course) (starts : List (Option (List ℕ))) (c : ℕ) (l m : Live) → HaveTurns course → HaveTouched s course starts → IsLive course c l → m.done ≡ true
-    → HaveTouched s (record course { order = course.order ++ c ∷ []; calls = slice_set course.calls c m }) (slice_set starts c None)
-ended s course starts c l m turns h live done = record {
-  count = length-set starts c None ∙ (h.count ∙ sym (length-set course.calls c m));
-  each = λ d x alive. by d x (get_set course.calls c d m x alive.at) alive.live;
-} where
-  by : (d : ℕ) (x : Live) → ((d ≡ c) × (m ≡ x)) ⊎ ((d ≡ c → ⊥) × (slice_get course.calls d ≡ Some x)) → x.done ≡ false → Has s (course.order ++ c ∷ []) (slice_set starts c None) d x
-  by d x (inl new) alive = let both : true ≡ false = sym done ∙ (ap (λ (y : Live). y.done) new.1 ∙ alive) in absurd (search (rules, both))
-  by d x (inr other) alive =
-      let had = h.each d x (record { at = other.1; live = alive }) in (
+-- one call ends, and no other is changed
+ended : (s : BoardScript) (old new : Course) (starts : List (Option (List ℕ))) (c : ℕ) → HaveTurns old → HaveTouched s old starts → IsPrefix old.order new.order → length new.calls ≡ length old.calls
+    → ((d : ℕ) (x : Live) → IsLive new d x → (d ≡ c → ⊥) × IsLive old d x) → HaveTouched s new (slice_set starts c None)
+ended s old new starts c turns h order count others = record {
+  count = length-set starts c None ∙ (h.count ∙ sym count);
+  each = λ d x alive.
+      let other = others d x alive in
+      let had = h.each d x other.1 in (
         had.0,
         set_apart starts c d None other.0 ∙ had.1,
-        λ q lt. had.2 q lt ∙ touch_front s q course.order (course.order ++ c ∷ []) x.start (c ∷ [], refl) (turns d x other.1).past,
-      )
+        λ q lt. had.2 q lt ∙ touch_front s q old.order new.order x.start order (turns d x other.1.at).past,
+      );
+}
+
+-- each live call is another one
+others_stay : (ls : List Live) (c : ℕ) (m : Live) → m.done ≡ true → (d : ℕ) (x : Live) → slice_get (slice_set ls c m) d ≡ Some x → x.done ≡ false → (d ≡ c → ⊥) × (slice_get ls d ≡ Some x)
+others_stay ls c m done d x at alive = by (get_set ls c d m x at) where
+  by : ((d ≡ c) × (m ≡ x)) ⊎ ((d ≡ c → ⊥) × (slice_get ls d ≡ Some x)) → (d ≡ c → ⊥) × (slice_get ls d ≡ Some x)
+  by (inl new) = let both : true ≡ false = sym done ∙ (ap (λ (y : Live). y.done) new.1 ∙ alive) in absurd (search (rules, both))
+  by (inr other) = other
+
+-- a live call becomes one that is done
+ended_by : (s : BoardScript) (c : ℕ) (f : Live → Live) (old new : Course) (starts : List (Option (List ℕ))) → HaveTurns old → HaveTouched s old starts → (live : IsLiveCall old c) → new.calls ≡ change_live (slice_get old.calls c) f old.calls c
+    → (f live.0).done ≡ true → IsPrefix old.order new.order → HaveTouched s new (slice_set starts c None)
+ended_by s c f old new starts turns h live calls done order =
+    let set : new.calls ≡ slice_set old.calls c (f live.0) = calls ∙ changed_at old.calls c f live.0 live.1.at in
+    ended s old new starts c turns h order (ap length set ∙ length-set old.calls c (f live.0))
+    (λ d x alive. let other = others_stay old.calls c (f live.0) done d x (ap (λ ls. slice_get ls d) (sym set) ∙ alive.at) alive.live in (other.0, record { at = other.1; live = alive.live }))
 
 pub touched_committed : (s : BoardScript) (c : ℕ) (old new : Booked) (starts : List (Option (List ℕ))) → HaveTurns old.course → HaveTouched s old.course starts → IsLiveCall old.course c → Made (C c) old new → HaveTouched s new.course (slice_set starts c None)
 touched_committed s c old new starts turns h live made =
-    subst (λ (x : Course). HaveTouched s x (slice_set starts c None))
-    (sym (made.course ∙ ap (λ ls. record old.course { order = old.course.order ++ c ∷ []; calls = ls }) (changed_at old.course.calls c finish live.0 live.1.at)))
-    (ended s old.course starts c live.0 (finish live.0) turns h live.1 refl)
+    ended_by s c finish old.course new.course starts turns h live (ap (λ (x : Course). x.calls) made.course) refl (c ∷ [], sym (ap (λ (x : Course). x.order) made.course))
 
 pub touched_decided : (s : BoardScript) (c : ℕ) (old new : Booked) (starts : List (Option (List ℕ))) → HaveTurns old.course → HaveTouched s old.course starts → IsLiveCall old.course c → Made (X c) old new → HaveTouched s new.course (slice_set starts c None)
 touched_decided s c old new starts turns h live made =
-    let f : Live → Live = λ l. finish (again (length old.course.order) Exclusive l) in
-    subst (λ (x : Course). HaveTouched s x (slice_set starts c None))
-    (sym (made.course ∙ ap (λ ls. record old.course { order = old.course.order ++ c ∷ []; calls = ls }) (changed_at old.course.calls c f live.0 live.1.at)))
-    (ended s old.course starts c live.0 (f live.0) turns h live.1 refl)
+    ended_by s c (λ l. finish (again (length old.course.order) Exclusive l)) old.course new.course starts turns h live (ap (λ (x : Course). x.calls) made.course) refl (c ∷ [], sym (ap (λ (x : Course). x.order) made.course))
 
--- a call moves and commits. Its start after the move is one of the commits
+pub touched_answered : (s : BoardScript) (c : ℕ) (old new : Booked) (starts : List (Option (List ℕ))) → HaveTurns old.course → HaveTouched s old.course starts → IsLiveCall old.course c → Made (R c) old new → HaveTouched s new.course (slice_set starts c None)
+touched_answered s c old new starts turns h live made =
+    ended_by s c finish old.course new.course starts turns h live (ap (λ (x : Course). x.calls) made.course) refl (subst (IsPrefix old.course.order) (sym (ap (λ (x : Course). x.order) made.course)) (prefix_self old.course.order))
+
+-- a call moves, and is done in the same step. Its start after the move is one of the commits
+gone : (s : BoardScript) (c : ℕ) (old mid new : Booked) (starts : List (Option (List ℕ))) → HaveTurns old.course → HaveTouched s old.course starts → IsLiveCall old.course c → Made (M c) old mid
+    → new.course.calls ≡ change_live (slice_get mid.course.calls c) finish mid.course.calls c → IsPrefix old.course.order new.course.order → HaveTouched s new.course (slice_set starts c None)
+gone s c old mid new starts turns h live moved calls order =
+    let m : Live = again (length old.course.order) Moved live.0 in
+    let was : mid.course.calls ≡ slice_set old.course.calls c m = ap (λ (x : Course). x.calls) moved.course ∙ changed_at old.course.calls c (again (length old.course.order) Moved) live.0 live.1.at in
+    let there : slice_get mid.course.calls c ≡ Some m = ap (λ ls. slice_get ls c) was ∙ set_there old.course.calls c m live.0 live.1.at in
+    let set : new.course.calls ≡ slice_set mid.course.calls c (finish m) = calls ∙ changed_at mid.course.calls c finish m there in
+    ended s old.course new.course starts c turns h order (ap length set ∙ (length-set mid.course.calls c (finish m) ∙ (ap length was ∙ length-set old.course.calls c m)))
+    (λ d x alive.
+    let other = others_stay mid.course.calls c (finish m) refl d x (ap (λ ls. slice_get ls d) (sym set) ∙ alive.at) alive.live in
+    (other.0, record { at = sym (set_apart old.course.calls c d m other.0) ∙ (ap (λ ls. slice_get ls d) (sym was) ∙ other.1); live = alive.live }))
+
 pub touched_gone : (s : BoardScript) (c : ℕ) (old mid new : Booked) (starts : List (Option (List ℕ))) → HaveTurns old.course → HaveTouched s old.course starts → IsLiveCall old.course c → Made (M c) old mid → Made (C c) mid new
     → HaveTouched s new.course (slice_set starts c None)
 touched_gone s c old mid new starts turns h live moved committed =
-    let m : Live = again (length old.course.order) Moved live.0 in
-    let calls : mid.course.calls ≡ slice_set old.course.calls c m = ap (λ (x : Course). x.calls) moved.course ∙ changed_at old.course.calls c (again (length old.course.order) Moved) live.0 live.1.at in
-    let order : mid.course.order ≡ old.course.order = ap (λ (x : Course). x.order) moved.course in
-    let there : slice_get mid.course.calls c ≡ Some m = ap (λ ls. slice_get ls c) calls ∙ set_there old.course.calls c m live.0 live.1.at in
-    let gone : new.course.calls ≡ slice_set (slice_set old.course.calls c m) c (finish m) =
-    ap (λ (x : Course). x.calls) committed.course ∙ (changed_at mid.course.calls c finish m there ∙ ap (λ ls. slice_set ls c (finish m)) calls) in
-    let last : new.course.order ≡ old.course.order ++ c ∷ [] = ap (λ (x : Course). x.order) committed.course ∙ ap (λ (xs : List ℕ). xs ++ c ∷ []) order in
-    record {
-      count =
-          length-set starts c None
-          ∙ (h.count ∙ (sym (length-set old.course.calls c m) ∙ (sym (length-set (slice_set old.course.calls c m) c (finish m)) ∙ ap length (sym gone))));
-      each = λ d x alive.
-          subst (λ (xs : List ℕ). Has s xs (slice_set starts c None) d x) (sym last)
-          (by d x (get_set (slice_set old.course.calls c m) c d (finish m) x (ap (λ ls. slice_get ls d) (sym gone) ∙ alive.at)) alive.live);
-    } where
-      by : (d : ℕ) (x : Live) → ((d ≡ c) × (finish (again (length old.course.order) Moved live.0) ≡ x)) ⊎ ((d ≡ c → ⊥) × (slice_get (slice_set old.course.calls c (again (length old.course.order) Moved live.0)) d ≡ Some x)) → x.done ≡ false
-          → Has s (old.course.order ++ c ∷ []) (slice_set starts c None) d x
-      by d x (inl new) alive = let both : true ≡ false = ap (λ (y : Live). y.done) new.1 ∙ alive in absurd (search (rules, both))
-      by d x (inr other) alive =
-          let at : slice_get old.course.calls d ≡ Some x = sym (set_apart old.course.calls c d (again (length old.course.order) Moved live.0) other.0) ∙ other.1 in
-          let had = h.each d x (record { at = at; live = alive }) in (
-            had.0,
-            set_apart starts c d None other.0 ∙ had.1,
-            λ q lt. had.2 q lt ∙ touch_front s q old.course.order (old.course.order ++ c ∷ []) x.start (c ∷ [], refl) (turns d x at).past,
-          )
+    gone s c old mid new starts turns h live moved (ap (λ (x : Course). x.calls) committed.course)
+    (c ∷ [], sym (ap (λ (x : Course). x.order) committed.course ∙ ap (λ (x : Course). x.order ++ c ∷ []) moved.course))
+
+pub touched_read : (s : BoardScript) (c : ℕ) (old mid new : Booked) (starts : List (Option (List ℕ))) → HaveTurns old.course → HaveTouched s old.course starts → IsLiveCall old.course c → Made (M c) old mid → Made (R c) mid new
+    → HaveTouched s new.course (slice_set starts c None)
+touched_read s c old mid new starts turns h live moved answered =
+    gone s c old mid new starts turns h live moved (ap (λ (x : Course). x.calls) answered.course)
+    (subst (IsPrefix old.course.order) (sym (ap (λ (x : Course). x.order) answered.course ∙ ap (λ (x : Course). x.order) moved.course)) (prefix_self old.course.order))
 
 -- the entry of a live call
 pub entry_there : (s : BoardScript) (course : Course) (starts : List (Option (List ℕ))) (c : ℕ) → HaveTouched s course starts → IsLiveCall course c → c < length starts

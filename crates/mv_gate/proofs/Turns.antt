@@ -2,7 +2,7 @@
 use Rattle.std.proofs.Common.{◌≡◌, ◌⊎◌, inl, inr, ℕ, ◌+◌, ◌≤◌, List, [], ◌∷◌, ◌++◌, Option, Some, None, length, refl, sym, ap, subst, ◌∙◌, arith, length-append}
 use Rattle.std.specs.Prelude.{slice_get}
 use Rattle.mv_journal.specs.declared.event.Event.{Event}
-use Rattle.mv_journal.specs.declared.event.Event.TheVariants.{B, S, A, M, C, X, G}
+use Rattle.mv_journal.specs.declared.event.Event.TheVariants.{B, S, A, M, C, X, R, G}
 use Rattle.mv_journal.specs.declared.outcome.Mark.TheVariants.{Plain, Exclusive, Moved}
 use Rattle.mv_lawful.specs.Work.{Work}
 use Rattle.mv_lawful.specs.Lawful.{Live, Course, begin, again, finish, change_live, after}
@@ -52,4 +52,5 @@ turns_after w s (X c) h =
     let m : ℕ = length (s.order ++ c ∷ []) in
     changed n m c (λ l. finish (again n Exclusive l)) s.calls (omega (arith, long))
     (λ l k. turns_same m (again n Exclusive l) (finish (again n Exclusive l)) refl refl (turns_grown n m (again n Exclusive l) (omega (arith, long)) (turns_again n Exclusive l k))) h
+turns_after w s (R c) h = changed (length s.order) (length s.order) c finish s.calls (omega arith) (λ l k. turns_same (length s.order) l (finish l) refl refl k) h
 turns_after w s G h = h

@@ -3,10 +3,10 @@ use Rattle.std.proofs.Common.{◌≡◌, ◌⊎◌, inl, inr, ℕ, ◌<◌, ◌�
 use Rattle.std.specs.Prelude.{slice_get}
 use Rattle.std.proofs.lemmas.Bool.{ltb-true, eq-eqb, true≢false}
 use Rattle.mv_journal.specs.declared.event.Event.{Event}
-use Rattle.mv_journal.specs.declared.event.Event.TheVariants.{B, S, A, M, C, X, G}
+use Rattle.mv_journal.specs.declared.event.Event.TheVariants.{B, S, A, M, C, X, R, G}
 use Rattle.mv_journal.specs.declared.outcome.Mark.{Mark}
 use Rattle.mv_journal.specs.declared.outcome.Mark.TheVariants.{Plain, Exclusive, Moved}
-use Rattle.mv_lawful.specs.declared.fault.Fault.TheVariants.{Stale, Idle, Rounds}
+use Rattle.mv_lawful.specs.declared.fault.Fault.TheVariants.{Kind, Stale, Idle, Rounds}
 use Rattle.mv_lawful.specs.Work.{Work}
 use Rattle.mv_lawful.specs.Lawful.{Live, Course, begin, again, finish, change_live, used, is_stale, is_hit, has_round, unless, refusal, after}
 use Rattle.mv_lawful.specs.Rounds.{is_round}
@@ -56,6 +56,7 @@ use_other w rounds s (M c) none h = absurd (true≢false (sym (eq-eqb c c refl) 
 use_other w rounds s (C c) none h = λ d l live. all_changed rounds c finish s.calls (others_of rounds c s h) (λ x at going. absurd (true≢false going)) d l live.at live.live
 use_other w rounds s (X c) none h = λ d l live.
     all_changed rounds c (λ x. finish (again (length s.order) Exclusive x)) s.calls (others_of rounds c s h) (λ x at going. absurd (true≢false going)) d l live.at live.live
+use_other w rounds s (R c) none h = λ d l live. all_changed rounds c finish s.calls (others_of rounds c s h) (λ x at going. absurd (true≢false going)) d l live.at live.live
 use_other w rounds s G none h = λ d l live. h d l (record { at = live.at; live = live.live })
 
 -- a call that has used fewer takes one more
@@ -71,18 +72,19 @@ use_again rounds c n m s all less d l at live =
 -- a call that may be repaired has a round left
 repair_left : (w : Work) (s : Course) (c : ℕ) (l : Live) → IsLive s c l → refusal w s (A c) ≡ None → has_round w l ≡ true
 repair_left w s c l live free =
-    by (live_at s c (λ x. unless (not (is_stale s x)) Stale (unless (is_hit w s c x) Idle (unless (has_round w x) Rounds None))) free) where
-      parts : (stale hit left : Bool) → unless (not stale) Stale (unless hit Idle (unless left Rounds None)) ≡ None → left ≡ true
-      parts false true true e = refl
-      parts false true false e = absurd (search (rules, e))
-      parts false false left e = absurd (search (rules, e))
-      parts true hit left e = absurd (search (rules, e))
+    by (live_at s c (λ x. unless (not (w.read_only c)) Kind (unless (not (is_stale s x)) Stale (unless (is_hit w s c x) Idle (unless (has_round w x) Rounds None)))) free) where
+      parts : (writes stale hit left : Bool) → unless writes Kind (unless (not stale) Stale (unless hit Idle (unless left Rounds None))) ≡ None → left ≡ true
+      parts true false true true e = refl
+      parts true false true false e = absurd (search (rules, e))
+      parts true false false left e = absurd (search (rules, e))
+      parts true true hit left e = absurd (search (rules, e))
+      parts false stale hit left e = absurd (search (rules, e))
 
-      by : (x : Live) × IsLive s c x × (unless (not (is_stale s x)) Stale (unless (is_hit w s c x) Idle (unless (has_round w x) Rounds None)) ≡ None) → has_round w l ≡ true
+      by : (x : Live) × IsLive s c x × (unless (not (w.read_only c)) Kind (unless (not (is_stale s x)) Stale (unless (is_hit w s c x) Idle (unless (has_round w x) Rounds None))) ≡ None) → has_round w l ≡ true
       by h =
           let both : Some h.0 ≡ Some l = sym h.1.at ∙ live.at in
           let one : h.0 ≡ l = search (rules, both) in
-          ap (has_round w) (sym one) ∙ parts (is_stale s h.0) (is_hit w s c h.0) (has_round w h.0) h.2
+          ap (has_round w) (sym one) ∙ parts (not (w.read_only c)) (is_stale s h.0) (is_hit w s c h.0) (has_round w h.0) h.2
 
 pub use_repair : (w : Work) (s : Course) (c : ℕ) → UseRounds w.options.rounds s → refusal w s (A c) ≡ None → UseRounds w.options.rounds (after w s (A c))
 use_repair w s c all free d l live =
@@ -94,4 +96,9 @@ use_move w s c all left d l live = use_again w.options.rounds c (length s.order)
 -- a move and the commit of that call
 pub use_move_and_commit : (w v : Work) (rounds : ℕ) (s : Course) (c : ℕ) → UseRounds rounds s → UseRounds rounds (after v (after w s (M c)) (C c))
 use_move_and_commit w v rounds s c all d l live =
+    all_changed rounds c finish (after w s (M c)).calls (others_changed rounds c (again (length s.order) Moved) s.calls (others_of rounds c s all)) (λ x at going. absurd (true≢false going)) d l live.at live.live
+
+-- a move and the answer of that call
+pub use_move_and_answer : (w v : Work) (rounds : ℕ) (s : Course) (c : ℕ) → UseRounds rounds s → UseRounds rounds (after v (after w s (M c)) (R c))
+use_move_and_answer w v rounds s c all d l live =
     all_changed rounds c finish (after w s (M c)).calls (others_changed rounds c (again (length s.order) Moved) s.calls (others_of rounds c s all)) (λ x at going. absurd (true≢false going)) d l live.at live.live

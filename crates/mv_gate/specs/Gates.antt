@@ -4,7 +4,7 @@ use mathlib.Core.List.{IsPrefix}
 use Rattle.mv_values.specs.declared.memory.NoMemory.{NoMemory}
 use Rattle.mv_changes.specs.declared.recent.Committed.{Committed}
 use Rattle.mv_changes.specs.Commits.{changes_in}
-use Rattle.mv_journal.specs.declared.event.Event.TheVariants.{B, A, M, C, X, G}
+use Rattle.mv_journal.specs.declared.event.Event.TheVariants.{B, A, M, C, X, R, G}
 use Rattle.mv_journal.specs.declared.outcome.Mark.{Mark}
 use Rattle.mv_journal.specs.declared.outcome.Mark.TheVariants.{Plain as Repaired, Exclusive, Moved}
 use Rattle.mv_journal.specs.declared.outcome.Outcome.{Outcome}
@@ -207,9 +207,23 @@ pub record MovesAndCommits (c : ℕ) (old new : Booked) : Type 0 where
 abbrev pub Commits : ℕ → ℕ → Booked → Booked → Type 0
 Commits c n old new = (Made (C c) old new ⊎ (Made (X c) old new ⊎ MovesAndCommits c old new)) × (n ≡ length old.course.order + 1)
 
--- the call committed, or is to be repaired, or moved, or nothing happened
+-- a call that may move, and had used its rounds, moved and was answered in one step
+pub record MovesAndAnswers (c : ℕ) (old new : Booked) : Type 0 where
+  pub past : IsPastIn old c
+  pub none_left : HasRound false old c
+  pub mid : Booked
+  pub moved : Made (M c) old mid
+  pub answered : Made (R c) mid new
+
+-- the call was answered at its start, or moved and was answered in one step, after all commits; this is the number of
+-- commits before it. The law of journals allows the first only if the call isn't stale
+abbrev pub Answers : ℕ → ℕ → Booked → Booked → Type 0
+Answers c n old new = (Made (R c) old new × ((l : Live) → IsLive old.course c l → n ≡ l.start)) ⊎ (MovesAndAnswers c old new × (n ≡ length old.course.order))
+
+-- the call committed, was answered, or is to be repaired, or moved, or nothing happened
 abbrev pub Tries : ℕ → Answer → Booked → Booked → Type 0
 Tries c (answer.Committed n) old new = Commits c n old new
+Tries c (answer.Answered n) old new = Answers c n old new
 Tries c answer.Repaired old new = Made (A c) old new
 Tries c answer.Moved old new = Moves c old new
 Tries c answer.Lost old new = IsSame old new
@@ -219,6 +233,7 @@ abbrev pub GivesRepair : ℕ → ℕ → Answer → Option Repairing → Booked 
 GivesRepair c from answer.Repaired (Some r) new = (r.call ≡ c) × (r.from ≡ from) × StartsLast r.start new
 GivesRepair c from answer.Repaired None new = ⊥
 GivesRepair c from (answer.Committed n) r new = r ≡ None
+GivesRepair c from (answer.Answered n) r new = r ≡ None
 GivesRepair c from answer.Moved r new = r ≡ None
 GivesRepair c from answer.Lost r new = r ≡ None
 
@@ -227,8 +242,14 @@ abbrev pub GivesMoved : ℕ → Answer → Option Waiting → Booked → Type 0
 GivesMoved c answer.Moved (Some w) new = (w.call ≡ c) × StartsLast w.start new
 GivesMoved c answer.Moved None new = ⊥
 GivesMoved c (answer.Committed n) w new = w ≡ None
+GivesMoved c (answer.Answered n) w new = w ≡ None
 GivesMoved c answer.Repaired w new = w ≡ None
 GivesMoved c answer.Lost w new = w ≡ None
+
+-- the call moved, in a round with its number, and was answered in the same step after all commits; or nothing happened
+abbrev pub HasMovedAndAnswered : ℕ → Result ℕ NoMemory → Booked → Booked → Type 0
+HasMovedAndAnswered c (Ok n) old new = ((mid : Booked) × Made (M c) old mid × Made (R c) mid new × IsSettled mid c) × (n ≡ length old.course.order)
+HasMovedAndAnswered c (Err x) old new = IsSame old new
 
 -- old versions may be collected up to this low; without a horizon nothing happened
 abbrev pub Collects : Result (Option ℕ) NoMemory → Booked → Booked → Type 0
@@ -245,19 +266,19 @@ marked (Err e) before = true
 
 -- The end
 
--- the call has committed
+-- the call has committed or was answered
 abbrev pub IsDone : Course → ℕ → Type 0
 IsDone s c = (l : Live) × (slice_get s.calls c ≡ Some l) × (l.done ≡ true)
 
--- a later point of a run: each call that had committed still has, no fewer calls have begun, and the old events begin
--- the new ones
+-- a later point of a run: each call that was done still is, no fewer calls have begun, and the old events begin the new
+-- ones
 pub record GoesOn (old new : Booked) : Type 0 where
   pub done : (c : ℕ) → IsDone old.course c → IsDone new.course c
   pub count : length old.course.calls ≤ length new.course.calls
   pub script : new.script ≡ old.script
   pub events : IsPrefix old.journal new.journal
 
--- the outcome of a lawful and bounded journal of the script's calls, in which each has committed
+-- the outcome of a lawful and bounded journal of the script's calls, in which each has committed or was answered
 pub record IsOutcome (w : Work) (o : Outcome) : Type 0 where
   pub lawful : Lawful w o.journal
   pub bounded : IsBounded w o.journal

@@ -1,19 +1,20 @@
 //! The history of a run, in which events are made.
 
-ghost use Rattle.std.specs.Prelude.{◌≡◌, ◌↔◌, ◌<◌, ◌≤◌, ◌+◌, [], None, Some, true, false, ℕ, IsTrue, IfOk, IfSome, IfNone, OnOk, OnErr, length};
+ghost use Rattle.std.specs.Prelude.{◌≡◌, ◌↔◌, ◌<◌, ◌≤◌, ◌+◌, [], None, Some, Ok, true, false, ℕ, IsTrue, IfOk, IfSome, IfNone, OnOk, OnErr, length};
 ghost use mathlib.Core.List.{IsPrefix};
 ghost use Rattle.mv_seats.specs.Knowing.{Plain, Gate};
+ghost use Rattle.mv_lawful.specs.Work.{ReadersKeepTables};
 ghost use Rattle.mv_lawful.specs.Lawful.{Live, beginning, open_call, refusal};
 ghost use Rattle.mv_journal.specs.declared.event.Event.TheVariants.{A, M, C, X};
 ghost use Rattle.mv_script.specs.Scripts.{IsScript};
 ghost use Rattle.mv_shards.specs.Scripts.{script_in, work};
 ghost use Rattle.mv_shards.specs.Ledgers.{AreLastChanges};
 ghost use Rattle.mv_core.specs.Calls.{IsLive, IsLiveCall};
-ghost use Rattle.mv_core.specs.Books.{work_in, Made, IsSame, IsNotStale};
+ghost use Rattle.mv_core.specs.Books.{work_in, Made, IsSame, IsNotStale, IsReader, IsNoReader, HasAnswered};
 ghost use Rattle.mv_core.specs.Cores.{HasCommitted, HasMovedAndCommitted};
 ghost use Rattle.mv_gate.specs.declared.answers.Answer.TheVariants as Answer;
 ghost use Rattle.mv_lawful.specs.declared.fault.Fault.TheVariants.{Conflict};
-ghost use Rattle.mv_gate.specs.Gates.{IsWhole, IsPastIn, MayMove, HasRound, IsSettledOrWhole, StartsAt, StartsLast, IsKnown, HandsOut, Tries, GivesRepair, GivesMoved, Collects, IsOutcome, IsDone, GoesOn};
+ghost use Rattle.mv_gate.specs.Gates.{IsWhole, IsPastIn, MayMove, HasRound, IsSettledOrWhole, StartsAt, StartsLast, IsKnown, HandsOut, Tries, GivesRepair, GivesMoved, HasMovedAndAnswered, Collects, IsOutcome, IsDone, GoesOn};
 
 use crate::answers::Answer;
 use crate::beside::Beside;
@@ -23,10 +24,11 @@ use crate::latest::{last_tables, repair_last, run_last};
 use crate::rounds::{has_number, repaired_from};
 use crate::tried::Tried;
 use mv_core::book::{Book, Check};
-use mv_core::running::run_all;
+use mv_core::running::{is_read_only, run_all};
 use mv_core::shared::SharedScript;
 use mv_core::spare::Spare;
-use mv_core::tasks::new_task;
+use mv_core::tasks::{answer_task, new_task};
+use mv_core::told::reply_of;
 use mv_exec::task::Task;
 use mv_journal::outcome::{Mark, Outcome};
 use mv_seats::board::{Board, Making};
@@ -37,6 +39,7 @@ use mv_shards::view::ShardsView;
 use mv_values::copied::Copied;
 use mv_values::list::List;
 use mv_values::memory::NoMemory;
+use mv_view::view::Refused;
 use std::alloc::Global;
 use std::marker::Model;
 use std::sync::Wait;
@@ -46,7 +49,7 @@ use std::sync::Wait;
 pub struct Desk<N: Making> {
     book: Book,
     ledger: Ledger<N>,
-    /// For each call that has begun, the last change of each shard up to its start. A call that has committed has none.
+    /// For each call that has begun, the last change of each shard up to its start. A call that is done has none.
     starts: Vec<Option<List<u32>>>,
 }
 
@@ -235,6 +238,53 @@ impl<N: Making> Desk<N> {
         Ok(commit)
     }
 
+    /// Event R of a read only call whose task has run whole. Returns its start. Fails with `NoMemory` if memory runs out.
+    /// Then the call isn't answered.
+    fn answer(&mut self, alloc: Global, call: u32, task: &Task) -> Result<u32, NoMemory>
+        requires whole { IsWhole self.old call task.now }
+        requires kind { IsReader self.old call }
+        requires fresh { IsNotStale self.old call }
+        ensures ok { IfOk result (λ start. HasAnswered call (Ok start) self.old self.new) }
+        ensures err { OnErr result (IsSame self.old self.new) }
+    {
+        let _events = self.book.journal();
+        match answer_task(alloc, &mut self.book, call, task) {
+            Ok(start) => {
+                self.starts[call as usize] = None;
+                Ok(start)
+            }
+            Err(Refused::NoMemory) => Err(NoMemory),
+            Err(Refused::Stale { .. }) => unreachable!(),
+        }
+    }
+
+    /// Events M and R of a read only call whose start lies further back than the horizon. All memory is taken before the
+    /// first event.
+    fn move_and_answer<R: Wait>(
+        &mut self,
+        alloc: Global,
+        beside: &Beside<'_, N, R>,
+        call: u32,
+        spare: &mut Spare,
+    ) -> Result<u32, NoMemory>
+        requires may { MayMove self.old call }
+        requires kind { IsReader self.old call }
+        ensures { HasMovedAndAnswered call result self.old self.new }
+    {
+        let _events = self.book.journal();
+        let task = run_last(alloc, beside, &mut self.ledger, call, spare)?;
+        let reply = reply_of(alloc, &task.records())?;
+        self.book.reserve(call)?;
+        self.book.restart(call, Mark::Moved);
+        self.book.settle(call, &task);
+        let Ok(start) = self.book.answer_read(call, reply) else {
+            unreachable!();
+        };
+        self.starts[call as usize] = None;
+        spare.keep(task);
+        Ok(start)
+    }
+
     /// Events M and C of a call whose start lies further back than the horizon. All memory is taken before the first
     /// event. So no call is left that has moved here and hasn't committed.
     fn move_and_commit<R: Wait>(
@@ -244,7 +294,8 @@ impl<N: Making> Desk<N> {
         call: u32,
         spare: &mut Spare,
     ) -> Result<u32, NoMemory>
-        requires { MayMove self.old call }
+        requires may { MayMove self.old call }
+        requires kind { IsNoReader self.old call }
         ensures { HasMovedAndCommitted call result self.old self.new }
     {
         let _events = self.book.journal();
@@ -356,7 +407,8 @@ impl<N: Making> Desk<N> {
         })
     }
 
-    /// Event M of a call whose start lies further back than the horizon, or M and C if it has used its rounds.
+    /// Event M of a call whose start lies further back than the horizon. If it has used its rounds, it also commits or is
+    /// answered: M and C, or M and R.
     fn meet_late<R: Wait>(
         &mut self,
         alloc: Global,
@@ -381,6 +433,14 @@ impl<N: Making> Desk<N> {
                 moved: Some(moved),
             });
         }
+        if self.is_read_only(call) {
+            let start = self.move_and_answer(alloc, beside, call, spare)?;
+            return Ok(Tried {
+                answer: Answer::Answered(start),
+                repair: None,
+                moved: None,
+            });
+        }
         let commit = self.move_and_commit(alloc, beside, call, spare)?;
         Ok(Tried {
             answer: Answer::Committed(commit),
@@ -389,7 +449,48 @@ impl<N: Making> Desk<N> {
         })
     }
 
-    /// Event C, A, X or M of a call whose task has run whole, or M and C.
+    /// Whether a call of the script is read only.
+    fn is_read_only(&self, call: u32) -> bool
+        requires { call < length self.now.script.calls }
+        ensures { result ≡ (work_in self.now).read_only call }
+    {
+        is_read_only(self.book.script(), call)
+    }
+
+    /// Event R or M of a read only call whose task has run whole, or M and R.
+    fn decide_read<R: Wait>(
+        &mut self,
+        alloc: Global,
+        beside: &Beside<'_, N, R>,
+        call: u32,
+        mut start: Start<N>,
+        task: Task,
+        spare: &mut Spare,
+    ) -> Result<Tried<N>, NoMemory>
+        requires whole { IsWhole self.old call task }
+        requires kind { IsReader self.old call }
+        ensures ok { IfOk result (λ tried. Tries call tried.answer self.old self.new) }
+        ensures err { OnErr result (IsSame self.old self.new) }
+        ensures stays { IfOk result (λ tried. tried.answer ≡ Answer.Lost → ⊥) }
+        ensures repair { (from : ℕ) → IfOk result (λ tried. GivesRepair call from tried.answer tried.repair self.new) }
+        ensures moved { IfOk result (λ tried. GivesMoved call tried.answer tried.moved self.new) }
+    {
+        let _events = self.book.journal();
+        if self.book.is_stale(call) {
+            spare.keep(task);
+            let mut seen = start.pass_for(beside.board);
+            return self.meet_late(alloc, beside, call, &mut seen, spare);
+        }
+        let number = self.answer(alloc, call, &task)?;
+        spare.keep(task);
+        Ok(Tried {
+            answer: Answer::Answered(number),
+            repair: None,
+            moved: None,
+        })
+    }
+
+    /// Event C, A, X or M of a call whose task has run whole, or M and C; R or M of a read only one, or M and R.
     fn decide<R: Wait>(
         &mut self,
         alloc: Global,
@@ -407,6 +508,9 @@ impl<N: Making> Desk<N> {
         ensures repair { IfOk result (λ tried. GivesRepair call start.number tried.answer tried.repair self.new) }
         ensures moved { IfOk result (λ tried. GivesMoved call tried.answer tried.moved self.new) }
     {
+        if self.is_read_only(call) {
+            return self.decide_read(alloc, beside, call, start, task, spare);
+        }
         let _events = self.book.journal();
         match self.book.check(call, &task) {
             Check::Free => {
@@ -428,10 +532,10 @@ impl<N: Making> Desk<N> {
     }
 
     /// Tries to commit a call that has run whole and that its holder gives up, by one event: C, A, X or M; or by M and C,
-    /// if its start is below low and it has used its rounds. A call that is to be repaired, or that has moved, is given
-    /// back with a start after all commits. Keeps the log of any other call. Returns `Lost`, and does nothing, only if the
-    /// history doesn't have the call as its holder knows it. Fails with `NoMemory` if memory runs out. Then no event was
-    /// made, and the call is left to `commit_all_left`.
+    /// if its start is below low and it has used its rounds. A read only call is answered by R, where others commit. A
+    /// call that is to be repaired, or that has moved, is given back with a start after all commits. Keeps the log of any
+    /// other call. Returns `Lost`, and does nothing, only if the history doesn't have the call as its holder knows it.
+    /// Fails with `NoMemory` if memory runs out. Then no event was made, and the call is left to `commit_all_left`.
     pub fn attempt<R: Wait>(
         &mut self,
         alloc: Global,
@@ -474,9 +578,10 @@ impl<N: Making> Desk<N> {
         self.ledger.meet(board, other);
     }
 
-    /// Event M of a call whose holder found that its start lies further back than the horizon, or M and C, if it has used
-    /// its rounds. Returns `Lost`, and does nothing, only if the history doesn't have the call with this start. Fails with
-    /// `NoMemory` if memory runs out. Then no event was made, and the call is left to `commit_all_left`.
+    /// Event M of a call whose holder found that its start lies further back than the horizon. If it has used its rounds,
+    /// it also commits or is answered: M and C, or M and R. Returns `Lost`, and does nothing, only if the history doesn't
+    /// have the call with this start. Fails with `NoMemory` if memory runs out. Then no event was made, and the call is left
+    /// to `commit_all_left`.
     pub fn move_late<R: Wait>(
         &mut self,
         alloc: Global,
@@ -585,7 +690,7 @@ impl<N: Making> Desk<N> {
         }
     }
 
-    /// Commits a live call whose task has run whole, by C, by A and C, or by X.
+    /// Ends a live call whose task has run whole: by C, by A and C, or by X; a read only one by R.
     fn finish_left<R: Wait>(
         &mut self,
         alloc: Global,
@@ -599,6 +704,9 @@ impl<N: Making> Desk<N> {
         ensures done { OnOk result (IsDone self.new.course call) }
         ensures kept { GoesOn self.old self.new }
     {
+        if self.is_read_only(call) {
+            return self.answer_left(alloc, call, task, spare);
+        }
         match self.book.check(call, &task) {
             Check::Free => {
                 self.commit(alloc, beside, call, &task)?;
@@ -608,6 +716,25 @@ impl<N: Making> Desk<N> {
             Check::Hit { .. } => self.repair_left(alloc, beside, call, task, spare),
             Check::Stale { .. } => unreachable!(),
         }
+    }
+
+    /// Answers a live read only call whose task has run whole.
+    fn answer_left(
+        &mut self,
+        alloc: Global,
+        call: u32,
+        task: Task,
+        spare: &mut Spare,
+    ) -> Result<(), NoMemory>
+        requires whole { IsWhole self.old call task }
+        requires kind { IsReader self.old call }
+        requires fresh { IsNotStale self.old call }
+        ensures done { OnOk result (IsDone self.new.course call) }
+        ensures kept { GoesOn self.old self.new }
+    {
+        self.answer(alloc, call, &task)?;
+        spare.keep(task);
+        Ok(())
     }
 
     /// Commits a live call that is hit, by A and C, or by X.
@@ -662,7 +789,27 @@ impl<N: Making> Desk<N> {
         Ok(())
     }
 
-    /// Commits a live call that no worker holds any more. If its start lies further back than the horizon, it moves first.
+    /// Moves a live call that no worker holds any more, and ends it in the same step.
+    fn move_left<R: Wait>(
+        &mut self,
+        alloc: Global,
+        beside: &Beside<'_, N, R>,
+        call: u32,
+        spare: &mut Spare,
+    ) -> Result<(), NoMemory>
+        requires { MayMove self.old call }
+        ensures done { OnOk result (IsDone self.new.course call) }
+        ensures kept { GoesOn self.old self.new }
+    {
+        if self.is_read_only(call) {
+            self.move_and_answer(alloc, beside, call, spare)?;
+            return Ok(());
+        }
+        self.move_and_commit(alloc, beside, call, spare)?;
+        Ok(())
+    }
+
+    /// Ends a live call that no worker holds any more. If its start lies further back than the horizon, it moves first.
     fn commit_left<R: Wait>(
         &mut self,
         alloc: Global,
@@ -677,12 +824,10 @@ impl<N: Making> Desk<N> {
     {
         let _events = self.book.journal();
         if self.book.is_stale(call) {
-            self.move_and_commit(alloc, beside, call, spare)?;
-            return Ok(());
+            return self.move_left(alloc, beside, call, spare);
         }
         let Some(task) = self.renew(alloc, beside, call, spare)? else {
-            self.move_and_commit(alloc, beside, call, spare)?;
-            return Ok(());
+            return self.move_left(alloc, beside, call, spare);
         };
         self.finish_left(alloc, beside, call, task, spare)
     }
@@ -705,7 +850,7 @@ impl<N: Making> Desk<N> {
         Ok(())
     }
 
-    /// Brings a call to its commit, if it hasn't committed. All calls before it have begun.
+    /// Brings a call to its end, if it isn't done. All calls before it have begun.
     fn bring<R: Wait>(
         &mut self,
         alloc: Global,
@@ -726,7 +871,7 @@ impl<N: Making> Desk<N> {
         self.commit_left(alloc, beside, call, spare)
     }
 
-    /// Begins the calls that haven't begun, and commits those that haven't committed, one after another. Fails with
+    /// Begins the calls that haven't begun, and ends those that aren't done, one after another. Fails with
     /// `NoMemory` if memory runs out, and if the last round of such a call is a repair that has no number.
     pub fn commit_all_left<R: Wait>(
         &mut self,
@@ -743,7 +888,7 @@ impl<N: Making> Desk<N> {
         Ok(())
     }
 
-    /// Turns the history into the outcome of its events. Each call must have committed. It copies the rows of the shards,
+    /// Turns the history into the outcome of its events. Each call must be done. It copies the rows of the shards,
     /// and the events. Fails with `NoMemory` if memory runs out.
     pub fn outcome<R: Wait>(
         self,
@@ -753,6 +898,7 @@ impl<N: Making> Desk<N> {
         requires { open_call (work_in self) self.course ≡ None }
         ensures outcome { IfOk result (IsOutcome (work N.script)) }
         ensures journal { IfOk result (λ outcome. outcome.journal ≡ self.journal) }
+        ensures readers { IfOk result (λ outcome. ReadersKeepTables (work N.script)) }
     {
         let _events = self.book.journal();
         let Desk {

@@ -134,7 +134,7 @@ impl<N: Making> Gate<N> {
         guarded.begin(alloc, &self.board, pass)
     }
 
-    /// Event C, A, X or M, or M and C, as one hold.
+    /// Event C, A, X, R or M, or M and C, or M and R, as one hold.
     fn attempt<R: Wait>(
         &self,
         rt: &R,
@@ -237,8 +237,8 @@ fn run_statements<N: Making, R: Threads + Wait + Sync, P: Pace>(
     unreachable!()
 }
 
-/// Runs the statements of a call that has begun, and tries to commit it, until it has committed. Gives the call up if the
-/// history doesn't have it as it is held.
+/// Runs the statements of a call that has begun, and tries to commit or to answer it, until it is done. Gives the call up
+/// if the history doesn't have it as it is held.
 fn run_call<N: Making, R: Threads + Wait + Sync, P: Pace>(
     rt: &R,
     alloc: Global,
@@ -255,9 +255,13 @@ fn run_call<N: Making, R: Threads + Wait + Sync, P: Pace>(
     for _ in rt.forever() {
         tell(rt, pace, number, call, Moment::Before);
         let tried = gate.attempt(rt, alloc, reached, spare)?;
-        if let Answer::Committed(commit) = tried.answer {
-            tell(rt, pace, number, call, Moment::Answered);
-            gate.collect(rt, commit);
+        match tried.answer {
+            Answer::Committed(commit) => {
+                tell(rt, pace, number, call, Moment::Answered);
+                gate.collect(rt, commit);
+            }
+            Answer::Answered(_) => tell(rt, pace, number, call, Moment::Answered),
+            Answer::Repaired | Answer::Moved | Answer::Lost => {}
         }
         match gate.run_again(rt, alloc, tried, spare)? {
             Some(again) => reached = again,
@@ -316,7 +320,7 @@ fn work_at<N: Making, R: Threads + Wait + Sync, P: Pace>(
 }
 
 /// Runs the calls of a gate's script by 1 to 64 workers, and then those that they have left. Returns the outcome of a
-/// lawful and bounded journal, in which each call has committed. So the calls are serializable by the outcome. Fails with
+/// lawful and bounded journal, in which each call is done. So the calls are serializable by the outcome. Fails with
 /// `NoMemory` if memory runs out.
 pub fn run_all<N: Making + Send + Sync, R: Threads + Wait + Sync, P: Pace>(
     rt: &R,
@@ -358,7 +362,7 @@ pub fn run_all<N: Making + Send + Sync, R: Threads + Wait + Sync, P: Pace>(
 }
 
 /// Runs the calls of a script by 1 to 64 workers. Returns the outcome of a lawful and bounded journal, in which each call
-/// has committed. Fails with `NoMemory` if memory runs out.
+/// is done. Fails with `NoMemory` if memory runs out.
 pub fn run<R: Threads + Wait + Sync, P: Pace>(
     rt: &R,
     alloc: Global,

@@ -4,6 +4,8 @@ use Rattle.mv_journal.specs.declared.outcome.Mark.TheVariants.{Moved}
 use Rattle.mv_record.specs.Runs.{Run}
 use Rattle.mv_lawful.specs.Work.{records_at}
 use Rattle.mv_lawful.specs.Lawful.{Course, again, after}
+use Rattle.mv_script.specs.declared.script.Script.{Script}
+use Rattle.mv_script.specs.Scripts.{work_of}
 use Rattle.mv_core.specs.Books.{work_in}
 use Rattle.mv_core.proofs.Stored.{stored_same, stored_committed, stamped_on, last_run_on, last_changes_on, last_records_on}
 use Rattle.mv_core.proofs.Given.{some_then, none_then}
@@ -36,7 +38,7 @@ settle-requires-clause-number c none =
 pub commit-commit-requires-clause-allowed : goal.commit-commit-requires-clause-allowed
 commit-commit-requires-clause-allowed c =
     let live = live_now c.args.book.now c.args.book.now c.reserve.new.self c.args.call refl c.requires.live c.reserve.ensures.same in
-    moved_free c.reserve.new.self c.settle.new.self c.args.store.now c.args.call live.0 (stored_same c.args.book.now c.reserve.new.self c.args.store.now c.requires.stored c.reserve.ensures.same) live.1 (made_before (M c.args.call) c.reserve.new.self c.restart.new.self c.settle.new.self c.restart.ensures.made c.settle.ensures.same)
+    moved_free c.reserve.new.self c.settle.new.self c.args.store.now c.args.call live.0 (ap (λ (s : Script). (work_of s).read_only c.args.call) c.reserve.ensures.same.script ∙ c.requires.kind) (stored_same c.args.book.now c.reserve.new.self c.args.store.now c.requires.stored c.reserve.ensures.same) live.1 (made_before (M c.args.call) c.reserve.new.self c.restart.new.self c.settle.new.self c.restart.ensures.made c.settle.ensures.same)
 
 pub commit-commit-requires-clause-reply : goal.commit-commit-requires-clause-reply
 commit-commit-requires-clause-reply c =

@@ -21,4 +21,4 @@ for_each_mut-requires-sync-F g c κs within =
     (shr_sync _ _ (param 2 g.row.P) (search (p, sendable)))))
 
 pub returns-clause-serializable : goal.returns-clause-serializable
-returns-clause-serializable g c = serializable_left (work g.N.Making.script) c.outcome.result c.outcome.ensures.outcome
+returns-clause-serializable g c = serializable_left (work g.N.Making.script) c.outcome.result c.outcome.ensures.readers c.outcome.ensures.outcome

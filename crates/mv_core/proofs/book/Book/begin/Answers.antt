@@ -53,10 +53,10 @@ adds c = search (rules, c.put.ensures.items, c.reserve.ensures.items)
 pub invariant_of-self-2 : goal.invariant_of-self-2
 invariant_of-self-2 c =
     let live : c.push.new.self ≡ c.self.inside.live ++ length c.self.inside.calls.items ∷ [] = search (rules, c.in_ok-push.ensures.ok, c.len-call.ensures) in
-    subst (λ (ps : List Progress). IsBook c.self.inside.script (the_course c.self.inside.order.items c.self.inside.low (map live_of ps)) ps c.put.new.self.items c.push.new.self c.self.inside.recent) (sym (more c)) (record {
-      kept = (kept_begun c.self.inside.script c.self.inside.order.items c.self.inside.low c.len-call.result c.self.inside.calls.items c.self.inside.journal.items _ c.in_ok-progress.progress c.self.invariant.kept (less c) (number c) (fresh c) (adds c)).1;
+    subst (λ (ps : List Progress). IsBook c.self.inside.script (the_course c.self.inside.order.items c.self.inside.low c.self.inside.answered.items (map live_of ps)) ps c.put.new.self.items c.push.new.self c.self.inside.recent) (sym (more c)) (record {
+      kept = (kept_begun c.self.inside.script c.self.inside.order.items c.self.inside.low c.self.inside.answered.items c.len-call.result c.self.inside.calls.items c.self.inside.journal.items _ c.in_ok-progress.progress c.self.invariant.kept (less c) (number c) (fresh c) (adds c)).1;
       live = live ∙ (ap (λ ns. ns ++ length c.self.inside.calls.items ∷ []) c.self.invariant.live ∙ sym (live_comes c.self.inside.calls.items (length c.self.inside.order.items) c.in_ok-progress.progress (fresh c)));
-      recent = recent_begun (work_of c.self.inside.script) c.self.inside.order.items c.self.inside.low c.self.inside.calls.items c.in_ok-progress.progress c.self.inside.recent c.self.invariant.recent (fresh c);
+      recent = recent_begun (work_of c.self.inside.script) c.self.inside.order.items c.self.inside.low c.self.inside.answered.items c.self.inside.calls.items c.in_ok-progress.progress c.self.inside.recent c.self.invariant.recent (fresh c);
     })
 
 pub returns : goal.returns

@@ -14,14 +14,14 @@ first_hit-requires-clause-start c =
 
 pub returns-then-start-self : goal.returns-then-start-self
 returns-then-start-self c l live =
-    answers_stale (work_in c.args.self.now) c.args.self.now.course c.args.call c.start-start.result c.self.inside.low l live (c.start-start.ensures.value l live) (low_seen c.self.inside c.args.self.now c.self.view_is) c.if-start-self.true
+    answers_stale (work_in c.args.self.now) c.args.self.now.course c.args.call c.start-start.result c.self.inside.low l c.requires.kind live (c.start-start.ensures.value l live) (low_seen c.self.inside c.args.self.now c.self.view_is) c.if-start-self.true
 
 pub returns-in-Some : goal.returns-in-Some
 returns-in-Some c l live =
     let start = c.start-start.ensures.value l live in
     let low = low_seen c.self.inside c.args.self.now c.self.view_is in
     let not = c.if-start-self.false in
-    answers_hit (work_in c.args.self.now) c.args.self.now.course c.args.call c.start-start.result l c.self.inside.recent c.records.result c.in-Some.hit live
+    answers_hit (work_in c.args.self.now) c.args.self.now.course c.args.call c.start-start.result l c.self.inside.recent c.records.result c.in-Some.hit c.requires.kind live
     (recent_seen c.self.inside c.args.self.now c.self.view_is c.self.invariant.recent) start (omega (arith, start, low, not)) (c.records.ensures ∙ c.requires.records l live) (sym c.in-Some.ensures)
 
 pub returns-in-None : goal.returns-in-None
@@ -29,5 +29,5 @@ returns-in-None c l live =
     let start = c.start-start.ensures.value l live in
     let low = low_seen c.self.inside c.args.self.now c.self.view_is in
     let not = c.if-start-self.false in
-    answers_free (work_in c.args.self.now) c.args.self.now.course c.args.call c.start-start.result l c.self.inside.recent c.records.result live
+    answers_free (work_in c.args.self.now) c.args.self.now.course c.args.call c.start-start.result l c.self.inside.recent c.records.result c.requires.kind live
     (recent_seen c.self.inside c.args.self.now c.self.view_is c.self.invariant.recent) start (omega (arith, start, low, not)) (c.records.ensures ∙ c.requires.records l live) (sym c.in-None.ensures)

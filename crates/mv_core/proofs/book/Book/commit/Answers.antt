@@ -36,7 +36,7 @@ overflow_add-number c =
 
 pub remember-requires-clause-next : goal.remember-requires-clause-next
 remember-requires-clause-next c =
-    let long = recent_long (work_of c.self.inside.script) (the_course c.self.inside.order.items c.self.inside.low (map live_of c.self.inside.calls.items)) c.self.inside.recent c.self.invariant.recent in
+    let long = recent_long (work_of c.self.inside.script) (the_course c.self.inside.order.items c.self.inside.low c.self.inside.answered.items (map live_of c.self.inside.calls.items)) c.self.inside.recent c.self.invariant.recent in
     let start : c.len-start.result ≡ length c.self.inside.order.items = c.len-start.ensures in
     omega (arith, long, start)
 
@@ -52,7 +52,7 @@ rounds c = search (rules, c.commit.ensures.rounds, c.len-start.ensures, own c)
 known : (c : goal.After-put-2) → c.commit.new.self.rounds.items ≡ rounds_of (work_of c.self.inside.script) (c.self.inside.order.items ++ c.args.call ∷ []) c.args.call (turns_in c.commit.new.self.rounds.items)
 known c =
     subst (λ (rs : List Round). rs ≡ rounds_of (work_of c.self.inside.script) (c.self.inside.order.items ++ c.args.call ∷ []) c.args.call (turns_in rs)) (sym (rounds c))
-    (rounds_committed c.self.inside.script c.self.inside.order.items c.self.inside.low c.args.call c.self.inside.calls.items c.self.inside.journal.items (own_number (option_copied c.args.exclusive)) c.index_mut.result.now c.self.invariant.kept (here c).2.at (here c).2.going
+    (rounds_committed c.self.inside.script c.self.inside.order.items c.self.inside.low c.self.inside.answered.items c.args.call c.self.inside.calls.items c.self.inside.journal.items (own_number (option_copied c.args.exclusive)) c.index_mut.result.now c.self.invariant.kept (here c).2.at (here c).2.going
     (settled_here c.self.inside c.args.self.now c.args.call c.index_mut.result.now c.self.view_is (here c).2.at c.requires.settled)
     (subst (λ (b : Booked). IsOwnNumber (own_number (option_copied c.args.exclusive)) b c.args.call) (sym c.self.view_is) c.requires.number))
 
@@ -67,15 +67,15 @@ nobody c alone =
 pub invariant_of-self : goal.invariant_of-self
 invariant_of-self c = record {
   kept =
-      kept_commit c.self.inside.script c.self.inside.order.items _ c.self.inside.low c.args.call c.self.inside.calls.items c.self.inside.journal.items _ (commit_event (own_number (option_copied c.args.exclusive)) c.args.call)
+      kept_commit c.self.inside.script c.self.inside.order.items _ c.self.inside.low c.self.inside.answered.items c.args.call c.self.inside.calls.items c.self.inside.journal.items _ (commit_event (own_number (option_copied c.args.exclusive)) c.args.call)
       (committed (length c.self.inside.order.items) (own_number (option_copied c.args.exclusive))) c.index_mut.result.now c.commit.new.self c.args.reply
       c.self.invariant.kept (free_on (commit_event (own_number (option_copied c.args.exclusive)) c.args.call) _ c.args.self.now c.self.view_is c.requires.allowed)
-      (commit_after (work_of c.self.inside.script) c.self.inside.order.items c.self.inside.low (map live_of c.self.inside.calls.items) (own_number (option_copied c.args.exclusive)) c.args.call)
+      (commit_after (work_of c.self.inside.script) c.self.inside.order.items c.self.inside.low c.self.inside.answered.items (map live_of c.self.inside.calls.items) (own_number (option_copied c.args.exclusive)) c.args.call)
       c.put.ensures.items (search (rules, c.put-2.ensures.items, c.commit_event.ensures, own c)) (here c).2.at (here c).2.going (live c) c.commit.ensures.reply (known c)
       (c.requires.reply ∙ ap (λ (b : Booked). (last_run b c.args.call).reply) (sym c.self.view_is));
   live = gone c;
   recent =
-      recent_remembered (work_of c.self.inside.script) c.self.inside.order.items _ c.self.inside.low c.args.call _ c.self.inside.calls.items c.index_mut.result.now c.commit.new.self c.args.reply c.self.inside.recent c.remember.new.recent c.args.changes c.self.invariant.recent
+      recent_remembered (work_of c.self.inside.script) c.self.inside.order.items _ c.self.inside.low c.self.inside.answered.items c.args.call _ c.self.inside.calls.items c.index_mut.result.now c.commit.new.self c.args.reply c.self.inside.recent c.remember.new.recent c.args.changes c.self.invariant.recent
       c.put.ensures.items (here c).2.at (here c).2.going c.commit.ensures.reply (ap (λ n. n + 1) c.len-start.ensures) c.remember.ensures.remembers
       (none_then c.args.changes c.requires.alone (nobody c)) (some_then c.args.changes c.requires.changes (λ told is. is ∙ ap (λ (b : Booked). last_changes b c.args.call) (sym c.self.view_is)));
 }

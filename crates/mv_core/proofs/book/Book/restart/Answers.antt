@@ -33,7 +33,7 @@ live c =
 pub invariant_of-self : goal.invariant_of-self
 invariant_of-self c = record {
   kept =
-      kept_restart c.self.inside.script c.self.inside.order.items c.self.inside.low c.args.call c.self.inside.calls.items c.self.inside.journal.items _ c.args.mark c.index_mut.result.now c.restart.new.self
+      kept_restart c.self.inside.script c.self.inside.order.items c.self.inside.low c.self.inside.answered.items c.args.call c.self.inside.calls.items c.self.inside.journal.items _ c.args.mark c.index_mut.result.now c.restart.new.self
       c.self.invariant.kept c.requires.mark (free_on (round_event c.args.mark c.args.call) _ c.args.self.now c.self.view_is c.requires.allowed)
       (λ plain. settled_here c.self.inside c.args.self.now c.args.call c.index_mut.result.now c.self.view_is (here c).2.at (c.requires.settled plain))
       (here c).2.at (here c).2.going
@@ -43,14 +43,14 @@ invariant_of-self c = record {
   recent =
       let past : c.index_mut.result.now.start ≤ length c.self.inside.order.items = start_past c.self.inside c.args.call c.index_mut.result.now c.self.invariant.kept (here c).2.at in
       let new = start c in
-      recent_set (work_of c.self.inside.script) c.self.inside.order.items c.self.inside.low c.args.call c.self.inside.calls.items c.index_mut.result.now c.restart.new.self c.self.inside.recent c.self.invariant.recent (here c).2.at (here c).2.going (omega (arith, past, new));
+      recent_set (work_of c.self.inside.script) c.self.inside.order.items c.self.inside.low c.self.inside.answered.items c.args.call c.self.inside.calls.items c.index_mut.result.now c.restart.new.self c.self.inside.recent c.self.invariant.recent (here c).2.at (here c).2.going (omega (arith, past, new));
 }
 
 pub returns-clause-made : goal.returns-clause-made
 returns-clause-made c =
     made_on (round_event c.args.mark c.args.call) _ c.args.self.now _ c.self.view_is c.requires.allowed
-    (ap (λ (ls : List Live). the_course c.self.inside.order.items c.self.inside.low ls) (map_changed (again (length c.self.inside.order.items) c.args.mark) c.self.inside.calls.items c.args.call c.index_mut.result.now c.restart.new.self (here c).2.at (live c))
-    ∙ sym (restart_after (work_of c.self.inside.script) (the_course c.self.inside.order.items c.self.inside.low (map live_of c.self.inside.calls.items)) c.args.mark c.args.call c.requires.mark))
+    (ap (λ (ls : List Live). the_course c.self.inside.order.items c.self.inside.low c.self.inside.answered.items ls) (map_changed (again (length c.self.inside.order.items) c.args.mark) c.self.inside.calls.items c.args.call c.index_mut.result.now c.restart.new.self (here c).2.at (live c))
+    ∙ sym (restart_after (work_of c.self.inside.script) (the_course c.self.inside.order.items c.self.inside.low c.self.inside.answered.items (map live_of c.self.inside.calls.items)) c.args.mark c.args.call c.requires.mark))
     (λ d live other has. still_settled c.self.inside c.args.self.now c.args.call d c.index_mut.result.now c.restart.new.self c.self.view_is (here c).2.at
     (λ is was. absurd (other_round c.args.mark c.args.call d c.requires.mark other is)) has)
     (search (rules, c.put.ensures.items, c.round_event.ensures)) refl

@@ -20,26 +20,26 @@ invariant_of-self c =
     (c.last_number.ensures ∙ ap last_number c.as_slice.ensures) (sym c.is_some.ensures ∙ c.if-is_some.false) c.requires.number in
     let start = c.settle.ensures.start in
     record {
-      kept = kept_settled c.self.inside.script c.self.inside.order.items c.self.inside.low c.args.call c.self.inside.calls.items c.self.inside.journal.items c.executed.result c.index_mut.result.now c.settle.new.self
+      kept = kept_settled c.self.inside.script c.self.inside.order.items c.self.inside.low c.self.inside.answered.items c.args.call c.self.inside.calls.items c.self.inside.journal.items c.executed.result c.index_mut.result.now c.settle.new.self
           c.self.invariant.kept here.2.at here.2.going (due ∙ ap Some (sym c.executed.ensures)) c.settle.ensures.start c.settle.ensures.steps c.settle.ensures.rounds c.settle.ensures.reply;
       live = c.self.invariant.live ∙ sym (live_stays c.self.inside.calls.items c.args.call c.index_mut.result.now c.settle.new.self here.2.at c.settle.ensures.reply);
-      recent = recent_set (work_of c.self.inside.script) c.self.inside.order.items c.self.inside.low c.args.call c.self.inside.calls.items c.index_mut.result.now c.settle.new.self c.self.inside.recent c.self.invariant.recent here.2.at here.2.going (omega (arith, start));
+      recent = recent_set (work_of c.self.inside.script) c.self.inside.order.items c.self.inside.low c.self.inside.answered.items c.args.call c.self.inside.calls.items c.index_mut.result.now c.settle.new.self c.self.inside.recent c.self.invariant.recent here.2.at here.2.going (omega (arith, start));
     }
 
 pub returns-clause-settled : goal.returns-clause-settled
 returns-clause-settled c =
     let here = here_at c.self.inside c.args.self.now c.args.call c.index_mut.result.now c.self.view_is c.requires.live c.index_mut.ensures.value in
-    let number = number_set c.self.inside.script c.self.inside.order.items c.self.inside.low c.args.call c.self.inside.calls.items c.self.inside.journal.items c.executed.result c.index_mut.result.now c.settle.new.self c.self.invariant.kept here.2.at c.settle.ensures.rounds in
+    let number = number_set c.self.inside.script c.self.inside.order.items c.self.inside.low c.self.inside.answered.items c.args.call c.self.inside.calls.items c.self.inside.journal.items c.executed.result c.index_mut.result.now c.settle.new.self c.self.invariant.kept here.2.at c.settle.ensures.rounds in
     set_known c.self.inside.calls.items c.args.call c.executed.result c.index_mut.result.now c.settle.new.self here.2.at number
 
 pub returns-clause-same : goal.returns-clause-same
 returns-clause-same c =
     let here = here_at c.self.inside c.args.self.now c.args.call c.index_mut.result.now c.self.view_is c.requires.live c.index_mut.ensures.value in
-    let number = number_set c.self.inside.script c.self.inside.order.items c.self.inside.low c.args.call c.self.inside.calls.items c.self.inside.journal.items c.executed.result c.index_mut.result.now c.settle.new.self c.self.invariant.kept here.2.at c.settle.ensures.rounds in
+    let number = number_set c.self.inside.script c.self.inside.order.items c.self.inside.low c.self.inside.answered.items c.args.call c.self.inside.calls.items c.self.inside.journal.items c.executed.result c.index_mut.result.now c.settle.new.self c.self.invariant.kept here.2.at c.settle.ensures.rounds in
     record {
       script = ap (λ (b : Booked). b.script) c.self.view_is;
       course =
-          ap (the_course c.self.inside.order.items c.self.inside.low)
+          ap (the_course c.self.inside.order.items c.self.inside.low c.self.inside.answered.items)
           (same_calls c.self.inside.calls.items c.args.call c.index_mut.result.now c.settle.new.self here.2.at (settled_live (Some c.executed.result) c.index_mut.result.now c.settle.new.self c.settle.ensures.start c.settle.ensures.steps c.settle.ensures.rounds c.settle.ensures.reply))
           ∙ ap (λ (b : Booked). b.course) c.self.view_is;
       settled = λ d has. still_settled c.self.inside c.args.self.now c.args.call d c.index_mut.result.now c.settle.new.self c.self.view_is here.2.at (λ is was. ap is_some number) has;

@@ -5,11 +5,11 @@ use Rattle.mv_journal.specs.declared.event.Event.TheVariants.{A}
 use Rattle.mv_journal.specs.declared.outcome.Mark.TheVariants.{Plain, Exclusive}
 use Rattle.mv_lawful.specs.Lawful.{has_round}
 use Rattle.mv_core.specs.Books.{Booked, work_in, Made, IsSame, IsNotStale}
-use Rattle.mv_core.specs.Cores.{HasTurns}
+use Rattle.mv_core.specs.Cores.{IsAllowedIfFresh, HasTurns}
 use Rattle.mv_core.proofs.Stored.{shows_start, fresh_start, shows_last, fresh_last, stored_same, stored_made}
 use Rattle.mv_core.proofs.Numbered.{numbers_same, numbers_again}
 use Rattle.mv_core.proofs.Taking.{task_there, task_again, tasks_set, tasks_same, restarted_on, call_within, due_first, core_set, running_in}
-use Rattle.mv_core.proofs.Refusing.{repairs_again}
+use Rattle.mv_core.proofs.Refusing.{again_writes, repairs_again}
 use Rattle.mv_core.proofs.Changed.{live_in, same_self, fresh_now_allowed, refused_same, book_in, tasks_in}
 use Rattle.mv_core.proofs.Recorded.{others_set, whole_set, whole_again}
 use Rattle.mv_core.proofs.Lasting.{last_same, last_other}
@@ -58,7 +58,7 @@ pub rerun_task-requires-clause-allowed : goal.rerun_task-requires-clause-allowed
 rerun_task-requires-clause-allowed c =
     let live = live_in c.self.inside.book c.args.self.now.book c.args.call (ap book_in c.self.view_is) c.requires.live in
     fresh_now_allowed c.self.inside.book c.args.self.now.book c.args.call live.0 (A c.args.call) (has_round (work_in c.self.inside.book) live.0) (ap book_in c.self.view_is)
-    (repairs_again (work_in c.self.inside.book) c.self.inside.book.course c.args.call live.0 live.1) c.requires.allowed
+    (repairs_again (work_in c.self.inside.book) c.self.inside.book.course c.args.call live.0 (again_writes c.self.inside.book c.args.call live.0 live.1 (subst (λ (b : Booked). IsAllowedIfFresh b (A c.args.call)) (sym (ap book_in c.self.view_is)) c.requires.allowed)) live.1) c.requires.allowed
     (subst (λ (b : Booked). IsNotStale b c.args.call) (sym (ap book_in c.self.view_is)) c.in_ok-refuse_stale.ensures.fresh live.0 live.1)
 
 pub invariant_of-self-in_err-executed : goal.invariant_of-self-in_err-executed

@@ -5,7 +5,7 @@ use Rattle.mv_core.proofs.Stored.{last_records}
 use Rattle.mv_core.proofs.Numbered.{numbers_same, numbers_other}
 use Rattle.mv_core.proofs.Changed.{core_same, try_failed, live_in, free_told, hit_told, stale_told, same_self, book_in, tasks_in}
 use Rattle.mv_core.specs.declared.engine.Attempt.TheVariants as attempt
-use Rattle.mv_core.specs.Books.{Booked, Made, IsSame}
+use Rattle.mv_core.specs.Books.{Booked, Made, IsSame, IsNoReader}
 use Rattle.mv_core.specs.Cores.{IsCore, HasTried}
 use Rattle.mv_core.specs.declared.tasks.Running.{Running}
 use Rattle.mv_core.proofs.Recorded.{others_set, others_twice, whole_set}
@@ -14,28 +14,31 @@ use Rattle.mv_core.proofs.engine.Core.attempt.Goals as goal
 
 pub unreachable-requires : goal.unreachable-requires
 unreachable-requires c =
-    task_there c.self.inside.book.script c.self.inside.book.course c.self.inside.tasks.items c.args.call c.index_mut.result.now c.self.invariant.0.tasks (live_in c.self.inside.book c.args.self.now.book c.args.call (ap book_in c.self.view_is) c.requires) c.index_mut.ensures.value c.in_default.is
+    task_there c.self.inside.book.script c.self.inside.book.course c.self.inside.tasks.items c.args.call c.index_mut.result.now c.self.invariant.0.tasks (live_in c.self.inside.book c.args.self.now.book c.args.call (ap book_in c.self.view_is) c.requires.live) c.index_mut.ensures.value c.in_default.is
+
+pub check_task-requires-clause-kind : goal.check_task-requires-clause-kind
+check_task-requires-clause-kind c = subst (λ (b : Booked). IsNoReader b c.args.call) (sym (ap book_in c.self.view_is)) c.requires.kind
 
 pub check_task-requires-clause-call : goal.check_task-requires-clause-call
 check_task-requires-clause-call c =
-    running_in c.self.inside.book c.self.inside.store c.self.inside.tasks.items c.args.call c.index_mut.result.now c.get_mut-running.result.now c.self.invariant.0 (live_in c.self.inside.book c.args.self.now.book c.args.call (ap book_in c.self.view_is) c.requires) c.index_mut.ensures.value (c.in-Some.is ∙ ap Some (sym c.get_mut-running.ensures.value))
+    running_in c.self.inside.book c.self.inside.store c.self.inside.tasks.items c.args.call c.index_mut.result.now c.get_mut-running.result.now c.self.invariant.0 (live_in c.self.inside.book c.args.self.now.book c.args.call (ap book_in c.self.view_is) c.requires.live) c.index_mut.ensures.value (c.in-Some.is ∙ ap Some (sym c.get_mut-running.ensures.value))
 
 pub invariant_of-self : goal.invariant_of-self
-invariant_of-self c = (core_set c.self.inside.book c.self.inside.store c.self.inside.tasks.items c.args.call c.check_task.new.running c.self.invariant.0 (live_in c.self.inside.book c.args.self.now.book c.args.call (ap book_in c.self.view_is) c.requires) c.check_task.ensures.task, c.self.invariant.1)
+invariant_of-self c = (core_set c.self.inside.book c.self.inside.store c.self.inside.tasks.items c.args.call c.check_task.new.running c.self.invariant.0 (live_in c.self.inside.book c.args.self.now.book c.args.call (ap book_in c.self.view_is) c.requires.live) c.check_task.ensures.task, c.self.invariant.1)
 
 pub settle_and_commit-requires-clause-missing : goal.settle_and_commit-requires-clause-missing
-settle_and_commit-requires-clause-missing c = due_first c.self.inside.book c.args.call c.check_task.new.running (live_in c.self.inside.book c.args.self.now.book c.args.call (ap book_in c.self.view_is) c.requires) (c.self.invariant.0.numbers c.args.call) c.check_task.ensures.task (c.in_ok-check_task.ensures.records c.in-Free.is)
+settle_and_commit-requires-clause-missing c = due_first c.self.inside.book c.args.call c.check_task.new.running (live_in c.self.inside.book c.args.self.now.book c.args.call (ap book_in c.self.view_is) c.requires.live) (c.self.invariant.0.numbers c.args.call) c.check_task.ensures.task (c.in_ok-check_task.ensures.records c.in-Free.is)
 
 pub settle_and_commit-requires-clause-live : goal.settle_and_commit-requires-clause-live
-settle_and_commit-requires-clause-live c = live_in c.self.inside.book c.args.self.now.book c.args.call (ap book_in c.self.view_is) c.requires
+settle_and_commit-requires-clause-live c = live_in c.self.inside.book c.args.self.now.book c.args.call (ap book_in c.self.view_is) c.requires.live
 
 pub settle_and_commit-requires-clause-number : goal.settle_and_commit-requires-clause-number
 settle_and_commit-requires-clause-number c =
-    call_within c.self.inside.book.script c.self.inside.book.course c.self.inside.tasks.items c.args.call c.self.invariant.0.tasks (live_in c.self.inside.book c.args.self.now.book c.args.call (ap book_in c.self.view_is) c.requires)
+    call_within c.self.inside.book.script c.self.inside.book.course c.self.inside.tasks.items c.args.call c.self.invariant.0.tasks (live_in c.self.inside.book c.args.self.now.book c.args.call (ap book_in c.self.view_is) c.requires.live)
 
 pub settle_and_commit-requires-clause-allowed : goal.settle_and_commit-requires-clause-allowed
 settle_and_commit-requires-clause-allowed c =
-    let live = live_in c.self.inside.book c.args.self.now.book c.args.call (ap book_in c.self.view_is) c.requires in
+    let live = live_in c.self.inside.book c.args.self.now.book c.args.call (ap book_in c.self.view_is) c.requires.live in
     free_told c.self.inside.book c.args.call c.in_ok-check_task.field-0 live.0 c.in_ok-check_task.ensures.answer c.in-Free.is live.1
 
 pub settle_and_commit-requires-clause-whole : goal.settle_and_commit-requires-clause-whole
@@ -43,19 +46,19 @@ settle_and_commit-requires-clause-whole c = c.in_ok-check_task.ensures.records c
 
 pub invariant_of-self-in_err-commit-in-Free : goal.invariant_of-self-in_err-commit-in-Free
 invariant_of-self-in_err-commit-in-Free c =
-    let live = live_in c.self.inside.book c.args.self.now.book c.args.call (ap book_in c.self.view_is) c.requires in
+    let live = live_in c.self.inside.book c.args.self.now.book c.args.call (ap book_in c.self.view_is) c.requires.live in
     let k = core_set c.self.inside.book c.self.inside.store c.self.inside.tasks.items c.args.call c.check_task.new.running c.self.invariant.0 live c.check_task.ensures.task in
     let same = c.in_err-commit-in-Free.ensures.made in
     (record { stored = c.settle_and_commit.ensures.stored; numbers = numbers_same c.self.inside.book c.settle_and_commit.new.book same c.self.invariant.0.numbers; tasks = (core_same c.self.inside.book c.settle_and_commit.new.book c.self.inside.store _ k same).tasks }, last_same c.self.inside.book c.settle_and_commit.new.book c.self.inside.last c.self.invariant.1 same)
 
 pub end_task-requires : goal.end_task-requires
 end_task-requires c =
-    let lt : c.args.call < length c.self.inside.tasks.items = task_within c.self.inside.book.script c.self.inside.book.course c.self.inside.tasks.items c.args.call c.self.invariant.0.tasks (live_in c.self.inside.book c.args.self.now.book c.args.call (ap book_in c.self.view_is) c.requires) in
+    let lt : c.args.call < length c.self.inside.tasks.items = task_within c.self.inside.book.script c.self.inside.book.course c.self.inside.tasks.items c.args.call c.self.invariant.0.tasks (live_in c.self.inside.book c.args.self.now.book c.args.call (ap book_in c.self.view_is) c.requires.live) in
     search (rules, lt)
 
 pub invariant_of-self-in-Free : goal.invariant_of-self-in-Free
 invariant_of-self-in-Free c =
-    let live = live_in c.self.inside.book c.args.self.now.book c.args.call (ap book_in c.self.view_is) c.requires in
+    let live = live_in c.self.inside.book c.args.self.now.book c.args.call (ap book_in c.self.view_is) c.requires.live in
     let k = core_set c.self.inside.book c.self.inside.store c.self.inside.tasks.items c.args.call c.check_task.new.running c.self.invariant.0 live c.check_task.ensures.task in
     let made = c.in_ok-commit-in-Free.ensures.made.0 in (
       subst (λ (ts : List (Option Running)). IsCore c.settle_and_commit.new.book c.settle_and_commit.new.store ts) (sym c.end_task.ensures.tasks) (record {
@@ -67,10 +70,10 @@ invariant_of-self-in-Free c =
     )
 
 pub invariant_of-self-in-Hit : goal.invariant_of-self-in-Hit
-invariant_of-self-in-Hit c = (core_set c.self.inside.book c.self.inside.store c.self.inside.tasks.items c.args.call c.check_task.new.running c.self.invariant.0 (live_in c.self.inside.book c.args.self.now.book c.args.call (ap book_in c.self.view_is) c.requires) c.check_task.ensures.task, c.self.invariant.1)
+invariant_of-self-in-Hit c = (core_set c.self.inside.book c.self.inside.store c.self.inside.tasks.items c.args.call c.check_task.new.running c.self.invariant.0 (live_in c.self.inside.book c.args.self.now.book c.args.call (ap book_in c.self.view_is) c.requires.live) c.check_task.ensures.task, c.self.invariant.1)
 
 pub invariant_of-self-in-Stale : goal.invariant_of-self-in-Stale
-invariant_of-self-in-Stale c = (core_set c.self.inside.book c.self.inside.store c.self.inside.tasks.items c.args.call c.check_task.new.running c.self.invariant.0 (live_in c.self.inside.book c.args.self.now.book c.args.call (ap book_in c.self.view_is) c.requires) c.check_task.ensures.task, c.self.invariant.1)
+invariant_of-self-in-Stale c = (core_set c.self.inside.book c.self.inside.store c.self.inside.tasks.items c.args.call c.check_task.new.running c.self.invariant.0 (live_in c.self.inside.book c.args.self.now.book c.args.call (ap book_in c.self.view_is) c.requires.live) c.check_task.ensures.task, c.self.invariant.1)
 
 pub returns-in_err-commit-in-Free-clause-made : goal.returns-in_err-commit-in-Free-clause-made
 returns-in_err-commit-in-Free-clause-made c =
@@ -85,15 +88,15 @@ returns-in_ok-commit-in-Free-clause-made c = (
 
 pub returns-in-Hit-clause-made : goal.returns-in-Hit-clause-made
 returns-in-Hit-clause-made c =
-    let live = live_in c.self.inside.book c.args.self.now.book c.args.call (ap book_in c.self.view_is) c.requires in
+    let live = live_in c.self.inside.book c.args.self.now.book c.args.call (ap book_in c.self.view_is) c.requires.live in
     subst (λ (b : Booked). HasTried c.args.call (Ok (attempt.Hit c.in-Hit.number c.in-Hit.commit)) b c.self.inside.book) (ap book_in c.self.view_is)
     (hit_told c.self.inside.book c.args.call c.in-Hit.number c.in-Hit.commit c.in_ok-check_task.field-0 live.0 c.in_ok-check_task.ensures.answer c.in-Hit.is live.1, same_self c.self.inside.book)
 
 pub returns-in-Stale-clause-made : goal.returns-in-Stale-clause-made
 returns-in-Stale-clause-made c =
-    let live = live_in c.self.inside.book c.args.self.now.book c.args.call (ap book_in c.self.view_is) c.requires in
+    let live = live_in c.self.inside.book c.args.self.now.book c.args.call (ap book_in c.self.view_is) c.requires.live in
     subst (λ (b : Booked). HasTried c.args.call (Ok (attempt.Stale c.in-Stale.start c.in-Stale.low)) b c.self.inside.book) (ap book_in c.self.view_is)
-    (stale_told c.self.inside.book c.args.call c.in-Stale.start c.in-Stale.low c.in_ok-check_task.field-0 live.0 c.in_ok-check_task.ensures.answer c.in-Stale.is live.1, same_self c.self.inside.book)
+    (stale_told c.self.inside.book c.args.call c.in-Stale.start c.in-Stale.low c.in_ok-check_task.field-0 live.0 c.in_ok-check_task.ensures.answer c.in-Stale.is (subst (λ (b : Booked). IsNoReader b c.args.call) (sym (ap book_in c.self.view_is)) c.requires.kind) live.1, same_self c.self.inside.book)
 
 pub returns-in_err-check_task-clause-others : goal.returns-in_err-check_task-clause-others
 returns-in_err-check_task-clause-others c = others_set c.args.call c.self.inside.tasks.items (Some c.check_task.new.running) c.args.self.now (ap tasks_in c.self.view_is)
@@ -112,6 +115,6 @@ returns-in-Stale-clause-others c = others_set c.args.call c.self.inside.tasks.it
 
 pub returns-in-Hit-clause-whole : goal.returns-in-Hit-clause-whole
 returns-in-Hit-clause-whole c =
-    let live = live_in c.self.inside.book c.args.self.now.book c.args.call (ap book_in c.self.view_is) c.requires in
+    let live = live_in c.self.inside.book c.args.self.now.book c.args.call (ap book_in c.self.view_is) c.requires.live in
     whole_set c.self.inside.book.script c.self.inside.book.course c.self.inside.book c.self.inside.tasks.items c.args.call c.check_task.new.running c.self.invariant.0.tasks live
     (c.in_ok-check_task.ensures.hit c.in-Hit.number c.in-Hit.commit c.in-Hit.is)

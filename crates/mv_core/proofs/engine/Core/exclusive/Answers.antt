@@ -4,11 +4,11 @@ use Rattle.mv_journal.specs.declared.event.Event.TheVariants.{X}
 use Rattle.std.specs.Prelude.{not}
 use Rattle.mv_lawful.specs.Lawful.{has_round}
 use Rattle.mv_core.specs.Books.{Booked, work_in, Made, IsSame, IsNotStale}
-use Rattle.mv_core.specs.Cores.{IsCore}
+use Rattle.mv_core.specs.Cores.{IsAllowedIfFresh, IsCore}
 use Rattle.mv_core.specs.declared.tasks.Running.{Running}
 use Rattle.mv_core.proofs.Taking.{task_there, task_within, tasks_set, tasks_same, decided_on, call_within, due_first, core_set, running_in}
 use Rattle.mv_core.proofs.Stored.{shows_start, fresh_start}
-use Rattle.mv_core.proofs.Refusing.{repairs_last}
+use Rattle.mv_core.proofs.Refusing.{last_writes, repairs_last}
 use Rattle.mv_core.proofs.Numbered.{numbers_same, numbers_other}
 use Rattle.mv_core.proofs.Changed.{live_in, same_self, fresh_now_allowed, refused_same, book_in, tasks_in}
 use Rattle.mv_core.proofs.Recorded.{others_set, others_twice}
@@ -52,7 +52,7 @@ pub decide_task-requires-clause-allowed : goal.decide_task-requires-clause-allow
 decide_task-requires-clause-allowed c =
     let live = live_in c.self.inside.book c.args.self.now.book c.args.call (ap book_in c.self.view_is) c.requires.live in
     fresh_now_allowed c.self.inside.book c.args.self.now.book c.args.call live.0 (X c.args.call) (not (has_round (work_in c.self.inside.book) live.0)) (ap book_in c.self.view_is)
-    (repairs_last (work_in c.self.inside.book) c.self.inside.book.course c.args.call live.0 live.1) c.requires.allowed
+    (repairs_last (work_in c.self.inside.book) c.self.inside.book.course c.args.call live.0 (last_writes c.self.inside.book c.args.call live.0 live.1 (subst (λ (b : Booked). IsAllowedIfFresh b (X c.args.call)) (sym (ap book_in c.self.view_is)) c.requires.allowed)) live.1) c.requires.allowed
     (subst (λ (b : Booked). IsNotStale b c.args.call) (sym (ap book_in c.self.view_is)) c.in_ok-refuse_stale.ensures.fresh live.0 live.1)
 
 pub invariant_of-self-in_err-commit : goal.invariant_of-self-in_err-commit

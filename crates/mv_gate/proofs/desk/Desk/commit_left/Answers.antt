@@ -6,30 +6,24 @@ use Rattle.mv_core.specs.Books.{Booked, IsNotStale}
 use Rattle.mv_core.proofs.Changed.{same_self}
 use Rattle.mv_gate.specs.Gates.{IsWhole, IsPastIn, MayMove, GoesOn}
 use Rattle.mv_gate.proofs.Committing.{told_moves}
-use Rattle.mv_gate.proofs.Ending.{keeps_same, keeps_late, done_late}
+use Rattle.mv_gate.proofs.Ending.{keeps_same}
 use Rattle.mv_gate.proofs.Leaving.{left_moves}
 use Rattle.mv_gate.proofs.desk.Desk.commit_left.Goals as goal
 
 pub is_stale-requires : goal.is_stale-requires
 is_stale-requires g c = subst (λ (b : Booked). IsLiveCall b.course c.args.call) (sym c.self.view_is) c.requires.live
 
-pub move_and_commit-requires : goal.move_and_commit-requires
-move_and_commit-requires g c =
+pub move_left-requires : goal.move_left-requires
+move_left-requires g c =
     subst (λ (b : Booked). MayMove b c.args.call) c.self.view_is
     (told_moves c.self.inside.book c.args.call c.journal-events.ensures.allowed c.journal-events.ensures.reaches (subst (λ (b : Booked). IsLiveCall b.course c.args.call) (sym c.self.view_is) c.requires.live)
     (subst (λ (b : Booked). c.args.call < length b.script.calls) (sym c.self.view_is) c.requires.number) (λ l live. sym (c.is_stale.ensures l live) ∙ c.if-is_stale.true))
 
-pub returns-then-is_stale-clause-kept : goal.returns-then-is_stale-clause-kept
-returns-then-is_stale-clause-kept g c = keeps_late c.move_and_commit.result c.args.call c.args.self.now c.move_and_commit.new.self c.move_and_commit.ensures c.requires.live
-
-pub returns-then-is_stale-clause-done : goal.returns-then-is_stale-clause-done
-returns-then-is_stale-clause-done g c = done_late c.args.call c.in_ok-move_and_commit.field-0 c.args.self.now c.move_and_commit.new.self c.in_ok-move_and_commit.ensures c.requires.live
-
 pub returns-in_err-task-clause-kept : goal.returns-in_err-task-clause-kept
 returns-in_err-task-clause-kept g c = subst (λ (b : Booked). GoesOn c.args.self.now b) (sym c.renew.ensures.same) (keeps_same c.args.self.now c.args.self.now (same_self c.args.self.now))
 
-pub move_and_commit-requires-in_default : goal.move_and_commit-requires-in_default
-move_and_commit-requires-in_default g c =
+pub move_left-requires-in_default : goal.move_left-requires-in_default
+move_left-requires-in_default g c =
     subst (λ (b : Booked). MayMove b c.args.call) (sym c.renew.ensures.same) (left_moves c.args.self.now c.args.call c.requires.live c.requires.number
     (subst (λ (o : Option Task). IfNone o (IsPastIn c.args.self.now c.args.call)) c.in_default.is c.in_ok-task.ensures.past))
 
@@ -44,11 +38,5 @@ finish_left-requires-clause-fresh g c =
 pub returns-clause-kept : goal.returns-clause-kept
 returns-clause-kept g c = subst (λ (b : Booked). GoesOn b c.finish_left.new.self) c.renew.ensures.same c.finish_left.ensures.kept
 
-pub returns-in_default-clause-done : goal.returns-in_default-clause-done
-returns-in_default-clause-done g c =
-    done_late c.args.call c.in_ok-move_and_commit-2.field-0 c.renew.new.self c.move_and_commit-in_default.new.self c.in_ok-move_and_commit-2.ensures (subst (λ (b : Booked). IsLiveCall b.course c.args.call) (sym c.renew.ensures.same) c.requires.live)
-
 pub returns-in_default-clause-kept : goal.returns-in_default-clause-kept
-returns-in_default-clause-kept g c =
-    subst (λ (b : Booked). GoesOn b c.move_and_commit-in_default.new.self) c.renew.ensures.same
-    (keeps_late c.move_and_commit-in_default.result c.args.call c.renew.new.self c.move_and_commit-in_default.new.self c.move_and_commit-in_default.ensures (subst (λ (b : Booked). IsLiveCall b.course c.args.call) (sym c.renew.ensures.same) c.requires.live))
+returns-in_default-clause-kept g c = subst (λ (b : Booked). GoesOn b c.move_left-in_default.new.self) c.renew.ensures.same c.move_left-in_default.ensures.kept

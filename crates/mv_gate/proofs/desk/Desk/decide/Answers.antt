@@ -1,12 +1,24 @@
-use Rattle.std.proofs.Common.{◌≡◌, None, sym, subst}
+use Rattle.std.proofs.Common.{◌≡◌, None, sym, subst, ◌∙◌}
 use Rattle.mv_script.specs.Scripts.{IsScript}
 use Rattle.mv_journal.specs.declared.event.Event.TheVariants.{C}
 use Rattle.mv_lawful.specs.Lawful.{refusal}
-use Rattle.mv_core.specs.Books.{work_in, Booked}
+use Rattle.mv_core.specs.Books.{work_in, Booked, IsNoReader}
 use Rattle.mv_gate.specs.Gates.{IsWhole, MayMove}
 use Rattle.mv_gate.proofs.Holding.{whole_writes}
 use Rattle.mv_gate.proofs.Committing.{stale_moves}
 use Rattle.mv_gate.proofs.desk.Desk.decide.Goals as goal
+
+pub is_read_only-requires : goal.is_read_only-requires
+is_read_only-requires g c = c.requires.whole.there
+
+pub decide_read-requires-clause-kind : goal.decide_read-requires-clause-kind
+decide_read-requires-clause-kind g c = sym c.is_read_only.ensures ∙ c.if-is_read_only.true
+
+pub returns-then-is_read_only-clause-repair : goal.returns-then-is_read_only-clause-repair
+returns-then-is_read_only-clause-repair g c = c.decide_read.ensures.repair c.args.start.number
+
+pub check-requires-clause-kind : goal.check-requires-clause-kind
+check-requires-clause-kind g c = subst (λ (b : Booked). IsNoReader b c.args.call) (sym c.self.view_is) (sym c.is_read_only.ensures ∙ c.if-is_read_only.false)
 
 pub check-requires-clause-live : goal.check-requires-clause-live
 check-requires-clause-live g c = (subst (λ (b : Booked). IsWhole b c.args.call c.args.task) (sym c.self.view_is) c.requires.whole).live

@@ -17,6 +17,29 @@ returns-then-has_round-clause-ok g c = record {
   made = c.in_ok-moved.ensures.ok;
 }
 
+pub is_read_only-requires : goal.is_read_only-requires
+is_read_only-requires g c = c.requires.call.there
+
+pub move_and_answer-requires-clause-kind : goal.move_and_answer-requires-clause-kind
+move_and_answer-requires-clause-kind g c = sym c.is_read_only.ensures ∙ c.if-is_read_only.true
+
+pub returns-then-is_read_only-clause-ok : goal.returns-then-is_read_only-clause-ok
+returns-then-is_read_only-clause-ok g c =
+    let made = c.in_ok-start.ensures.0 in
+    inr (
+      record {
+        past = c.requires.call.past;
+        none_left = subst (λ (b : Booked). HasRound false b c.args.call) c.self.view_is (λ l live. sym (c.has_round.ensures l live) ∙ c.if-has_round.false);
+        mid = made.0;
+        moved = made.1;
+        answered = made.2;
+      },
+      c.in_ok-start.ensures.1,
+    )
+
+pub move_and_commit-requires-clause-kind : goal.move_and_commit-requires-clause-kind
+move_and_commit-requires-clause-kind g c = sym c.is_read_only.ensures ∙ c.if-is_read_only.false
+
 pub returns-clause-ok : goal.returns-clause-ok
 returns-clause-ok g c =
     let made = c.in_ok-commit.ensures.0 in (

@@ -5,7 +5,8 @@ use Rattle.mv_journal.specs.declared.event.Event.TheVariants.{M}
 use Rattle.mv_journal.specs.declared.outcome.Mark.TheVariants.{Moved}
 use Rattle.mv_lawful.specs.Lawful.{Course, again}
 use Rattle.mv_script.specs.declared.script.Script.{Script}
-use Rattle.mv_core.specs.Books.{Booked, Made, IsSame}
+use Rattle.mv_script.specs.Scripts.{work_of}
+use Rattle.mv_core.specs.Books.{Booked, Made, IsSame, IsNoReader}
 use Rattle.mv_core.proofs.Moving.{live_moved}
 use Rattle.mv_core.proofs.Changed.{live_now, room_less, made_after, made_before, same_self}
 use Rattle.mv_gate.specs.Gates.{MayMove}
@@ -15,26 +16,26 @@ use Rattle.mv_gate.proofs.Committing.{reply_here, changes_here, move_allowed, mo
 use Rattle.mv_gate.proofs.desk.Desk.move_and_commit.Goals as goal
 
 pub run_last-requires : goal.run_last-requires
-run_last-requires g c = subst (λ (x : Script). c.args.call < length x.calls) c.self.invariant.script (subst (λ (b : Booked). MayMove b c.args.call) (sym c.self.view_is) c.requires).there
+run_last-requires g c = subst (λ (x : Script). c.args.call < length x.calls) c.self.invariant.script (subst (λ (b : Booked). MayMove b c.args.call) (sym c.self.view_is) c.requires.may).there
 
 pub invariant_of-self : goal.invariant_of-self
 invariant_of-self g c =
     desk_same g.N.Making.script c.self.inside.book c.self.inside.book c.self.inside.ledger c.run_last.new.ledger c.self.inside.starts.items c.self.invariant (same_self c.self.inside.book) c.run_last.ensures.seen c.run_last.ensures.commits
 
 pub reserve-requires : goal.reserve-requires
-reserve-requires g c = record { live = (subst (λ (b : Booked). MayMove b c.args.call) (sym c.self.view_is) c.requires).live }
+reserve-requires g c = record { live = (subst (λ (b : Booked). MayMove b c.args.call) (sym c.self.view_is) c.requires.may).live }
 
 pub invariant_of-self-in_err-reserve : goal.invariant_of-self-in_err-reserve
 invariant_of-self-in_err-reserve g c =
     desk_same g.N.Making.script c.self.inside.book c.reserve.new.self c.self.inside.ledger c.run_last.new.ledger c.self.inside.starts.items c.self.invariant c.reserve.ensures.same c.run_last.ensures.seen c.run_last.ensures.commits
 
 pub install-requires-clause-there : goal.install-requires-clause-there
-install-requires-clause-there g c = subst (λ (x : Script). c.args.call < length x.calls) c.self.invariant.script (subst (λ (b : Booked). MayMove b c.args.call) (sym c.self.view_is) c.requires).there
+install-requires-clause-there g c = subst (λ (x : Script). c.args.call < length x.calls) c.self.invariant.script (subst (λ (b : Booked). MayMove b c.args.call) (sym c.self.view_is) c.requires.may).there
 
 pub install-requires-clause-fresh : goal.install-requires-clause-fresh
 install-requires-clause-fresh g c =
     subst (λ (xs : List ℕ). list_any (eqb c.args.call) xs ≡ false) (sym (c.run_last.ensures.seen ∙ c.self.invariant.seen))
-    (fresh_call c.self.inside.book c.args.call c.journal-events.ensures.allowed c.journal-events.ensures.reaches (subst (λ (b : Booked). MayMove b c.args.call) (sym c.self.view_is) c.requires).live)
+    (fresh_call c.self.inside.book c.args.call c.journal-events.ensures.allowed c.journal-events.ensures.reaches (subst (λ (b : Booked). MayMove b c.args.call) (sym c.self.view_is) c.requires.may).live)
 
 pub install-requires-clause-whole : goal.install-requires-clause-whole
 install-requires-clause-whole g c = last_kept g.N.Making.script c.self.inside.ledger c.run_last.new.ledger c.args.call c.in_ok-task.task.log.records c.in_ok-task.ensures.records c.run_last.ensures.seen c.run_last.ensures.commits
@@ -45,19 +46,19 @@ invariant_of-self-in_err-installed g c =
     (c.in_err-installed.ensures.err ∙ c.run_last.ensures.seen) (c.in_err-installed.ensures.stays ∙ c.run_last.ensures.commits)
 
 pub restart-requires-clause-allowed : goal.restart-requires-clause-allowed
-restart-requires-clause-allowed g c = move_allowed c.reserve.new.self c.args.call (live_now c.self.inside.book c.self.inside.book c.reserve.new.self c.args.call refl (subst (λ (b : Booked). MayMove b c.args.call) (sym c.self.view_is) c.requires).live c.reserve.ensures.same)
+restart-requires-clause-allowed g c = move_allowed c.reserve.new.self c.args.call (live_now c.self.inside.book c.self.inside.book c.reserve.new.self c.args.call refl (subst (λ (b : Booked). MayMove b c.args.call) (sym c.self.view_is) c.requires.may).live c.reserve.ensures.same)
 
 pub restart-requires-clause-room : goal.restart-requires-clause-room
 restart-requires-clause-room g c = room_less c.reserve.new.self c.args.call 2 1 (omega arith) c.in_ok-reserve.ensures.room
 
 pub settle-requires-clause-live : goal.settle-requires-clause-live
 settle-requires-clause-live g c =
-    let live = live_now c.self.inside.book c.self.inside.book c.reserve.new.self c.args.call refl (subst (λ (b : Booked). MayMove b c.args.call) (sym c.self.view_is) c.requires).live c.reserve.ensures.same in
+    let live = live_now c.self.inside.book c.self.inside.book c.reserve.new.self c.args.call refl (subst (λ (b : Booked). MayMove b c.args.call) (sym c.self.view_is) c.requires.may).live c.reserve.ensures.same in
     (again (length c.reserve.new.self.course.order) Moved live.0, live_moved c.args.call c.reserve.new.self c.restart.new.self live.0 live.1 c.restart.ensures.made)
 
 pub settle-requires-clause-number : goal.settle-requires-clause-number
 settle-requires-clause-number g c none =
-    moved_number c.reserve.new.self c.restart.new.self c.args.call c.in_ok-task.task (live_now c.self.inside.book c.self.inside.book c.reserve.new.self c.args.call refl (subst (λ (b : Booked). MayMove b c.args.call) (sym c.self.view_is) c.requires).live c.reserve.ensures.same) c.restart.ensures.made
+    moved_number c.reserve.new.self c.restart.new.self c.args.call c.in_ok-task.task (live_now c.self.inside.book c.self.inside.book c.reserve.new.self c.args.call refl (subst (λ (b : Booked). MayMove b c.args.call) (sym c.self.view_is) c.requires.may).live c.reserve.ensures.same) c.restart.ensures.made
     (latest_here g.N.Making.script c.reserve.new.self c.self.inside.ledger c.args.call c.in_ok-task.task (c.reserve.ensures.same.script ∙ c.self.invariant.script)
     (seen_still c.self.inside.book.course.order c.reserve.new.self.course.order c.self.inside.ledger c.self.inside.ledger (desk_seen g.N.Making.script c.self.inside.book c.self.inside.ledger c.self.inside.starts.items c.self.invariant) (ap (λ (x : Course). x.order) c.reserve.ensures.same.course) refl refl)
     c.in_ok-task.ensures.runs c.in_ok-task.ensures.ended c.in_ok-task.ensures.records) c.in_ok-task.ensures.executed
@@ -67,7 +68,7 @@ commit-commit-requires-clause-allowed g c =
     let low = ap (λ (s : Course). s.low) c.reserve.ensures.same.course in
     let order = ap (λ (s : Course). length s.order) c.reserve.ensures.same.course in
     let below = c.self.invariant.low in
-    moved_free c.reserve.new.self c.settle.new.self c.args.call (omega (arith, low, order, below)) (live_now c.self.inside.book c.self.inside.book c.reserve.new.self c.args.call refl (subst (λ (b : Booked). MayMove b c.args.call) (sym c.self.view_is) c.requires).live c.reserve.ensures.same)
+    moved_free c.reserve.new.self c.settle.new.self c.args.call (ap (λ (s : Script). (work_of s).read_only c.args.call) c.reserve.ensures.same.script ∙ subst (λ (b : Booked). IsNoReader b c.args.call) (sym c.self.view_is) c.requires.kind) (omega (arith, low, order, below)) (live_now c.self.inside.book c.self.inside.book c.reserve.new.self c.args.call refl (subst (λ (b : Booked). MayMove b c.args.call) (sym c.self.view_is) c.requires.may).live c.reserve.ensures.same)
     (made_before (M c.args.call) c.reserve.new.self c.restart.new.self c.settle.new.self c.restart.ensures.made c.settle.ensures.same)
 
 pub commit-commit-requires-clause-reply : goal.commit-commit-requires-clause-reply
@@ -91,13 +92,13 @@ commit-commit-requires-clause-room g c = c.settle.ensures.room c.args.call 1 (c.
 
 pub index_mut-requires : goal.index_mut-requires
 index_mut-requires g c =
-    let lt : c.args.call < length c.self.inside.starts.items = entry_there g.N.Making.script c.self.inside.book.course c.self.inside.starts.items c.args.call c.self.invariant.touched (subst (λ (b : Booked). MayMove b c.args.call) (sym c.self.view_is) c.requires).live in
+    let lt : c.args.call < length c.self.inside.starts.items = entry_there g.N.Making.script c.self.inside.book.course c.self.inside.starts.items c.args.call c.self.invariant.touched (subst (λ (b : Booked). MayMove b c.args.call) (sym c.self.view_is) c.requires.may).live in
     search (rules, lt)
 
 pub invariant_of-self-2 : goal.invariant_of-self-2
 invariant_of-self-2 g c =
     desk_gone c.args.call g.N.Making.script c.self.inside.book c.settle.new.self c.commit-commit.new.self c.self.inside.ledger c.install.new.ledger c.self.inside.starts.items c.self.invariant c.journal-events.ensures.allowed c.journal-events.ensures.reaches
-    (subst (λ (b : Booked). MayMove b c.args.call) (sym c.self.view_is) c.requires).live (subst (λ (b : Booked). MayMove b c.args.call) (sym c.self.view_is) c.requires).past
+    (subst (λ (b : Booked). MayMove b c.args.call) (sym c.self.view_is) c.requires.may).live (subst (λ (b : Booked). MayMove b c.args.call) (sym c.self.view_is) c.requires.may).past
     (made_after (M c.args.call) c.self.inside.book c.reserve.new.self c.settle.new.self c.reserve.ensures.same (made_before (M c.args.call) c.reserve.new.self c.restart.new.self c.settle.new.self c.restart.ensures.made c.settle.ensures.same))
     c.commit-commit.ensures.made (c.in_ok-installed.ensures.appended ∙ ap (λ (xs : List ℕ). xs ++ c.args.call ∷ []) c.run_last.ensures.seen) (c.in_ok-installed.ensures.counted ∙ ap (λ n. n + 1) c.run_last.ensures.commits)
 

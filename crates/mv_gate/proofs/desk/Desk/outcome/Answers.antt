@@ -6,13 +6,16 @@ use Rattle.mv_journal.specs.declared.outcome.Outcome.{Outcome}
 use Rattle.mv_lawful.specs.Lawful.{Lawful, open_call}
 use Rattle.mv_lawful.specs.Outcomes.{outcome_of}
 use Rattle.mv_seats.specs.Scripts.{Script as BoardScript}
-use Rattle.mv_shards.specs.Scripts.{work}
+use Rattle.mv_shards.specs.Scripts.{script_in, work}
 use Rattle.mv_shards.specs.Ledgers.{Entered}
 use Rattle.mv_core.specs.Books.{Booked, work_in}
 use Rattle.mv_gate.specs.Gates.{IsDesk, IsOutcome}
 use Rattle.mv_gate.proofs.Desks.{desk_seen, idle_order}
 use Rattle.mv_gate.proofs.Committing.{tables_here}
 use Rattle.mv_gate.proofs.Ending.{outcome_told, journal_told}
+use Rattle.mv_lawful.specs.Work.{ReadersKeepTables}
+use Rattle.mv_script.proofs.Readers.{keeps_tables}
+use Rattle.mv_gate.proofs.Serializing.{if_ok}
 use Rattle.mv_gate.proofs.desk.Desk.outcome.Goals as goal
 
 outcome_from : (s : BoardScript) (b : Booked) (ledger : Entered) (starts : List (Option (List ℕ))) (r : Result Outcome NoMemory) → IsDesk s b ledger starts → Lawful (work_in b) b.journal → IfOk r (λ o. o ≡ outcome_of (work_in b) b.journal)
@@ -38,3 +41,6 @@ returns-clause-outcome g c = outcome_from g.N.Making.script c.self.inside.book c
 
 pub returns-clause-journal : goal.returns-clause-journal
 returns-clause-journal g c = journal_told c.args.self c.self.inside.book c.outcome.result c.self.view_is c.outcome.ensures.outcome
+
+pub returns-clause-readers : goal.returns-clause-readers
+returns-clause-readers g c = if_ok c.outcome.result (ReadersKeepTables (work g.N.Making.script)) (keeps_tables (script_in g.N.Making.script) c.self.invariant.sound)
