@@ -1,6 +1,6 @@
 -- Rounds and their numbers, and what the first commits come to.
 use Rattle.std.proofs.Common.{◌≡◌, ◌⊎◌, inl, inr, ℕ, zero, suc, ◌+◌, ◌-◌, ◌<◌, ◌≤◌, Bool, true, false, not, cond, List, [], ◌∷◌, ◌++◌, Option, Some, None, length, take, drop, slice_set, refl, sym, ap, subst, ◌∙◌, arith, rules, length-append}
-use Rattle.std.specs.Prelude.{◌==◌, ◌↔◌, IsSome, nat_lt, slice_get, option_to_list}
+use Rattle.std.specs.Prelude.{◌==◌, ◌↔◌, ◌||◌, IsSome, nat_lt, slice_get, option_to_list, if◌then◌else◌}
 use Rattle.std.specs.List.{flat_map, position, position_or_len}
 use Rattle.std.proofs.lemmas.List.{take-append-le, drop-append-le, length-drop}
 use Rattle.std.proofs.lemmas.Bool.{eqb-true, eq-eqb}
@@ -15,6 +15,8 @@ use Rattle.mv_lawful.proofs.Turns.{length_changes}
 use Rattle.mv_lawful.specs.Work.{Work, tables_after, table_at, records_at, changes_after, changes_up_to}
 use Rattle.mv_lawful.specs.Lawful.{Turn}
 use Rattle.mv_lawful.specs.Rounds.{whole_run, repair_run, later_run, unless_moved, round, later_rounds, rounds_of}
+use Rattle.mv_lawful.specs.Outcomes.{commits_before}
+use Rattle.mv_lawful.proofs.Serial.{stands, stands_same, stands_other}
 use Rattle.mv_audit.specs.Courses.{WithinRounds, turn_of, turns_in, unnumbered, closed, last_start}
 
 -- Lists
@@ -214,3 +216,32 @@ pub found_stays : (cs : List ℕ) (c d k : ℕ) → position (λ x. x == c) cs �
 found_stays cs c d k is =
     let p = at_place cs c k is in
     found_at (cs ++ d ∷ []) c k (same_place cs c d p.1 ∙ p.0) (let n = length-append cs (d ∷ []) in let a = p.0 in let b = p.1 in omega (arith, n, a, b))
+
+-- The commits before a call
+
+pub neither_left : (a b : Bool) → (a || b) ≡ false → a ≡ false
+neither_left true b h = cc
+neither_left false b h = refl
+
+pub neither_right : (a b : Bool) → (a || b) ≡ false → b ≡ false
+neither_right true b h = cc
+neither_right false b h = h
+
+-- one commit more comes after the commits before a call that is done
+pub before_stays : (order answers : List ℕ) (start c d k : ℕ) → commits_before order answers start c ≡ Some k → commits_before (order ++ d ∷ []) answers start c ≡ Some k
+before_stays order answers start c d k is = by (stands c answers) is where
+  by : (b : Bool) → (if b then Some start else position (λ x. x == c) order) ≡ Some k → (if b then Some start else position (λ x. x == c) (order ++ d ∷ [])) ≡ Some k
+  by true h = h
+  by false h = found_stays order c d k h
+
+-- all commits are before the next one
+pub before_commit : (order answers : List ℕ) (start c : ℕ) → stands c answers ≡ false → ((k : ℕ) → slice_get order k ≡ Some c → ⊥) → commits_before (order ++ c ∷ []) answers start c ≡ Some (length order)
+before_commit order answers start c away apart = ap (λ b. if b then Some start else position (λ x. x == c) (order ++ c ∷ [])) away ∙ found_last order c apart
+
+-- those up to its start are before an answered call
+pub before_answer : (order answers : List ℕ) (start c : ℕ) → commits_before order (answers ++ c ∷ []) start c ≡ Some start
+before_answer order answers start c = ap (λ b. if b then Some start else position (λ x. x == c) order) (stands_same c answers)
+
+-- the answer of another call changes nothing
+pub before_other : (order answers : List ℕ) (start c d : ℕ) → (d ≡ c → ⊥) → commits_before order (answers ++ d ∷ []) start c ≡ commits_before order answers start c
+before_other order answers start c d apart = ap (λ b. if b then Some start else position (λ x. x == c) order) (stands_other c d answers apart)

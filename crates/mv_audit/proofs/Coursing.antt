@@ -1,6 +1,6 @@
 -- What events do to what is kept.
 use Rattle.std.proofs.Common.{◌≡◌, ◌⊎◌, inl, inr, ℕ, ◌+◌, ◌<◌, ◌≤◌, Bool, true, false, List, [], ◌∷◌, ◌++◌, Option, Some, None, Result, Ok, Err, map, length, drop, get_or, slice_set, ◌^◌, refl, sym, ap, subst, ◌∙◌, arith, rules, length-append}
-use Rattle.std.specs.Prelude.{slice_get, IfOk}
+use Rattle.std.specs.Prelude.{◌||◌, slice_get, IfOk}
 use Rattle.std.specs.Option.{is_some}
 use Rattle.std.proofs.lemmas.List.{map-append, map-set, length-map, length-set, take_all, drop-append-le}
 use Rattle.std.proofs.lemmas.Option.{slice_get_within, slice_get_read, same_Some}
@@ -26,7 +26,7 @@ use Rattle.mv_recorded.proofs.Rising.{recorded_rises}
 use Rattle.mv_history.specs.declared.change.Change.{Change}
 use Rattle.mv_history.specs.Changes.{changes_between}
 use Rattle.mv_journal.specs.declared.event.Event.{Event}
-use Rattle.mv_journal.specs.declared.event.Event.TheVariants.{B, S, A, M, C, X, G}
+use Rattle.mv_journal.specs.declared.event.Event.TheVariants.{B, S, A, M, C, X, R, G}
 use Rattle.mv_journal.specs.declared.outcome.Mark.{Mark}
 use Rattle.mv_journal.specs.declared.outcome.Mark.TheVariants.{Plain, Exclusive, Moved}
 use Rattle.mv_lawful.proofs.Serial.{OrderlyAt, orderly_after, stands, stands_at, at_beginning}
@@ -35,9 +35,9 @@ use Rattle.mv_lawful.specs.Work.{Work, tables_after, table_at, records_at, chang
 use Rattle.mv_lawful.specs.Lawful.{Turn, Live, Course, beginning, change_live, with_call, begin, again, finish, refusal, after}
 use Rattle.mv_audit.specs.declared.course.Live.{Live as Kept}
 use Rattle.mv_audit.specs.declared.course.Course.{Course as State}
-use Rattle.mv_audit.specs.Courses.{audited, turns_in, live_of, course_of, fresh, restarted, finished, round_event, mark_of, commit_event, begun_state, again_state, committed_state, left_by, TellsRun, TellsCall, IsTrimmed, IsLive, IsLiveCall, IsCourse}
-use Rattle.mv_audit.proofs.Counting.{get_last, get_set, changes_more}
-use Rattle.mv_audit.proofs.Standing.{tells_more, fresh_tells, again_tells, finished_tells, turns_more}
+use Rattle.mv_audit.specs.Courses.{audited, turns_in, live_of, course_of, fresh, restarted, finished, answered, round_event, mark_of, commit_event, begun_state, again_state, committed_state, answered_state, left_by, TellsRun, TellsCall, IsTrimmed, IsLive, IsLiveCall, IsCourse}
+use Rattle.mv_audit.proofs.Counting.{get_last, get_set, changes_more, neither_left, neither_right}
+use Rattle.mv_audit.proofs.Standing.{tells_more, tells_other, fresh_tells, again_tells, finished_tells, answered_tells, turns_more}
 use Rattle.mv_audit.proofs.Refusing.{live_seen, drop_later, since_kept}
 
 many_commits : (infos : List TableInfo) (w : Work) (s : State) → IsCourse infos w s → length s.commits ≡ length s.order
@@ -45,18 +45,21 @@ many_commits infos w s k = k.many
 
 -- The beginning
 
-pub opened_seen : (s : State) → s.order ≡ [] → s.calls ≡ [] → course_of s ≡ beginning
-opened_seen s order calls = ap (λ (o : List ℕ). record { order = o; calls = map live_of s.calls; low = 0 }) order ∙ ap (λ (ls : List Kept). record { order = []; calls = map live_of ls; low = 0 }) calls
+pub opened_seen : (s : State) → s.order ≡ [] → s.answered ≡ [] → s.calls ≡ [] → course_of s ≡ beginning
+opened_seen s order answers calls =
+    ap (λ (o : List ℕ). record { order = o; calls = map live_of s.calls; low = 0; answered = s.answered }) order
+    ∙ (ap (λ (cs : List ℕ). record { order = []; calls = map live_of s.calls; low = 0; answered = cs }) answers
+    ∙ ap (λ (ls : List Kept). record { order = []; calls = map live_of ls; low = 0; answered = [] }) calls)
 
-pub opened_kept : (p : Program) (rounds : ℕ) (s : State) → IsProgram p → s.order ≡ [] → s.commits ≡ [] → s.calls ≡ [] → s.tables ≡ p.opening → s.low ≡ 0 → IsCourse p.resolved.tables (audited p rounds) s
-opened_kept p rounds s whole order commits calls tables low = record {
+pub opened_kept : (p : Program) (rounds : ℕ) (s : State) → IsProgram p → s.order ≡ [] → s.answered ≡ [] → s.commits ≡ [] → s.calls ≡ [] → s.tables ≡ p.opening → s.low ≡ 0 → IsCourse p.resolved.tables (audited p rounds) s
+opened_kept p rounds s whole order answers commits calls tables low = record {
   database = subst (IsDatabaseOf p.resolved.tables) (sym tables) whole.opening;
   tables = tables ∙ sym (ap (λ o. table_at (audited p rounds) o (length o)) order);
   many = ap length commits ∙ sym (ap length order);
   wide = omega (arith, low);
   changes = ap (drop s.low) (commits ∙ sym (ap (changes_after (audited p rounds) p.opening) order));
   needed = λ c l at live. omega (arith, low);
-  orderly = subst (OrderlyAt (audited p rounds)) (sym (opened_seen s order calls)) (at_beginning (audited p rounds));
+  orderly = subst (OrderlyAt (audited p rounds)) (sym (opened_seen s order answers calls)) (at_beginning (audited p rounds));
   tells = λ c l at. absurd (none c l (sym (ap (λ ls. slice_get ls c) calls) ∙ at));
 } where
   none : (c : ℕ) (l : Kept) → slice_get [] c ≡ Some l → ⊥
@@ -64,33 +67,35 @@ opened_kept p rounds s whole order commits calls tables low = record {
 
 -- A call begins
 
-pub begun_seen : (w : Work) (s : State) (new : List Record) → course_of (begun_state s new) ≡ after w (course_of s) (B (length s.calls))
-begun_seen w s new = ap (λ (ls : List Live). record { order = s.order; calls = ls; low = 0 }) (map-append live_of s.calls (fresh (length s.order) new ∷ []))
+pub begun_seen : (w : Work) (s : State) (new : List Record) (given : Reply) → course_of (begun_state s new given) ≡ after w (course_of s) (B (length s.calls))
+begun_seen w s new given = ap (λ (ls : List Live). record { order = s.order; calls = ls; low = 0; answered = s.answered }) (map-append live_of s.calls (fresh (length s.order) new given ∷ []))
 
-pub begun_kept : (infos : List TableInfo) (w : Work) (s : State) (new : List Record) → IsCourse infos w s → refusal w (course_of s) (B (length s.calls)) ≡ None → new ≡ records_at w s.order (length s.order) (length s.calls)
-    → IsCourse infos w (begun_state s new)
-begun_kept infos w s new k free is = record {
+pub begun_kept : (infos : List TableInfo) (w : Work) (s : State) (new : List Record) (given : Reply) → IsCourse infos w s → refusal w (course_of s) (B (length s.calls)) ≡ None → new ≡ records_at w s.order (length s.order) (length s.calls)
+    → given ≡ (w.run (length s.calls) (table_at w s.order (length s.order))).reply → IsCourse infos w (begun_state s new given)
+begun_kept infos w s new given k free is told = record {
   database = k.database;
   tables = k.tables;
   many = k.many;
   wide = k.wide;
   changes = k.changes;
-  needed = λ c l at live. first c l live (get_last s.calls (fresh (length s.order) new) c l at);
-  orderly = subst (OrderlyAt w) (sym (begun_seen w s new)) (orderly_after w (course_of s) (B (length s.calls)) free k.orderly);
-  tells = λ c l at. by c l (get_last s.calls (fresh (length s.order) new) c l at);
+  needed = λ c l at live. first c l live (get_last s.calls (fresh (length s.order) new given) c l at);
+  orderly = subst (OrderlyAt w) (sym (begun_seen w s new given)) (orderly_after w (course_of s) (B (length s.calls)) free k.orderly);
+  tells = λ c l at. by c l (get_last s.calls (fresh (length s.order) new given) c l at);
 } where
-  by : (c : ℕ) (l : Kept) → (slice_get s.calls c ≡ Some l) ⊎ ((c ≡ length s.calls) × (fresh (length s.order) new ≡ l)) → TellsCall w s.order c l
+  by : (c : ℕ) (l : Kept) → (slice_get s.calls c ≡ Some l) ⊎ ((c ≡ length s.calls) × (fresh (length s.order) new given ≡ l)) → TellsCall w s.order s.answered c l
   by c l (inl at) = k.tells c l at
-  by c l (inr h) = subst (TellsCall w s.order c) h.1 (fresh_tells w s.order c new (is ∙ ap (records_at w s.order (length s.order)) (sym h.0)))
+  by c l (inr h) =
+      subst (TellsCall w s.order s.answered c) h.1
+      (fresh_tells w s.order s.answered c new given (is ∙ ap (records_at w s.order (length s.order)) (sym h.0)) (told ∙ ap (λ n. (w.run n (table_at w s.order (length s.order))).reply) (sym h.0)))
 
-  first : (c : ℕ) (l : Kept) → l.reply ≡ None → (slice_get s.calls c ≡ Some l) ⊎ ((c ≡ length s.calls) × (fresh (length s.order) new ≡ l)) → s.low ≤ l.start
+  first : (c : ℕ) (l : Kept) → l.reply ≡ None → (slice_get s.calls c ≡ Some l) ⊎ ((c ≡ length s.calls) × (fresh (length s.order) new given ≡ l)) → s.low ≤ l.start
   first c l live (inl at) = k.needed c l at live
   first c l live (inr h) = subst (λ (x : Kept). s.low ≤ x.start) h.1 k.wide
 
 -- A call is repaired or moved
 
-restarted_seen : (m : Mark) (l : Kept) (new : List Record) (commits : List (List Change)) → l.reply ≡ None → live_of (restarted l m new commits) ≡ again (length commits) m (live_of l)
-restarted_seen m l new commits live =
+restarted_seen : (m : Mark) (l : Kept) (new : List Record) (given : Reply) (commits : List (List Change)) → l.reply ≡ None → live_of (restarted l m new given commits) ≡ again (length commits) m (live_of l)
+restarted_seen m l new given commits live =
     ap (λ (ts : List Turn). record { start = length commits; turns = ts; steps = 0; done = false }) (turns_more m l (length commits) new commits)
     ∙ ap (λ o. record { start = length commits; turns = turns_in l.rounds ++ record { start = length commits; mark = m } ∷ []; steps = 0; done = is_some o }) (sym live)
 
@@ -100,34 +105,68 @@ call_seen s c l x f live is =
     ∙ (ap (slice_set (map live_of s.calls) c) is
     ∙ sym (ap (λ o. change_live o f (map live_of s.calls) c) (live_seen s c l live)))
 
-again_by : (infos : List TableInfo) (w : Work) (s : State) (c : ℕ) (l : Kept) (m : Mark) (new : List Record) → IsCourse infos w s → IsLive s c l → course_of (again_state s c l m new) ≡ with_call (course_of s) c (again (length s.order) m)
-again_by infos w s c l m new k live =
-    ap (λ (ls : List Live). record { order = s.order; calls = ls; low = 0 })
-    (call_seen s c l (restarted l m new s.commits) (again (length s.order) m) live (restarted_seen m l new s.commits live.live ∙ ap (λ n. again n m (live_of l)) (many_commits infos w s k)))
+again_by : (infos : List TableInfo) (w : Work) (s : State) (c : ℕ) (l : Kept) (m : Mark) (new : List Record) (given : Reply) → IsCourse infos w s → IsLive s c l
+    → course_of (again_state s c l m new given) ≡ with_call (course_of s) c (again (length s.order) m)
+again_by infos w s c l m new given k live =
+    ap (λ (ls : List Live). record { order = s.order; calls = ls; low = 0; answered = s.answered })
+    (call_seen s c l (restarted l m new given s.commits) (again (length s.order) m) live (restarted_seen m l new given s.commits live.live ∙ ap (λ n. again n m (live_of l)) (many_commits infos w s k)))
 
-pub again_seen : (infos : List TableInfo) (w : Work) (s : State) (c : ℕ) (l : Kept) (moved : Bool) (new : List Record) → IsCourse infos w s → IsLive s c l
-    → course_of (again_state s c l (mark_of moved) new) ≡ after w (course_of s) (round_event moved c)
-again_seen infos w s c l false new k live = again_by infos w s c l Plain new k live
-again_seen infos w s c l true new k live = again_by infos w s c l Moved new k live
+pub again_seen : (infos : List TableInfo) (w : Work) (s : State) (c : ℕ) (l : Kept) (moved : Bool) (new : List Record) (given : Reply) → IsCourse infos w s → IsLive s c l
+    → course_of (again_state s c l (mark_of moved) new given) ≡ after w (course_of s) (round_event moved c)
+again_seen infos w s c l false new given k live = again_by infos w s c l Plain new given k live
+again_seen infos w s c l true new given k live = again_by infos w s c l Moved new given k live
 
-pub again_kept : (infos : List TableInfo) (w : Work) (s : State) (c : ℕ) (l : Kept) (moved : Bool) (new : List Record) → IsCourse infos w s → IsLive s c l → refusal w (course_of s) (round_event moved c) ≡ None
-    → new ≡ records_at w s.order (length s.order) c → IsCourse infos w (again_state s c l (mark_of moved) new)
-again_kept infos w s c l moved new k live free is = record {
+pub again_kept : (infos : List TableInfo) (w : Work) (s : State) (c : ℕ) (l : Kept) (moved : Bool) (new : List Record) (given : Reply) → IsCourse infos w s → IsLive s c l → refusal w (course_of s) (round_event moved c) ≡ None
+    → new ≡ records_at w s.order (length s.order) c → given ≡ (w.run c (table_at w s.order (length s.order))).reply → IsCourse infos w (again_state s c l (mark_of moved) new given)
+again_kept infos w s c l moved new given k live free is told = record {
   database = k.database;
   tables = k.tables;
   many = k.many;
   wide = k.wide;
   changes = k.changes;
-  needed = λ d x at still. first d x still (get_set s.calls c d (restarted l (mark_of moved) new s.commits) x at);
-  orderly = subst (OrderlyAt w) (sym (again_seen infos w s c l moved new k live)) (orderly_after w (course_of s) (round_event moved c) free k.orderly);
-  tells = λ d x at. by d x (get_set s.calls c d (restarted l (mark_of moved) new s.commits) x at);
+  needed = λ d x at still. first d x still (get_set s.calls c d next x at);
+  orderly = subst (OrderlyAt w) (sym (again_seen infos w s c l moved new given k live)) (orderly_after w (course_of s) (round_event moved c) free k.orderly);
+  tells = λ d x at. by d x (get_set s.calls c d next x at);
 } where
-  by : (d : ℕ) (x : Kept) → ((d ≡ c) × (restarted l (mark_of moved) new s.commits ≡ x)) ⊎ ((d ≡ c → ⊥) × (slice_get s.calls d ≡ Some x)) → TellsCall w s.order d x
-  by d x (inl h) = subst (TellsCall w s.order d) h.1 (subst (λ n. TellsCall w s.order n (restarted l (mark_of moved) new s.commits)) (sym h.0) (again_tells w s.order c (mark_of moved) l new s.commits (k.tells c l live.at) live.live is (since_kept infos w s c l k live)))
+  next : Kept
+  next = restarted l (mark_of moved) new given s.commits
+
+  this : TellsCall w s.order s.answered c next
+  this = again_tells w s.order s.answered c (mark_of moved) l new given s.commits (k.tells c l live.at) live.live is told (since_kept infos w s c l k live)
+
+  by : (d : ℕ) (x : Kept) → ((d ≡ c) × (next ≡ x)) ⊎ ((d ≡ c → ⊥) × (slice_get s.calls d ≡ Some x)) → TellsCall w s.order s.answered d x
+  by d x (inl h) = subst (TellsCall w s.order s.answered d) h.1 (subst (λ n. TellsCall w s.order s.answered n next) (sym h.0) this)
   by d x (inr h) = k.tells d x h.1
 
-  first : (d : ℕ) (x : Kept) → x.reply ≡ None → ((d ≡ c) × (restarted l (mark_of moved) new s.commits ≡ x)) ⊎ ((d ≡ c → ⊥) × (slice_get s.calls d ≡ Some x)) → s.low ≤ x.start
+  first : (d : ℕ) (x : Kept) → x.reply ≡ None → ((d ≡ c) × (next ≡ x)) ⊎ ((d ≡ c → ⊥) × (slice_get s.calls d ≡ Some x)) → s.low ≤ x.start
   first d x still (inl h) = subst (λ (y : Kept). s.low ≤ y.start) h.1 (let wide = k.wide in let many = k.many in omega (arith, wide, many))
+  first d x still (inr h) = k.needed d x h.1 still
+
+-- A call is answered
+
+pub answered_seen : (w : Work) (s : State) (c : ℕ) (l : Kept) → IsLive s c l → course_of (answered_state s c l) ≡ after w (course_of s) (R c)
+answered_seen w s c l live = ap (λ (ls : List Live). record { order = s.order; calls = ls; low = 0; answered = s.answered ++ c ∷ [] }) (call_seen s c l (answered l) finish live refl)
+
+pub answered_kept : (infos : List TableInfo) (w : Work) (s : State) (c : ℕ) (l : Kept) → IsCourse infos w s → IsLive s c l → refusal w (course_of s) (R c) ≡ None → IsCourse infos w (answered_state s c l)
+answered_kept infos w s c l k live free = record {
+  database = k.database;
+  tables = k.tables;
+  many = k.many;
+  wide = k.wide;
+  changes = k.changes;
+  needed = λ d x at still. first d x still (get_set s.calls c d (answered l) x at);
+  orderly = subst (OrderlyAt w) (sym (answered_seen w s c l live)) (orderly_after w (course_of s) (R c) free k.orderly);
+  tells = λ d x at. by d x (get_set s.calls c d (answered l) x at);
+} where
+  this : TellsCall w s.order (s.answered ++ c ∷ []) c (answered l)
+  this = answered_tells w s.order s.answered c l (k.tells c l live.at) live.live
+
+  by : (d : ℕ) (x : Kept) → ((d ≡ c) × (answered l ≡ x)) ⊎ ((d ≡ c → ⊥) × (slice_get s.calls d ≡ Some x)) → TellsCall w s.order (s.answered ++ c ∷ []) d x
+  by d x (inl h) = subst (TellsCall w s.order (s.answered ++ c ∷ []) d) h.1 (subst (λ n. TellsCall w s.order (s.answered ++ c ∷ []) n (answered l)) (sym h.0) this)
+  by d x (inr h) = tells_other w s.order s.answered c d x (λ same. h.0 (sym same)) (k.tells d x h.1)
+
+  first : (d : ℕ) (x : Kept) → x.reply ≡ None → ((d ≡ c) × (answered l ≡ x)) ⊎ ((d ≡ c → ⊥) × (slice_get s.calls d ≡ Some x)) → s.low ≤ x.start
+  first d x still (inl h) = let some : Some l.given ≡ None = ap (λ (y : Kept). y.reply) h.1 ∙ still in absurd (search (rules, some))
   first d x still (inr h) = k.needed d x h.1 still
 
 -- A call commits
@@ -135,11 +174,11 @@ again_kept infos w s c l moved new k live free is = record {
 pub committed_seen : (infos : List TableInfo) (w : Work) (s : State) (c : ℕ) (l : Kept) (own : Bool) (new : List Record) (reply : Reply) (db : Tables) → IsCourse infos w s → IsLive s c l
     → course_of (committed_state s c l own new reply db) ≡ after w (course_of s) (commit_event own c)
 committed_seen infos w s c l false new reply db k live =
-    ap (λ (ls : List Live). record { order = s.order ++ c ∷ []; calls = ls; low = 0 }) (call_seen s c l (finished false l new s.commits reply) finish live refl)
+    ap (λ (ls : List Live). record { order = s.order ++ c ∷ []; calls = ls; low = 0; answered = s.answered }) (call_seen s c l (finished false l new s.commits reply) finish live refl)
 committed_seen infos w s c l true new reply db k live =
-    ap (λ (ls : List Live). record { order = s.order ++ c ∷ []; calls = ls; low = 0 })
+    ap (λ (ls : List Live). record { order = s.order ++ c ∷ []; calls = ls; low = 0; answered = s.answered })
     (call_seen s c l (finished true l new s.commits reply) (λ x. finish (again (length s.order) Exclusive x)) live
-    (ap finish (restarted_seen Exclusive l new s.commits live.live ∙ ap (λ n. again n Exclusive (live_of l)) (many_commits infos w s k))))
+    (ap finish (restarted_seen Exclusive l new reply s.commits live.live ∙ ap (λ n. again n Exclusive (live_of l)) (many_commits infos w s k))))
 
 pub committed_kept : (infos : List TableInfo) (w : Work) (s : State) (c : ℕ) (l : Kept) (own : Bool) (new : List Record) (reply : Reply) (db : Tables) → IsCourse infos w s → IsLive s c l → refusal w (course_of s) (commit_event own c) ≡ None
     → new ≡ records_at w s.order (length s.order) c → reply ≡ (w.run c s.tables).reply → db ≡ (w.run c s.tables).tables → IsDatabaseOf infos db → IsCourse infos w (committed_state s c l own new reply db)
@@ -164,18 +203,20 @@ committed_kept infos w s c l own new reply db k live free is told left sound = r
   here : s.tables ≡ tables_after w w.opening s.order
   here = k.tables ∙ ap (tables_after w w.opening) (take_all (length s.order) s.order (omega arith))
 
-  away : stands c s.order ≡ false
-  away = sym (k.orderly.done c (live_of l) (live_seen s c l live)) ∙ ap is_some live.live
+  neither : (stands c s.answered || stands c s.order) ≡ false
+  neither = sym (k.orderly.done c (live_of l) (live_seen s c l live)) ∙ ap is_some live.live
 
   apart : (n : ℕ) → slice_get s.order n ≡ Some c → ⊥
-  apart n at = let both : false ≡ true = sym away ∙ stands_at s.order n c at in search (rules, both)
+  apart n at = let both : false ≡ true = sym (neither_right (stands c s.answered) (stands c s.order) neither) ∙ stands_at s.order n c at in search (rules, both)
 
-  this : TellsCall w (s.order ++ c ∷ []) c (finished own l new s.commits reply)
-  this = finished_tells w s.order c own l new s.commits reply (k.tells c l live.at) live.live apart is (since_kept infos w s c l k live) (told ∙ ap (λ x. (w.run c x).reply) k.tables)
+  this : TellsCall w (s.order ++ c ∷ []) s.answered c (finished own l new s.commits reply)
+  this =
+      finished_tells w s.order s.answered c own l new s.commits reply (k.tells c l live.at) live.live (neither_left (stands c s.answered) (stands c s.order) neither) apart is (since_kept infos w s c l k live)
+      (told ∙ ap (λ x. (w.run c x).reply) k.tables)
 
-  by : (d : ℕ) (x : Kept) → ((d ≡ c) × (finished own l new s.commits reply ≡ x)) ⊎ ((d ≡ c → ⊥) × (slice_get s.calls d ≡ Some x)) → TellsCall w (s.order ++ c ∷ []) d x
-  by d x (inl h) = subst (TellsCall w (s.order ++ c ∷ []) d) h.1 (subst (λ n. TellsCall w (s.order ++ c ∷ []) n (finished own l new s.commits reply)) (sym h.0) this)
-  by d x (inr h) = tells_more w s.order c d x (k.tells d x h.1)
+  by : (d : ℕ) (x : Kept) → ((d ≡ c) × (finished own l new s.commits reply ≡ x)) ⊎ ((d ≡ c → ⊥) × (slice_get s.calls d ≡ Some x)) → TellsCall w (s.order ++ c ∷ []) s.answered d x
+  by d x (inl h) = subst (TellsCall w (s.order ++ c ∷ []) s.answered d) h.1 (subst (λ n. TellsCall w (s.order ++ c ∷ []) s.answered n (finished own l new s.commits reply)) (sym h.0) this)
+  by d x (inr h) = tells_more w s.order s.answered c d x (k.tells d x h.1)
 
   ended : (own : Bool) (x : Kept) → x.reply ≡ None → finished own l new s.commits reply ≡ x → s.low ≤ x.start
   ended false x still h = let some : Some reply ≡ None = ap (λ (y : Kept). y.reply) h ∙ still in absurd (search (rules, some))
@@ -188,7 +229,10 @@ committed_kept infos w s c l own new reply db k live free is told left sound = r
 -- Changes of old commits are dropped
 
 pub trimmed_seen : (s next : State) → IsTrimmed s next → course_of next ≡ course_of s
-trimmed_seen s next t = ap (λ (o : List ℕ). record { order = o; calls = map live_of next.calls; low = 0 }) t.order ∙ ap (λ (cs : List Kept). record { order = s.order; calls = map live_of cs; low = 0 }) t.calls
+trimmed_seen s next t =
+    ap (λ (o : List ℕ). record { order = o; calls = map live_of next.calls; low = 0; answered = next.answered }) t.order
+    ∙ (ap (λ (cs : List ℕ). record { order = s.order; calls = map live_of next.calls; low = 0; answered = cs }) t.answered
+    ∙ ap (λ (ls : List Kept). record { order = s.order; calls = map live_of ls; low = 0; answered = s.answered }) t.calls)
 
 pub trimmed_kept : (infos : List TableInfo) (w : Work) (s next : State) → IsTrimmed s next → IsCourse infos w s → IsCourse infos w next
 trimmed_kept infos w s next t k = record {
@@ -200,7 +244,7 @@ trimmed_kept infos w s next t k = record {
       ∙ (drop_later s.commits (changes_after w w.opening s.order) s.low next.low t.later k.changes ∙ ap (λ o. drop next.low (changes_after w w.opening o)) (sym t.order));
   needed = λ c l at live. t.needed k.needed c l (sym (ap (λ ls. slice_get ls c) t.calls) ∙ at) live;
   orderly = subst (OrderlyAt w) (sym (trimmed_seen s next t)) k.orderly;
-  tells = λ c l at. subst (λ o. TellsCall w o c l) (sym t.order) (k.tells c l (sym (ap (λ ls. slice_get ls c) t.calls) ∙ at));
+  tells = λ c l at. subst (λ o. TellsCall w o next.answered c l) (sym t.order) (subst (λ cs. TellsCall w s.order cs c l) (sym t.answered) (k.tells c l (sym (ap (λ ls. slice_get ls c) t.calls) ∙ at)));
 }
 
 -- What the calls of a program leave
@@ -249,7 +293,7 @@ rises p c db = by (slice_get p.resolved.calls c) where
 pub live_rises : (p : Program) (rounds : ℕ) (s : State) (c : ℕ) (l : Kept) → IsCourse p.resolved.tables (audited p rounds) s → IsLiveCall s c → slice_get s.calls c ≡ Some l → PathsRise l.records
 live_rises p rounds s c l k live at =
     let same : live.0 ≡ l = same_Some live.0 l (sym live.1.at ∙ at) in
-    let its : live.0.records ≡ records_at (audited p rounds) s.order live.0.start c = subst (TellsRun (audited p rounds) s.order c live.0) live.1.live (k.tells c live.0 live.1.at).run in
+    let its : live.0.records ≡ records_at (audited p rounds) s.order live.0.start c = (subst (TellsRun (audited p rounds) s.order s.answered c live.0) live.1.live (k.tells c live.0 live.1.at).run).0 in
     subst (λ (x : Kept). PathsRise x.records) same (subst PathsRise (sym its) (rises p c (table_at (audited p rounds) s.order live.0.start)))
 
 -- What a fallible call gives
@@ -275,6 +319,7 @@ after_few w s (A c) = let n = change_few (slice_get s.calls c) (again (length s.
 after_few w s (M c) = let n = change_few (slice_get s.calls c) (again (length s.order) Moved) s.calls c in omega (arith, n)
 after_few w s (C c) = let n = change_few (slice_get s.calls c) finish s.calls c in omega (arith, n)
 after_few w s (X c) = let n = change_few (slice_get s.calls c) (λ l. finish (again (length s.order) Exclusive l)) s.calls c in omega (arith, n)
+after_few w s (R c) = let n = change_few (slice_get s.calls c) finish s.calls c in omega (arith, n)
 after_few w s G = omega arith
 
 pub calls_few : (w : Work) (s next : State) (e : Event) → course_of next ≡ after w (course_of s) e → length next.calls ≤ length s.calls + 1
@@ -302,29 +347,44 @@ same_at xs n x y lt is at = same_Some y x (sym (slice_get_read xs (length xs) n 
 
 -- The calls that lead from state to state
 
-pub begun_is : (w : Work) (s t : State) (new : List Record) (r : Result State NoMemory) → t ≡ s → IfOk r (λ next. next ≡ begun_state t new) → IfOk r (λ next. course_of next ≡ after w (course_of s) (B (length s.calls)))
-begun_is w s t new r same h =
-    ok_is r (begun_state s new) (λ next. course_of next ≡ after w (course_of s) (B (length s.calls))) (subst (λ x. IfOk r (λ next. next ≡ begun_state x new)) same h) (begun_seen w s new)
+pub begun_is : (w : Work) (s t : State) (new : List Record) (given : Reply) (r : Result State NoMemory) → t ≡ s → IfOk r (λ next. next ≡ begun_state t new given)
+    → IfOk r (λ next. course_of next ≡ after w (course_of s) (B (length s.calls)))
+begun_is w s t new given r same h =
+    ok_is r (begun_state s new given) (λ next. course_of next ≡ after w (course_of s) (B (length s.calls))) (subst (λ x. IfOk r (λ next. next ≡ begun_state x new given)) same h) (begun_seen w s new given)
 
-pub begun_right : (infos : List TableInfo) (w : Work) (s t : State) (new : List Record) (r : Result State NoMemory) → t ≡ s → IsCourse infos w s → refusal w (course_of s) (B (length s.calls)) ≡ None
-    → new ≡ records_at w s.order (length s.order) (length s.calls) → IfOk r (λ next. next ≡ begun_state t new) → IfOk r (IsCourse infos w)
-begun_right infos w s t new r same k free is h = ok_is r (begun_state s new) (IsCourse infos w) (subst (λ x. IfOk r (λ next. next ≡ begun_state x new)) same h) (begun_kept infos w s new k free is)
+pub begun_right : (infos : List TableInfo) (w : Work) (s t : State) (new : List Record) (given : Reply) (r : Result State NoMemory) → t ≡ s → IsCourse infos w s → refusal w (course_of s) (B (length s.calls)) ≡ None
+    → new ≡ records_at w s.order (length s.order) (length s.calls) → given ≡ (w.run (length s.calls) (table_at w s.order (length s.order))).reply → IfOk r (λ next. next ≡ begun_state t new given) → IfOk r (IsCourse infos w)
+begun_right infos w s t new given r same k free is told h =
+    ok_is r (begun_state s new given) (IsCourse infos w) (subst (λ x. IfOk r (λ next. next ≡ begun_state x new given)) same h) (begun_kept infos w s new given k free is told)
 
-abbrev AgainBy : State → ℕ → Bool → List Record → State → Type 0
-AgainBy s c moved new next = (l : Kept) → slice_get s.calls c ≡ Some l → next ≡ again_state s c l (mark_of moved) new
+abbrev AgainBy : State → ℕ → Bool → List Record → Reply → State → Type 0
+AgainBy s c moved new given next = (l : Kept) → slice_get s.calls c ≡ Some l → next ≡ again_state s c l (mark_of moved) new given
 
-pub again_is : (infos : List TableInfo) (w : Work) (s t : State) (c : ℕ) (moved : Bool) (new : List Record) (r : Result State NoMemory) → t ≡ s → IsCourse infos w s → IsLiveCall s c
-    → IfOk r (λ next. (l : Kept) → slice_get t.calls c ≡ Some l → next ≡ again_state t c l (mark_of moved) new) → IfOk r (λ next. course_of next ≡ after w (course_of s) (round_event moved c))
-again_is infos w s t c moved new r same k live h =
-    ok_by r (AgainBy s c moved new) (λ next. course_of next ≡ after w (course_of s) (round_event moved c))
-    (λ next is. ap course_of (is live.0 live.1.at) ∙ again_seen infos w s c live.0 moved new k live.1) (subst (λ x. IfOk r (AgainBy x c moved new)) same h)
+pub again_is : (infos : List TableInfo) (w : Work) (s t : State) (c : ℕ) (moved : Bool) (new : List Record) (given : Reply) (r : Result State NoMemory) → t ≡ s → IsCourse infos w s → IsLiveCall s c
+    → IfOk r (λ next. (l : Kept) → slice_get t.calls c ≡ Some l → next ≡ again_state t c l (mark_of moved) new given) → IfOk r (λ next. course_of next ≡ after w (course_of s) (round_event moved c))
+again_is infos w s t c moved new given r same k live h =
+    ok_by r (AgainBy s c moved new given) (λ next. course_of next ≡ after w (course_of s) (round_event moved c))
+    (λ next is. ap course_of (is live.0 live.1.at) ∙ again_seen infos w s c live.0 moved new given k live.1) (subst (λ x. IfOk r (AgainBy x c moved new given)) same h)
 
-pub again_right : (infos : List TableInfo) (w : Work) (s t : State) (c : ℕ) (moved : Bool) (new : List Record) (r : Result State NoMemory) → t ≡ s → IsCourse infos w s → IsLiveCall s c
-    → refusal w (course_of s) (round_event moved c) ≡ None → new ≡ records_at w s.order (length s.order) c
-    → IfOk r (λ next. (l : Kept) → slice_get t.calls c ≡ Some l → next ≡ again_state t c l (mark_of moved) new) → IfOk r (IsCourse infos w)
-again_right infos w s t c moved new r same k live free are h =
-    ok_by r (AgainBy s c moved new) (IsCourse infos w)
-    (λ next is. subst (IsCourse infos w) (sym (is live.0 live.1.at)) (again_kept infos w s c live.0 moved new k live.1 free are)) (subst (λ x. IfOk r (AgainBy x c moved new)) same h)
+pub again_right : (infos : List TableInfo) (w : Work) (s t : State) (c : ℕ) (moved : Bool) (new : List Record) (given : Reply) (r : Result State NoMemory) → t ≡ s → IsCourse infos w s → IsLiveCall s c
+    → refusal w (course_of s) (round_event moved c) ≡ None → new ≡ records_at w s.order (length s.order) c → given ≡ (w.run c (table_at w s.order (length s.order))).reply
+    → IfOk r (λ next. (l : Kept) → slice_get t.calls c ≡ Some l → next ≡ again_state t c l (mark_of moved) new given) → IfOk r (IsCourse infos w)
+again_right infos w s t c moved new given r same k live free are told h =
+    ok_by r (AgainBy s c moved new given) (IsCourse infos w)
+    (λ next is. subst (IsCourse infos w) (sym (is live.0 live.1.at)) (again_kept infos w s c live.0 moved new given k live.1 free are told)) (subst (λ x. IfOk r (AgainBy x c moved new given)) same h)
+
+abbrev AnsweredBy : State → ℕ → State → Type 0
+AnsweredBy s c next = (l : Kept) → slice_get s.calls c ≡ Some l → next ≡ answered_state s c l
+
+pub answered_is : (w : Work) (s : State) (c : ℕ) (r : Result State NoMemory) → IsLiveCall s c → IfOk r (λ next. (l : Kept) → slice_get s.calls c ≡ Some l → next ≡ answered_state s c l)
+    → IfOk r (λ next. course_of next ≡ after w (course_of s) (R c))
+answered_is w s c r live h =
+    ok_by r (AnsweredBy s c) (λ next. course_of next ≡ after w (course_of s) (R c)) (λ next is. ap course_of (is live.0 live.1.at) ∙ answered_seen w s c live.0 live.1) h
+
+pub answered_right : (infos : List TableInfo) (w : Work) (s : State) (c : ℕ) (r : Result State NoMemory) → IsCourse infos w s → IsLiveCall s c → refusal w (course_of s) (R c) ≡ None
+    → IfOk r (λ next. (l : Kept) → slice_get s.calls c ≡ Some l → next ≡ answered_state s c l) → IfOk r (IsCourse infos w)
+answered_right infos w s c r k live free h =
+    ok_by r (AnsweredBy s c) (IsCourse infos w) (λ next is. subst (IsCourse infos w) (sym (is live.0 live.1.at)) (answered_kept infos w s c live.0 k live.1 free)) h
 
 abbrev CommittedBy : State → ℕ → Bool → List Record → Reply → State → Type 0
 CommittedBy s c own new reply next = (l : Kept) → slice_get s.calls c ≡ Some l → next ≡ committed_state s c l own new reply (left_by new reply.end s.tables)

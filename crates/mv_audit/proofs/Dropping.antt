@@ -25,6 +25,7 @@ least_more ls i x least next lt is le one before c l within at live = by (c == i
 pub untrimmed : (s : State) → IsTrimmed s s
 untrimmed s = record {
   order = refl;
+  answered = refl;
   calls = refl;
   tables = refl;
   many = refl;
@@ -34,10 +35,11 @@ untrimmed s = record {
   needed = λ h. h;
 }
 
-pub trimmed_by : (s next : State) → next.order ≡ s.order → next.calls ≡ s.calls → next.tables ≡ s.tables → length next.commits ≡ length s.commits → next.low ≤ length s.commits → s.low ≤ next.low
+pub trimmed_by : (s next : State) → next.order ≡ s.order → next.answered ≡ s.answered → next.calls ≡ s.calls → next.tables ≡ s.tables → length next.commits ≡ length s.commits → next.low ≤ length s.commits → s.low ≤ next.low
     → drop next.low next.commits ≡ drop next.low s.commits → ((c : ℕ) (l : Kept) → slice_get s.calls c ≡ Some l → l.reply ≡ None → next.low ≤ l.start) → IsTrimmed s next
-trimmed_by s next order calls tables many wide later changes needed = record {
+trimmed_by s next order answers calls tables many wide later changes needed = record {
   order = order;
+  answered = answers;
   calls = calls;
   tables = tables;
   many = many;

@@ -1,7 +1,7 @@
 -- Without collections no horizon is seen: a journal is as lawful without one, and has the same outcome.
-use Rattle.std.proofs.Common.{◌≡◌, ◌+◌, ◌-◌, ◌==◌, ℕ, not, List, [], ◌∷◌, Option, Some, None, map, take, drop, length, refl, ap, ◌∙◌}
+use Rattle.std.proofs.Common.{◌≡◌, ◌+◌, ◌-◌, ℕ, not, List, [], ◌∷◌, Option, Some, None, map, take, drop, length, refl, ap, ◌∙◌}
 use Rattle.std.specs.Prelude.{slice_get}
-use Rattle.std.specs.List.{position, flat_map}
+use Rattle.std.specs.List.{flat_map}
 use Rattle.std.specs.Option.{is_some}
 use Rattle.mv_values.specs.declared.calls.Reply.{Reply}
 use Rattle.mv_values.specs.Counts.{first_numbers}
@@ -13,17 +13,19 @@ use Rattle.mv_history.specs.Changes.{changes_between}
 use Rattle.mv_history.specs.Hits.{first_hit}
 use Rattle.mv_history.specs.Kept.{executions}
 use Rattle.mv_journal.specs.declared.event.Event.{Event}
-use Rattle.mv_journal.specs.declared.event.Event.TheVariants.{B, S, A, M, C, X, G}
+use Rattle.mv_journal.specs.declared.event.Event.TheVariants.{B, S, A, M, C, X, R, G}
 use Rattle.mv_journal.specs.declared.outcome.Mark.{Mark}
 use Rattle.mv_journal.specs.declared.outcome.Mark.TheVariants.{Plain, Exclusive, Moved}
 use Rattle.mv_journal.specs.declared.outcome.Round.{Round}
 use Rattle.mv_journal.specs.declared.outcome.HistoryLine.{HistoryLine}
 use Rattle.mv_lawful.specs.declared.fault.Fault.{Fault}
-use Rattle.mv_lawful.specs.declared.fault.Fault.TheVariants.{Order, Stale, Conflict, Idle, Rounds}
+use Rattle.mv_lawful.specs.declared.fault.Fault.TheVariants.{Order, Kind, Stale, Conflict, Idle, Rounds}
 use Rattle.mv_lawful.specs.Work.{Work, tables_after, table_at, records_at, changes_after, since, changes_up_to, hit_of}
 use Rattle.mv_lawful.specs.Lawful.{Turn, Live, Course, Lawful, beginning, is_stale, has_round, unless, of_live, refusal, after, reach, course_of, or_refused, wrong_from}
+use Rattle.mv_lawful.specs.declared.places.Place.{Place}
+use Rattle.mv_lawful.specs.Places.{start_in, places}
 use Rattle.mv_lawful.specs.Rounds.{repair_run, later_run, unless_moved, round, later_rounds, rounds_of}
-use Rattle.mv_lawful.specs.Outcomes.{shown, reply_after, reply_in, turns_of, history_line, outcome_at, outcome_of}
+use Rattle.mv_lawful.specs.Outcomes.{shown, commits_before, reply_after, reply_in, turns_of, history_line, outcome_at, outcome_of}
 
 abbrev pub endless : Work → Work
 endless w = record w { options = record w.options { horizon = None } }
@@ -54,15 +56,15 @@ same_if_live (Some l) f g h = ap (unless (not l.done) Order) (h l)
 
 repair_refused : (w : Work) (s : Course) (c : ℕ) → refusal (endless w) s (A c) ≡ refusal w s (A c)
 repair_refused w s c = same_if_live (slice_get s.calls c) _ _ (λ l.
-    ap (λ (hit : Option Hit). unless (not (is_stale s l)) Stale (unless (is_some hit) Idle (unless (has_round w l) Rounds None))) (hits_same w s.order l.start c))
+    ap (λ (hit : Option Hit). unless (not (w.read_only c)) Kind (unless (not (is_stale s l)) Stale (unless (is_some hit) Idle (unless (has_round w l) Rounds None)))) (hits_same w s.order l.start c))
 
 commit_refused : (w : Work) (s : Course) (c : ℕ) → refusal (endless w) s (C c) ≡ refusal w s (C c)
 commit_refused w s c = same_if_live (slice_get s.calls c) _ _ (λ l.
-    ap (λ (hit : Option Hit). unless (not (is_stale s l)) Stale (unless (not (is_some hit)) Conflict None)) (hits_same w s.order l.start c))
+    ap (λ (hit : Option Hit). unless (not (w.read_only c)) Kind (unless (not (is_stale s l)) Stale (unless (not (is_some hit)) Conflict None))) (hits_same w s.order l.start c))
 
 last_refused : (w : Work) (s : Course) (c : ℕ) → refusal (endless w) s (X c) ≡ refusal w s (X c)
 last_refused w s c = same_if_live (slice_get s.calls c) _ _ (λ l.
-    ap (λ (hit : Option Hit). unless (not (is_stale s l)) Stale (unless (is_some hit) Idle (unless (not (has_round w l)) Rounds None))) (hits_same w s.order l.start c))
+    ap (λ (hit : Option Hit). unless (not (w.read_only c)) Kind (unless (not (is_stale s l)) Stale (unless (is_some hit) Idle (unless (not (has_round w l)) Rounds None)))) (hits_same w s.order l.start c))
 
 wrong_same : (w : Work) (n : ℕ) (s : Course) (es : List Event) → wrong_from (endless w) n s (shown es) ≡ wrong_from w n s (shown es)
 wrong_same w n s [] = refl
@@ -78,6 +80,7 @@ wrong_same w n s (C c ∷ es) =
 wrong_same w n s (X c ∷ es) =
     ap (λ o. or_refused n o (wrong_from (endless w) (n + 1) (after w s (X c)) (shown es))) (last_refused w s c)
     ∙ ap (or_refused n (refusal w s (X c))) (wrong_same w (n + 1) (after w s (X c)) es)
+wrong_same w n s (R c ∷ es) = ap (or_refused n (refusal w s (R c))) (wrong_same w (n + 1) (after w s (R c)) es)
 wrong_same w n s (G ∷ es) = wrong_same w n s es
 
 pub endless_lawful : (w : Work) (es : List Event) → Lawful w (shown es) → Lawful (endless w) (shown es)
@@ -93,6 +96,7 @@ reach_same w s (A c ∷ es) = reach_same w (after w s (A c)) es
 reach_same w s (M c ∷ es) = reach_same w (after w s (M c)) es
 reach_same w s (C c ∷ es) = reach_same w (after w s (C c)) es
 reach_same w s (X c ∷ es) = reach_same w (after w s (X c)) es
+reach_same w s (R c ∷ es) = reach_same w (after w s (R c)) es
 reach_same w s (G ∷ es) = reach_same w s es
 
 repair_same : (w : Work) (order : List ℕ) (c old new : ℕ) → repair_run (endless w) order c old new ≡ repair_run w order c old new
@@ -118,12 +122,12 @@ rounds_same w order c (t ∷ ts) =
     ap (λ (rs : List Record). round t (unless_moved (length rs) ts) ∷ later_rounds (endless w) order c t.start ts) (records_same w order t.start c)
     ∙ ap (λ (rs : List Round). round t (unless_moved (length (records_at w order t.start c)) ts) ∷ rs) (later_same w order c t.start ts)
 
-reply_same : (w : Work) (order : List ℕ) (c : ℕ) → reply_in (endless w) order c ≡ reply_in w order c
-reply_same w order c = by (position (λ d. d == c) order)
+reply_same : (w : Work) (s : Course) (c : ℕ) → reply_in (endless w) s c ≡ reply_in w s c
+reply_same w s c = by (commits_before s.order s.answered (start_in s.calls c) c)
   where
-    by : (o : Option ℕ) → reply_after (endless w) order c o ≡ reply_after w order c o
+    by : (o : Option ℕ) → reply_after (endless w) s.order c o ≡ reply_after w s.order c o
     by None = refl
-    by (Some k) = ap (λ db. (w.run c db).reply) (tables_same w w.opening (take k order))
+    by (Some k) = ap (λ db. (w.run c db).reply) (tables_same w w.opening (take k s.order))
 
 map_same : {A B : Type 0} (f g : A → B) → ((a : A) → f a ≡ g a) → (xs : List A) → map f xs ≡ map g xs
 map_same f g h [] = refl
@@ -131,11 +135,11 @@ map_same f g h (x ∷ xs) = ap (λ y. y ∷ map f xs) (h x) ∙ ap (λ l. g x �
 
 same_at : (w : Work) (s : Course) (es : List Event) → outcome_at (endless w) s es ≡ outcome_at w s es
 same_at w s es =
-    ap (λ (replies : List Reply). record { replies = replies; history = map (history_line (endless w) s) s.order; journal = es; tables = table_at (endless w) s.order (length s.order) })
-    (map_same (reply_in (endless w) s.order) (reply_in w s.order) (reply_same w s.order) (first_numbers w.count))
-    ∙ (ap (λ (history : List HistoryLine). record { replies = map (reply_in w s.order) (first_numbers w.count); history = history; journal = es; tables = table_at (endless w) s.order (length s.order) })
-    (map_same (history_line (endless w) s) (history_line w s) (λ c. ap (λ (rs : List Round). record { call = c; rounds = rs }) (rounds_same w s.order c (turns_of (slice_get s.calls c)))) s.order)
-    ∙ ap (λ (db : Tables). record { replies = map (reply_in w s.order) (first_numbers w.count); history = map (history_line w s) s.order; journal = es; tables = db }) (tables_same w w.opening (take (length s.order) s.order)))
+    ap (λ (replies : List Reply). record { replies = replies; history = map (history_line (endless w) s) (places s); journal = es; tables = table_at (endless w) s.order (length s.order) })
+    (map_same (reply_in (endless w) s) (reply_in w s) (reply_same w s) (first_numbers w.count))
+    ∙ (ap (λ (history : List HistoryLine). record { replies = map (reply_in w s) (first_numbers w.count); history = history; journal = es; tables = table_at (endless w) s.order (length s.order) })
+    (map_same (history_line (endless w) s) (history_line w s) (λ (p : Place). ap (λ (rs : List Round). record { commit = p.commit; call = p.call; rounds = rs }) (rounds_same w s.order p.call (turns_of (slice_get s.calls p.call)))) (places s))
+    ∙ ap (λ (db : Tables). record { replies = map (reply_in w s) (first_numbers w.count); history = map (history_line w s) (places s); journal = es; tables = db }) (tables_same w w.opening (take (length s.order) s.order)))
 
 pub endless_outcome : (w : Work) (es : List Event) → outcome_of (endless w) (shown es) ≡ outcome_of w (shown es)
 endless_outcome w es = ap (λ (s : Course). outcome_at (endless w) s (shown es)) (reach_same w beginning es) ∙ same_at w (course_of w (shown es)) (shown es)

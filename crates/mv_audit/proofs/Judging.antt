@@ -13,12 +13,12 @@ use Rattle.mv_values.specs.Counts.{first_numbers}
 use Rattle.mv_values.specs.Texts.{line}
 use Rattle.mv_journal.specs.declared.event.Event.{Event}
 use Rattle.mv_journal.specs.Events.{event_text, IsInRange}
-use Rattle.mv_journal.specs.declared.event.Event.TheVariants.{B, S, A, M, C, X, G}
+use Rattle.mv_journal.specs.declared.event.Event.TheVariants.{B, S, A, M, C, X, R, G}
 use Rattle.mv_journal.specs.declared.outcome.Outcome.{Outcome}
 use Rattle.mv_lawful.specs.declared.fault.Wrong.{Wrong}
 use Rattle.mv_lawful.specs.declared.fault.Wrong.TheVariants.{Refused, Open}
 use Rattle.mv_lawful.specs.Work.{Work}
-use Rattle.mv_lawful.specs.Lawful.{Lawful, wrong_with}
+use Rattle.mv_lawful.specs.Lawful.{Lawful, beginning, wrong_with}
 use Rattle.mv_lawful.specs.Outcomes.{has_line, shown, reply_in, outcome_of}
 use Rattle.mv_lawful.proofs.Showing.{shown_is_lawful, shown_has_the_outcome}
 use Rattle.mv_report.specs.Text.{replies_text, history_text, event_line, journal_text, tables_text, text_of}
@@ -103,7 +103,7 @@ bare_has tables database = refl
 -- the text of a run without events
 without_events : (tables : List TableInfo) (w : Work) → Lawful w [] → journal_at 1 (lines_in (text_of tables (outcome_of w []))) ≡ Some 2
 without_events tables w lawful =
-    ap (λ count. journal_at 1 (lines_in (text_of tables (record { replies = map (reply_in w []) (first_numbers count); history = []; journal = []; tables = w.opening })))) (no_calls w.count lawful)
+    ap (λ count. journal_at 1 (lines_in (text_of tables (record { replies = map (reply_in w beginning) (first_numbers count); history = []; journal = []; tables = w.opening })))) (no_calls w.count lawful)
     ∙ bare_has tables w.opening
 
 -- The text of a lawful journal
@@ -119,6 +119,7 @@ lines_shown (e ∷ es) = by e (lines_shown es)
     by (M c) go = ap (λ bytes. event_line (M c) ++ bytes) go
     by (C c) go = ap (λ bytes. event_line (C c) ++ bytes) go
     by (X c) go = ap (λ bytes. event_line (X c) ++ bytes) go
+    by (R c) go = ap (λ bytes. event_line (R c) ++ bytes) go
     by G go = go
 
 -- a text that has the lines of an outcome's events

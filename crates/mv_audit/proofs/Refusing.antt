@@ -8,9 +8,9 @@ use Rattle.std.proofs.lemmas.Option.{slice_get-map}
 use Rattle.mv_values.specs.declared.calls.Reply.{Reply}
 use Rattle.mv_values.specs.declared.schema.TableInfo.{TableInfo}
 use Rattle.mv_history.specs.Hits.{first_hit}
-use Rattle.mv_journal.specs.declared.event.Event.TheVariants.{B, A, M, C, X}
+use Rattle.mv_journal.specs.declared.event.Event.TheVariants.{B, A, M, C, X, R}
 use Rattle.mv_lawful.specs.declared.fault.Fault.{Fault}
-use Rattle.mv_lawful.specs.declared.fault.Fault.TheVariants.{Order, Stale, Conflict, Idle, Rounds}
+use Rattle.mv_lawful.specs.declared.fault.Fault.TheVariants.{Order, Kind, Stale, Conflict, Idle, Rounds}
 use Rattle.mv_lawful.specs.Work.{Work, hit_of, changes_after}
 use Rattle.mv_lawful.specs.Lawful.{Live, unless, of_live, of_call, refusal}
 use Rattle.mv_audit.specs.declared.course.Live.{Live as Kept}
@@ -49,7 +49,7 @@ pub hit_kept : (infos : List TableInfo) (w : Work) (s : State) (c : ℕ) (l : Ke
 hit_kept infos w s c l hit k live is =
     is (l.start + 1)
     ∙ (ap (λ cs. is_some (first_hit (l.start + 1) cs [] l.records)) (since_kept infos w s c l k live).since
-    ∙ ap (λ rs. is_some (first_hit (l.start + 1) (drop l.start (changes_after w w.opening s.order)) [] rs)) (subst (TellsRun w s.order c l) live.live (k.tells c l live.at).run))
+    ∙ ap (λ rs. is_some (first_hit (l.start + 1) (drop l.start (changes_after w w.opening s.order)) [] rs)) (subst (TellsRun w s.order s.answered c l) live.live (k.tells c l live.at).run).0)
 
 pub start_within : (infos : List TableInfo) (w : Work) (s : State) (c : ℕ) (l : Kept) → IsCourse infos w s → IsLive s c l → l.start ≤ length s.commits
 start_within infos w s c l k live = let p = (k.tells c l live.at).past in let n = k.many in omega (arith, p, n)
@@ -59,54 +59,83 @@ never_below n = grind arith
 
 -- Faults
 
-abbrev repair_fault : Bool → Bool → Bool → Option Fault
-repair_fault stale hit may = unless (not stale) Stale (unless hit Idle (unless may Rounds None))
+abbrev repair_fault : Bool → Bool → Bool → Bool → Option Fault
+repair_fault reads stale hit may = unless (not reads) Kind (unless (not stale) Stale (unless hit Idle (unless may Rounds None)))
 
-abbrev commit_fault : Bool → Bool → Option Fault
-commit_fault stale hit = unless (not stale) Stale (unless (not hit) Conflict None)
+abbrev commit_fault : Bool → Bool → Bool → Option Fault
+commit_fault reads stale hit = unless (not reads) Kind (unless (not stale) Stale (unless (not hit) Conflict None))
 
-repair_allowed : (hit may : Bool) → (hit && may) ≡ not (is_some (repair_fault false hit may))
+abbrev answer_fault : Bool → Bool → Option Fault
+answer_fault reads stale = unless reads Kind (unless (not stale) Stale None)
+
+repair_allowed : (hit may : Bool) → (hit && may) ≡ not (is_some (repair_fault false false hit may))
 repair_allowed true true = refl
 repair_allowed true false = refl
 repair_allowed false may = refl
 
-commit_allowed : (hit : Bool) → not hit ≡ not (is_some (commit_fault false hit))
+commit_allowed : (hit : Bool) → not hit ≡ not (is_some (commit_fault false false hit))
 commit_allowed true = refl
 commit_allowed false = refl
+
+answer_allowed : (reads : Bool) → reads ≡ not (is_some (answer_fault reads false))
+answer_allowed true = refl
+answer_allowed false = refl
 
 used_kept : (l : Kept) (rounds : ℕ) → nat_lt (length l.rounds - 1) rounds ≡ nat_lt (length (turns_in l.rounds) - 1) rounds
 used_kept l rounds = ap (λ n. nat_lt (n - 1) rounds) (sym (length-map l.rounds turn_of))
 
-pub allows_repair : (w : Work) (s : State) (c : ℕ) (l : Kept) (hit may : Bool) → IsLive s c l → hit ≡ is_some (hit_of w s.order l.start c) → may ≡ nat_lt (length l.rounds - 1) w.options.rounds
+pub allows_repair : (w : Work) (s : State) (c : ℕ) (l : Kept) (hit may : Bool) → IsLive s c l → w.read_only c ≡ false → hit ≡ is_some (hit_of w s.order l.start c) → may ≡ nat_lt (length l.rounds - 1) w.options.rounds
     → (hit && may) ≡ not (is_some (refusal w (course_of s) (A c)))
-allows_repair w s c l hit may live is are =
+allows_repair w s c l hit may live writes is are =
     repair_allowed hit may
-    ∙ (ap (λ b. not (is_some (repair_fault b hit may))) (sym (never_below l.start))
-    ∙ (ap (λ b. not (is_some (repair_fault (nat_lt l.start 0) b may))) is
-    ∙ (ap (λ b. not (is_some (repair_fault (nat_lt l.start 0) (is_some (hit_of w s.order l.start c)) b))) (are ∙ used_kept l w.options.rounds)
-    ∙ ap (λ o. not (is_some o)) (sym (live_judged s c l _ live)))))
+    ∙ (ap (λ b. not (is_some (repair_fault b false hit may))) (sym writes)
+    ∙ (ap (λ b. not (is_some (repair_fault (w.read_only c) b hit may))) (sym (never_below l.start))
+    ∙ (ap (λ b. not (is_some (repair_fault (w.read_only c) (nat_lt l.start 0) b may))) is
+    ∙ (ap (λ b. not (is_some (repair_fault (w.read_only c) (nat_lt l.start 0) (is_some (hit_of w s.order l.start c)) b))) (are ∙ used_kept l w.options.rounds)
+    ∙ ap (λ o. not (is_some o)) (sym (live_judged s c l _ live))))))
 
-pub allows_last : (w : Work) (s : State) (c : ℕ) (l : Kept) (hit may : Bool) → IsLive s c l → hit ≡ is_some (hit_of w s.order l.start c) → may ≡ nat_lt (length l.rounds - 1) w.options.rounds
+pub allows_last : (w : Work) (s : State) (c : ℕ) (l : Kept) (hit may : Bool) → IsLive s c l → w.read_only c ≡ false → hit ≡ is_some (hit_of w s.order l.start c) → may ≡ nat_lt (length l.rounds - 1) w.options.rounds
     → (hit && not may) ≡ not (is_some (refusal w (course_of s) (X c)))
-allows_last w s c l hit may live is are =
+allows_last w s c l hit may live writes is are =
     repair_allowed hit (not may)
-    ∙ (ap (λ b. not (is_some (repair_fault b hit (not may)))) (sym (never_below l.start))
-    ∙ (ap (λ b. not (is_some (repair_fault (nat_lt l.start 0) b (not may)))) is
-    ∙ (ap (λ b. not (is_some (repair_fault (nat_lt l.start 0) (is_some (hit_of w s.order l.start c)) (not b)))) (are ∙ used_kept l w.options.rounds)
+    ∙ (ap (λ b. not (is_some (repair_fault b false hit (not may)))) (sym writes)
+    ∙ (ap (λ b. not (is_some (repair_fault (w.read_only c) b hit (not may)))) (sym (never_below l.start))
+    ∙ (ap (λ b. not (is_some (repair_fault (w.read_only c) (nat_lt l.start 0) b (not may)))) is
+    ∙ (ap (λ b. not (is_some (repair_fault (w.read_only c) (nat_lt l.start 0) (is_some (hit_of w s.order l.start c)) (not b)))) (are ∙ used_kept l w.options.rounds)
+    ∙ ap (λ o. not (is_some o)) (sym (live_judged s c l _ live))))))
+
+pub allows_commit : (w : Work) (s : State) (c : ℕ) (l : Kept) (hit : Bool) → IsLive s c l → w.read_only c ≡ false → hit ≡ is_some (hit_of w s.order l.start c) → not hit ≡ not (is_some (refusal w (course_of s) (C c)))
+allows_commit w s c l hit live writes is =
+    commit_allowed hit
+    ∙ (ap (λ b. not (is_some (commit_fault b false hit))) (sym writes)
+    ∙ (ap (λ b. not (is_some (commit_fault (w.read_only c) b hit))) (sym (never_below l.start))
+    ∙ (ap (λ b. not (is_some (commit_fault (w.read_only c) (nat_lt l.start 0) b))) is
     ∙ ap (λ o. not (is_some o)) (sym (live_judged s c l _ live)))))
 
-pub allows_commit : (w : Work) (s : State) (c : ℕ) (l : Kept) (hit : Bool) → IsLive s c l → hit ≡ is_some (hit_of w s.order l.start c) → not hit ≡ not (is_some (refusal w (course_of s) (C c)))
-allows_commit w s c l hit live is =
-    commit_allowed hit
-    ∙ (ap (λ b. not (is_some (commit_fault b hit))) (sym (never_below l.start))
-    ∙ (ap (λ b. not (is_some (commit_fault (nat_lt l.start 0) b))) is
-    ∙ ap (λ o. not (is_some o)) (sym (live_judged s c l _ live))))
+pub allows_answer : (w : Work) (s : State) (c : ℕ) (l : Kept) → IsLive s c l → w.read_only c ≡ not (is_some (refusal w (course_of s) (R c)))
+allows_answer w s c l live =
+    answer_allowed (w.read_only c)
+    ∙ (ap (λ b. not (is_some (answer_fault (w.read_only c) b))) (sym (never_below l.start)) ∙ ap (λ o. not (is_some o)) (sym (live_judged s c l _ live)))
 
 pub allows_move : (w : Work) (s : State) (c : ℕ) (l : Kept) → IsLive s c l → not (is_some (refusal w (course_of s) (M c))) ≡ true
 allows_move w s c l live = ap (λ o. not (is_some o)) (live_judged s c l (λ l. None) live)
 
 pub refuses_none : (s : State) (c : ℕ) (f : Live → Option Fault) → ((l : Kept) → IsLive s c l → ⊥) → not (is_some (of_call (course_of s) c f)) ≡ false
 refuses_none s c f none = ap (λ o. not (is_some o)) (none_judged s c f none)
+
+-- repairs and commits are refused of a call that isn't live or is read only
+reader_refused : (o : Option Live) (reads : Bool) (f : Live → Option Fault) → reads ≡ true → not (is_some (of_live o (λ l. unless (not reads) Kind (f l)))) ≡ false
+reader_refused None reads f is = refl
+reader_refused (Some l) reads f is = ap (λ b. not (is_some (unless (not l.done) Order (unless (not b) Kind (f l))))) is ∙ by (not l.done) where
+  by : (b : Bool) → not (is_some (unless b Order (Some Kind))) ≡ false
+  by true = refl
+  by false = refl
+
+pub refuses_reader : (w : Work) (s : State) (c : ℕ) (f : Live → Option Fault) → ((l : Kept) → IsLive s c l → w.read_only c ≡ false → ⊥) → not (is_some (of_call (course_of s) c (λ l. unless (not (w.read_only c)) Kind (f l)))) ≡ false
+refuses_reader w s c f none = by (w.read_only c) refl where
+  by : (b : Bool) → w.read_only c ≡ b → not (is_some (of_call (course_of s) c (λ l. unless (not (w.read_only c)) Kind (f l)))) ≡ false
+  by true is = reader_refused (slice_get (map live_of s.calls) c) (w.read_only c) f is
+  by false is = refuses_none s c (λ l. unless (not (w.read_only c)) Kind (f l)) (λ l live. none l live is)
 
 pub allows_begin : (w : Work) (s : State) (c : ℕ) (b : Bool) → b ≡ ((c == length s.calls) && nat_lt c w.count) → b ≡ not (is_some (refusal w (course_of s) (B c)))
 allows_begin w s c b is = by b ∙ ap (λ x. not (is_some (unless x Order None))) (is ∙ ap (λ n. (c == n) && nat_lt c w.count) (sym (length-map s.calls live_of))) where

@@ -6,7 +6,7 @@ use Rattle.std.proofs.lemmas.Fmt.{decimal_is_IsNumeral}
 use Rattle.std.proofs.lemmas.List.Elements.{All-head, All-tail}
 use Rattle.std.proofs.lemmas.Option.{same_Some}
 use Rattle.mv_journal.specs.declared.event.Event.{Event}
-use Rattle.mv_journal.specs.declared.event.Event.TheVariants.{B, S, A, M, C, X, G}
+use Rattle.mv_journal.specs.declared.event.Event.TheVariants.{B, S, A, M, C, X, R, G}
 use Rattle.mv_journal.specs.Events.{event_text, IsInRange}
 use Rattle.mv_journal.specs.Lines.{IsNumber, IsEventLine}
 use Rattle.mv_journal.specs.Reading.{event_in}
@@ -24,6 +24,7 @@ written_is (A call) small = (decimal call, refl, is_number call small)
 written_is (M call) small = (decimal call, refl, is_number call small)
 written_is (C call) small = (decimal call, refl, is_number call small)
 written_is (X call) small = (decimal call, refl, is_number call small)
+written_is (R call) small = (decimal call, refl, is_number call small)
 written_is G small = refl
 
 abbrev only_shown : Event → Option Event
@@ -43,6 +44,7 @@ events_back (A c ∷ es) h = lead (A c) (shown es) refl (All-head IsInRange (A c
 events_back (M c ∷ es) h = lead (M c) (shown es) refl (All-head IsInRange (M c) es h) (events_back es (All-tail IsInRange (M c) es h))
 events_back (C c ∷ es) h = lead (C c) (shown es) refl (All-head IsInRange (C c) es h) (events_back es (All-tail IsInRange (C c) es h))
 events_back (X c ∷ es) h = lead (X c) (shown es) refl (All-head IsInRange (X c) es h) (events_back es (All-tail IsInRange (X c) es h))
+events_back (R c ∷ es) h = lead (R c) (shown es) refl (All-head IsInRange (R c) es h) (events_back es (All-tail IsInRange (R c) es h))
 events_back (G ∷ es) h = events_back es (All-tail IsInRange G es h)
 
 -- Only events with a line are read

@@ -14,21 +14,23 @@ use Rattle.mv_lawful.specs.Work.{Work, table_at, records_at, changes_up_to}
 use Rattle.mv_lawful.specs.Lawful.{Turn}
 use Rattle.mv_lawful.specs.Rounds.{later_run, rounds_of}
 use Rattle.mv_audit.specs.declared.course.Live.{Live as Kept}
-use Rattle.mv_audit.specs.Courses.{turn_of, turns_in, closed, counted, count_by, more_rounds, last_start, WithinRounds, IsReply, TellsRun, TellsCall, AreSince, fresh, restarted, finished}
-use Rattle.mv_audit.proofs.Counting.{turns_closed, table_stays, within_more, within_end, rounds_stay, rounds_more, found_last, found_stays}
+use Rattle.mv_audit.specs.Courses.{turn_of, turns_in, closed, counted, count_by, more_rounds, last_start, WithinRounds, IsReply, TellsRun, TellsCall, AreSince, fresh, restarted, finished, answered}
+use Rattle.mv_lawful.proofs.Serial.{stands}
+use Rattle.mv_audit.proofs.Counting.{turns_closed, table_stays, within_more, within_end, rounds_stay, rounds_more, before_stays, before_commit, before_answer, before_other}
 
 -- A commit more
 
 longer : (order : List ℕ) (d : ℕ) → length (order ++ d ∷ []) ≡ length order + 1
 longer order d = length-append order (d ∷ [])
 
-run_more : (w : Work) (order : List ℕ) (d c : ℕ) (l : Kept) (o : Option Reply) → l.start ≤ length order → TellsRun w order c l o → TellsRun w (order ++ d ∷ []) c l o
-run_more w order d c l None past is = is ∙ ap (λ db. (w.run c db).records) (sym (table_stays w order d l.start past))
-run_more w order d c l (Some reply) past h =
-    (h.0, found_stays order c d h.0 h.1, (let k = h.2 in let n = longer order d in omega (arith, k, n)), h.3 ∙ ap (λ db. (w.run c db).reply) (sym (table_stays w order d h.0 (let k = h.2 in omega (arith, k)))))
+run_more : (w : Work) (order answers : List ℕ) (d c : ℕ) (l : Kept) (o : Option Reply) → l.start ≤ length order → TellsRun w order answers c l o → TellsRun w (order ++ d ∷ []) answers c l o
+run_more w order answers d c l None past h =
+    (h.0 ∙ ap (λ db. (w.run c db).records) (sym (table_stays w order d l.start past)), h.1 ∙ ap (λ db. (w.run c db).reply) (sym (table_stays w order d l.start past)))
+run_more w order answers d c l (Some reply) past h =
+    (h.0, before_stays order answers l.start c d h.0 h.1, (let k = h.2 in let n = longer order d in omega (arith, k, n)), h.3 ∙ ap (λ db. (w.run c db).reply) (sym (table_stays w order d h.0 h.2)))
 
-pub tells_more : (w : Work) (order : List ℕ) (d c : ℕ) (l : Kept) → TellsCall w order c l → TellsCall w (order ++ d ∷ []) c l
-tells_more w order d c l t = record {
+pub tells_more : (w : Work) (order answers : List ℕ) (d c : ℕ) (l : Kept) → TellsCall w order answers c l → TellsCall w (order ++ d ∷ []) answers c l
+tells_more w order answers d c l t = record {
   first = t.first;
   rest = t.rest;
   are = t.are;
@@ -36,13 +38,46 @@ tells_more w order d c l t = record {
   past = let p = t.past in let n = longer order d in omega (arith, p, n);
   within = within_more (length order) (length (order ++ d ∷ [])) (turns_in l.rounds) (let n = longer order d in omega (arith, n)) t.within;
   rounds = t.rounds ∙ sym (rounds_stay w order d c (turns_in l.rounds) t.within);
-  run = run_more w order d c l l.reply t.past t.run;
+  run = run_more w order answers d c l l.reply t.past t.run;
 }
+
+-- An answer more
+
+run_other : (w : Work) (order answers : List ℕ) (d c : ℕ) (l : Kept) (o : Option Reply) → (d ≡ c → ⊥) → TellsRun w order answers c l o → TellsRun w order (answers ++ d ∷ []) c l o
+run_other w order answers d c l None apart h = h
+run_other w order answers d c l (Some reply) apart h = (h.0, before_other order answers l.start c d apart ∙ h.1, h.2, h.3)
+
+pub tells_other : (w : Work) (order answers : List ℕ) (d c : ℕ) (l : Kept) → (d ≡ c → ⊥) → TellsCall w order answers c l → TellsCall w order (answers ++ d ∷ []) c l
+tells_other w order answers d c l apart t = record {
+  first = t.first;
+  rest = t.rest;
+  are = t.are;
+  start = t.start;
+  past = t.past;
+  within = t.within;
+  rounds = t.rounds;
+  run = run_other w order answers d c l l.reply apart t.run;
+}
+
+pub answered_tells : (w : Work) (order answers : List ℕ) (c : ℕ) (l : Kept) → TellsCall w order answers c l → l.reply ≡ None → TellsCall w order (answers ++ c ∷ []) c (answered l)
+answered_tells w order answers c l t live = record {
+  first = t.first;
+  rest = t.rest;
+  are = t.are;
+  start = t.start;
+  past = t.past;
+  within = t.within;
+  rounds = t.rounds;
+  run = (l.start, before_answer order answers l.start c, t.past, given);
+} where
+  given : l.given ≡ (w.run c (table_at w order l.start)).reply
+  given = (subst (TellsRun w order answers c l) live t.run).1
 
 -- A round more
 
-pub fresh_tells : (w : Work) (order : List ℕ) (c : ℕ) (new : List Record) → new ≡ records_at w order (length order) c → TellsCall w order c (fresh (length order) new)
-fresh_tells w order c new is = record {
+pub fresh_tells : (w : Work) (order answers : List ℕ) (c : ℕ) (new : List Record) (given : Reply) → new ≡ records_at w order (length order) c → given ≡ (w.run c (table_at w order (length order))).reply
+    → TellsCall w order answers c (fresh (length order) new given)
+fresh_tells w order answers c new given is told = record {
   first = counted (length order) Plain (length new);
   rest = [];
   are = refl;
@@ -50,7 +85,7 @@ fresh_tells w order c new is = record {
   past = omega arith;
   within = (omega arith, tt);
   rounds = ap (λ (rs : List Record). counted (length order) Plain (length rs) ∷ []) is;
-  run = is;
+  run = (is, told);
 }
 
 -- the number of a round by what is kept
@@ -76,9 +111,9 @@ count_is w order c m start old new commits past is are all = by m where
   by Moved = ap length are
 
 -- the rounds with one more are those of the law
-more_are : (w : Work) (order : List ℕ) (c : ℕ) (m : Mark) (l : Kept) (new : List Record) (commits : List (List Change)) → TellsCall w order c l → l.reply ≡ None → new ≡ records_at w order (length order) c
+more_are : (w : Work) (order answers : List ℕ) (c : ℕ) (m : Mark) (l : Kept) (new : List Record) (commits : List (List Change)) → TellsCall w order answers c l → l.reply ≡ None → new ≡ records_at w order (length order) c
     → AreSince w order l.start commits → more_rounds l (length commits) m new commits ≡ rounds_of w order c (turns_in l.rounds ++ record { start = length order; mark = m } ∷ [])
-more_are w order c m l new commits t live are all =
+more_are w order answers c m l new commits t live are all =
     ap (λ n. closed m l.rounds ++ counted n m (count_by m l.records new (drop l.start commits)) ∷ []) many
     ∙ (ap (λ k. closed m l.rounds ++ counted (length order) m k ∷ []) (count_is w order c m l.start l.records new commits t.past old are all)
     ∙ (ap (λ s. closed m l.rounds ++ counted (length order) m (later_run w order c s (length order) m) ∷ []) t.start
@@ -89,7 +124,7 @@ more_are w order c m l new commits t live are all =
       many = all.many
 
       old : l.records ≡ records_at w order l.start c
-      old = subst (TellsRun w order c l) live t.run
+      old = (subst (TellsRun w order answers c l) live t.run).0
 
 -- the turns with one more
 pub turns_more : (m : Mark) (l : Kept) (n : ℕ) (new : List Record) (commits : List (List Change)) → turns_in (more_rounds l n m new commits) ≡ turns_in l.rounds ++ record { start = n; mark = m } ∷ []
@@ -119,16 +154,16 @@ first_more Moved n k r (s ∷ rs) = record {
 }
 
 -- a call with one more round, on the same commits
-more_tells : (w : Work) (order : List ℕ) (c : ℕ) (m : Mark) (l next : Kept) (new : List Record) (commits : List (List Change)) → TellsCall w order c l → l.reply ≡ None → new ≡ records_at w order (length order) c
-    → AreSince w order l.start commits → next.start ≡ length order → next.rounds ≡ more_rounds l (length commits) m new commits → TellsRun w order c next next.reply → TellsCall w order c next
-more_tells w order c m l next new commits t live are all start rounds run = record {
+more_tells : (w : Work) (order answers : List ℕ) (c : ℕ) (m : Mark) (l next : Kept) (new : List Record) (commits : List (List Change)) → TellsCall w order answers c l → l.reply ≡ None → new ≡ records_at w order (length order) c
+    → AreSince w order l.start commits → next.start ≡ length order → next.rounds ≡ more_rounds l (length commits) m new commits → TellsRun w order answers c next next.reply → TellsCall w order answers c next
+more_tells w order answers c m l next new commits t live are all start rounds run = record {
   first = some.first;
   rest = some.rest;
   are = rounds ∙ some_are;
   start = start ∙ (sym many ∙ some.start);
   past = omega (arith, start);
   within = subst (WithinRounds (length order)) (sym turns) (within_end (length order) (turns_in l.rounds) (record { start = length order; mark = m }) t.within (omega arith));
-  rounds = rounds ∙ (more_are w order c m l new commits t live are all ∙ ap (rounds_of w order c) (sym turns));
+  rounds = rounds ∙ (more_are w order answers c m l new commits t live are all ∙ ap (rounds_of w order c) (sym turns));
   run = run;
 } where
   many : length commits ≡ length order
@@ -143,22 +178,24 @@ more_tells w order c m l next new commits t live are all start rounds run = reco
   turns : turns_in next.rounds ≡ turns_in l.rounds ++ record { start = length order; mark = m } ∷ []
   turns = ap turns_in rounds ∙ (turns_more m l (length commits) new commits ∙ ap (λ n. turns_in l.rounds ++ record { start = n; mark = m } ∷ []) many)
 
-pub again_tells : (w : Work) (order : List ℕ) (c : ℕ) (m : Mark) (l : Kept) (new : List Record) (commits : List (List Change)) → TellsCall w order c l → l.reply ≡ None → new ≡ records_at w order (length order) c
-    → AreSince w order l.start commits → TellsCall w order c (restarted l m new commits)
-again_tells w order c m l new commits t live are all =
-    more_tells w order c m l (restarted l m new commits) new commits t live are all many refl (are ∙ ap (λ n. records_at w order n c) (sym many)) where
+pub again_tells : (w : Work) (order answers : List ℕ) (c : ℕ) (m : Mark) (l : Kept) (new : List Record) (given : Reply) (commits : List (List Change)) → TellsCall w order answers c l → l.reply ≡ None → new ≡ records_at w order (length order) c
+    → given ≡ (w.run c (table_at w order (length order))).reply → AreSince w order l.start commits → TellsCall w order answers c (restarted l m new given commits)
+again_tells w order answers c m l new given commits t live are told all =
+    more_tells w order answers c m l (restarted l m new given commits) new commits t live are all many refl
+    (are ∙ ap (λ n. records_at w order n c) (sym many), told ∙ ap (λ n. (w.run c (table_at w order n)).reply) (sym many)) where
       many : length commits ≡ length order
       many = all.many
 
 -- A commit of its own
 
-ended_run : (w : Work) (order : List ℕ) (c : ℕ) (reply : Reply) → ((k : ℕ) → slice_get order k ≡ Some c → ⊥) → reply ≡ (w.run c (table_at w order (length order))).reply → IsReply w (order ++ c ∷ []) c reply
-ended_run w order c reply apart is =
-    (length order, found_last order c apart, (let n = longer order c in omega (arith, n)), is ∙ ap (λ db. (w.run c db).reply) (sym (table_stays w order c (length order) (omega arith))))
+ended_run : (w : Work) (order answers : List ℕ) (start c : ℕ) (reply : Reply) → stands c answers ≡ false → ((k : ℕ) → slice_get order k ≡ Some c → ⊥) → reply ≡ (w.run c (table_at w order (length order))).reply
+    → IsReply w (order ++ c ∷ []) answers start c reply
+ended_run w order answers start c reply away apart is =
+    (length order, before_commit order answers start c away apart, (let n = longer order c in omega (arith, n)), is ∙ ap (λ db. (w.run c db).reply) (sym (table_stays w order c (length order) (omega arith))))
 
 -- as a call that is live but for its reply
-with_reply : (w : Work) (order : List ℕ) (c : ℕ) (l next : Kept) → TellsCall w order c l → next.start ≡ l.start → next.rounds ≡ l.rounds → TellsRun w order c next next.reply → TellsCall w order c next
-with_reply w order c l next t start rounds run = record {
+with_reply : (w : Work) (order answers : List ℕ) (c : ℕ) (l next : Kept) → TellsCall w order answers c l → next.start ≡ l.start → next.rounds ≡ l.rounds → TellsRun w order answers c next next.reply → TellsCall w order answers c next
+with_reply w order answers c l next t start rounds run = record {
   first = t.first;
   rest = t.rest;
   are = rounds ∙ t.are;
@@ -169,11 +206,12 @@ with_reply w order c l next t start rounds run = record {
   run = run;
 }
 
-pub finished_tells : (w : Work) (order : List ℕ) (c : ℕ) (own : Bool) (l : Kept) (new : List Record) (commits : List (List Change)) (reply : Reply) → TellsCall w order c l → l.reply ≡ None
-    → ((k : ℕ) → slice_get order k ≡ Some c → ⊥) → new ≡ records_at w order (length order) c → AreSince w order l.start commits → reply ≡ (w.run c (table_at w order (length order))).reply
-    → TellsCall w (order ++ c ∷ []) c (finished own l new commits reply)
-finished_tells w order c false l new commits reply t live apart are all is =
-    with_reply w (order ++ c ∷ []) c l (finished false l new commits reply) (tells_more w order c c l t) refl refl (ended_run w order c reply apart is)
-finished_tells w order c true l new commits reply t live apart are all is =
-    with_reply w (order ++ c ∷ []) c (restarted l Exclusive new commits) (finished true l new commits reply) (tells_more w order c c (restarted l Exclusive new commits) (again_tells w order c Exclusive l new commits t live are all)) refl refl
-    (ended_run w order c reply apart is)
+pub finished_tells : (w : Work) (order answers : List ℕ) (c : ℕ) (own : Bool) (l : Kept) (new : List Record) (commits : List (List Change)) (reply : Reply) → TellsCall w order answers c l → l.reply ≡ None
+    → stands c answers ≡ false → ((k : ℕ) → slice_get order k ≡ Some c → ⊥) → new ≡ records_at w order (length order) c → AreSince w order l.start commits → reply ≡ (w.run c (table_at w order (length order))).reply
+    → TellsCall w (order ++ c ∷ []) answers c (finished own l new commits reply)
+finished_tells w order answers c false l new commits reply t live away apart are all is =
+    with_reply w (order ++ c ∷ []) answers c l (finished false l new commits reply) (tells_more w order answers c c l t) refl refl (ended_run w order answers l.start c reply away apart is)
+finished_tells w order answers c true l new commits reply t live away apart are all is =
+    with_reply w (order ++ c ∷ []) answers c (restarted l Exclusive new reply commits) (finished true l new commits reply)
+    (tells_more w order answers c c (restarted l Exclusive new reply commits) (again_tells w order answers c Exclusive l new reply commits t live are is all)) refl refl
+    (ended_run w order answers (length commits) c reply away apart is)

@@ -1,7 +1,7 @@
 -- What the auditor keeps of the events that it has read: a state of the law of journals, with the records of each live
 -- call, the rounds of each call with their numbers, and the changes of each commit. This project's own.
-use Rattle.std.specs.Prelude.{◌≡◌, ◌≤◌, ◌<◌, ℕ, ◌==◌, Bool, true, false, List, [], ◌∷◌, ◌++◌, Option, Some, None, map, length, drop, slice_get, slice_set, option_to_list}
-use Rattle.std.specs.List.{position, flat_map}
+use Rattle.std.specs.Prelude.{◌≡◌, ◌≤◌, ℕ, Bool, true, false, List, [], ◌∷◌, ◌++◌, Option, Some, None, map, length, drop, slice_get, slice_set, option_to_list}
+use Rattle.std.specs.List.{flat_map}
 use Rattle.std.specs.Option.{is_some}
 use Rattle.mv_values.specs.declared.calls.End.{End}
 use Rattle.mv_values.specs.declared.calls.Reply.{Reply}
@@ -26,7 +26,8 @@ use Rattle.mv_lawful.specs.Lawful.{Turn, Live, Course, wrong_with}
 use Rattle.mv_lawful.specs.declared.fault.Fault.{Fault}
 use Rattle.mv_lawful.specs.declared.fault.Wrong.TheVariants as wrong
 use Rattle.mv_lawful.specs.Rounds.{rounds_of}
-use Rattle.mv_lawful.specs.Outcomes.{outcome_of}
+use Rattle.mv_lawful.specs.declared.places.Place.{Place}
+use Rattle.mv_lawful.specs.Outcomes.{commits_before, outcome_of}
 use Rattle.mv_lawful.proofs.Serial.{OrderlyAt}
 use Rattle.mv_report.specs.History.{work_of}
 use Rattle.mv_audit.specs.declared.course.Live.{Live as Kept}
@@ -89,17 +90,18 @@ WithinRounds n (t ∷ ts) = (t.start ≤ n) × WithinRounds n ts
 abbrev pub live_of : Kept → Live
 live_of l = record { start = l.start; turns = turns_in l.rounds; steps = 0; done = is_some l.reply }
 
--- the reply of a call of the order, alone after those before it
-abbrev pub IsReply : Work → List ℕ → ℕ → Reply → Type 0
-IsReply w order c reply = (k : ℕ) × (position (λ d. d == c) order ≡ Some k) × (k < length order) × (reply ≡ (w.run c (table_at w order k)).reply)
+-- the reply of a call of the order, alone after those before it; that of an answered call, alone after those up to its
+-- start
+abbrev pub IsReply : Work → List ℕ → List ℕ → ℕ → ℕ → Reply → Type 0
+IsReply w order answered start c reply = (k : ℕ) × (commits_before order answered start c ≡ Some k) × (k ≤ length order) × (reply ≡ (w.run c (table_at w order k)).reply)
 
--- a live call has its records, and one that has committed its reply
-abbrev pub TellsRun : Work → List ℕ → ℕ → Kept → Option Reply → Type 0
-TellsRun w order c l None = l.records ≡ records_at w order l.start c
-TellsRun w order c l (Some reply) = IsReply w order c reply
+-- a live call has its records and the reply of its full run, and one that is done its reply
+abbrev pub TellsRun : Work → List ℕ → List ℕ → ℕ → Kept → Option Reply → Type 0
+TellsRun w order answered c l None = (l.records ≡ records_at w order l.start c) × (l.given ≡ (w.run c (table_at w order l.start)).reply)
+TellsRun w order answered c l (Some reply) = IsReply w order answered l.start c reply
 
 -- what is kept of a call is so
-pub record TellsCall (w : Work) (order : List ℕ) (c : ℕ) (l : Kept) : Type 0 where
+pub record TellsCall (w : Work) (order answered : List ℕ) (c : ℕ) (l : Kept) : Type 0 where
   pub first : Round
   pub rest : List Round
   pub are : l.rounds ≡ first ∷ rest
@@ -107,7 +109,7 @@ pub record TellsCall (w : Work) (order : List ℕ) (c : ℕ) (l : Kept) : Type 0
   pub past : l.start ≤ length order
   pub within : WithinRounds (length order) (turns_in l.rounds)
   pub rounds : l.rounds ≡ rounds_of w order c (turns_in l.rounds)
-  pub run : TellsRun w order c l l.reply
+  pub run : TellsRun w order answered c l l.reply
 
 -- the call with this number is live
 pub record IsLive (s : State) (c : ℕ) (l : Kept) : Type 0 where
@@ -117,7 +119,7 @@ pub record IsLive (s : State) (c : ℕ) (l : Kept) : Type 0 where
 -- The state
 
 abbrev pub course_of : State → Course
-course_of s = record { order = s.order; calls = map live_of s.calls; low = 0 }
+course_of s = record { order = s.order; calls = map live_of s.calls; low = 0; answered = s.answered }
 
 -- what is kept is so, and the tables are those after all commits. The changes of the first `low` commits are gone, and
 -- no live call needs them
@@ -129,11 +131,12 @@ pub record IsCourse (infos : List TableInfo) (w : Work) (s : State) : Type 0 whe
   pub changes : drop s.low s.commits ≡ drop s.low (changes_after w w.opening s.order)
   pub needed : (c : ℕ) (l : Kept) → slice_get s.calls c ≡ Some l → l.reply ≡ None → s.low ≤ l.start
   pub orderly : OrderlyAt w (course_of s)
-  pub tells : (c : ℕ) (l : Kept) → slice_get s.calls c ≡ Some l → TellsCall w s.order c l
+  pub tells : (c : ℕ) (l : Kept) → slice_get s.calls c ≡ Some l → TellsCall w s.order s.answered c l
 
 -- changes of old commits are dropped, and the rest stays
 pub record IsTrimmed (s next : State) : Type 0 where
   pub order : next.order ≡ s.order
+  pub answered : next.answered ≡ s.answered
   pub calls : next.calls ≡ s.calls
   pub tables : next.tables ≡ s.tables
   pub many : length next.commits ≡ length s.commits
@@ -160,18 +163,26 @@ left_by rs end db = applied (writes_in (staying rs end)) db
 
 -- Events
 
--- a call that begins after n commits, and leaves these records
-abbrev pub fresh : ℕ → List Record → Kept
-fresh n new = record { start = n; records = new; rounds = counted n Plain (length new) ∷ []; reply = None }
+-- a reply without lines
+abbrev pub no_reply : Reply
+no_reply = record { lines = []; end = None }
 
--- a call that is repaired or moved after all commits, and leaves these records
-abbrev pub restarted : Kept → Mark → List Record → List (List Change) → Kept
-restarted l mark new commits = record { start = length commits; records = new; rounds = more_rounds l (length commits) mark new commits; reply = None }
+-- a call that begins after n commits. Its full run leaves these records and this reply
+abbrev pub fresh : ℕ → List Record → Reply → Kept
+fresh n new given = record { start = n; records = new; given = given; rounds = counted n Plain (length new) ∷ []; reply = None }
+
+-- a call that is repaired or moved after all commits. Its full run leaves these records and this reply
+abbrev pub restarted : Kept → Mark → List Record → Reply → List (List Change) → Kept
+restarted l mark new given commits = record { start = length commits; records = new; given = given; rounds = more_rounds l (length commits) mark new commits; reply = None }
 
 -- a call that commits with this reply; with `own`, in a round of its own that leaves these records
 abbrev pub finished : Bool → Kept → List Record → List (List Change) → Reply → Kept
-finished false l new commits reply = record { start = l.start; records = []; rounds = l.rounds; reply = Some reply }
-finished true l new commits reply = record { start = length commits; records = []; rounds = more_rounds l (length commits) Exclusive new commits; reply = Some reply }
+finished false l new commits reply = record { start = l.start; records = []; given = no_reply; rounds = l.rounds; reply = Some reply }
+finished true l new commits reply = record { start = length commits; records = []; given = no_reply; rounds = more_rounds l (length commits) Exclusive new commits; reply = Some reply }
+
+-- a call that is answered with the reply of its full run
+abbrev pub answered : Kept → Kept
+answered l = record { start = l.start; records = []; given = no_reply; rounds = l.rounds; reply = Some l.given }
 
 -- a repair or a move
 abbrev pub round_event : Bool → ℕ → Event
@@ -187,13 +198,17 @@ abbrev pub commit_event : Bool → ℕ → Event
 commit_event false c = C c
 commit_event true c = X c
 
--- the state after a call begins, which leaves these records
-abbrev pub begun_state : State → List Record → State
-begun_state s new = record s { calls = s.calls ++ fresh (length s.order) new ∷ [] }
+-- the state after a call begins, whose full run leaves these records and this reply
+abbrev pub begun_state : State → List Record → Reply → State
+begun_state s new given = record s { calls = s.calls ++ fresh (length s.order) new given ∷ [] }
 
--- the state after a call is repaired or moved, and leaves these records
-abbrev pub again_state : State → ℕ → Kept → Mark → List Record → State
-again_state s c l m new = record s { calls = slice_set s.calls c (restarted l m new s.commits) }
+-- the state after a call is repaired or moved, whose full run leaves these records and this reply
+abbrev pub again_state : State → ℕ → Kept → Mark → List Record → Reply → State
+again_state s c l m new given = record s { calls = slice_set s.calls c (restarted l m new given s.commits) }
+
+-- the state after a call is answered
+abbrev pub answered_state : State → ℕ → Kept → State
+answered_state s c l = record s { answered = s.answered ++ c ∷ []; calls = slice_set s.calls c (answered l) }
 
 -- the state after a call commits with these records and this reply, which leads to a database
 abbrev pub committed_state : State → ℕ → Kept → Bool → List Record → Reply → Tables → State
@@ -214,10 +229,10 @@ abbrev pub rounds_by : Option Kept → List Round
 rounds_by None = []
 rounds_by (Some l) = l.rounds
 
-abbrev pub line_of : List Kept → ℕ → HistoryLine
-line_of ls c = record { call = c; rounds = rounds_by (slice_get ls c) }
+abbrev pub line_of : List Kept → Place → HistoryLine
+line_of ls p = record { commit = p.commit; call = p.call; rounds = rounds_by (slice_get ls p.call) }
 
--- the replies of those that have committed
+-- the replies of those that are done
 abbrev pub replies_in : List Kept → List Reply
 replies_in ls = flat_map (λ l. option_to_list l.reply) ls
 

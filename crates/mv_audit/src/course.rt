@@ -1,11 +1,12 @@
 //! The state of a journal under audit, and which events it allows.
 
-ghost use Rattle.std.specs.Prelude.{◌≡◌, ◌==◌, ◌-◌, ◌≤◌, ◌&&◌, ℕ, not, nat_lt, [], true, IfSome, IfNone, length, drop};
+ghost use Rattle.std.specs.Prelude.{◌≡◌, ◌==◌, ◌-◌, ◌≤◌, ◌&&◌, ℕ, not, nat_lt, [], true, false, IfSome, IfNone, length, drop, slice_get};
 ghost use Rattle.std.specs.Option.{is_some};
 ghost use Rattle.mv_journal.specs.declared.event.Event.TheVariants as an;
 ghost use Rattle.mv_history.specs.Hits.{first_hit};
 ghost use Rattle.mv_lawful.specs.Lawful.{refusal};
 ghost use Rattle.mv_lawful.specs.Outcomes.{has_line};
+ghost use Rattle.mv_report.specs.History.{is_read_only, reads_by};
 ghost use Rattle.mv_audit.specs.declared.course.Live.{Live as Kept};
 ghost use Rattle.mv_audit.specs.Courses.{audited, course_of, IsLive, IsCourse};
 
@@ -24,10 +25,12 @@ use mv_values::list::List;
 pub(crate) struct Live {
     /// The number of commits before its last round.
     pub start: u32,
-    /// The records of its full run at its start, until it commits.
+    /// The records of its full run at its start, until it is done.
     pub records: List<Record>,
+    /// The reply of this run, until it is done.
+    pub given: Reply,
     pub rounds: List<Round>,
-    /// Its reply, after it has committed.
+    /// Its reply, after it has committed or was answered.
     pub reply: Option<Reply>,
 }
 
@@ -36,6 +39,8 @@ pub(crate) struct Live {
 pub(crate) struct Course {
     /// The calls that have committed, in order.
     pub order: List<u32>,
+    /// The calls that were answered, in order.
+    pub answered: List<u32>,
     /// The changes of each commit. Those of the first `low` commits are gone.
     pub commits: List<List<Change>>,
     /// The calls that have begun, by number.
@@ -98,12 +103,49 @@ fn is_next(program: &Program, course: &Course, call: u32) -> bool
     both(call as usize == calls, (call as usize) < all)
 }
 
+/// Whether a call is of a READ ONLY procedure.
+fn is_read_only(program: &Program, call: u32) -> bool
+    ensures { result ≡ is_read_only program.now call }
+{
+    match program.resolved.calls.as_slice().get(call as usize) {
+        None => false,
+        Some(call) => reads_only(program, call.procedure),
+    }
+}
+
+/// Whether the procedure with this number is READ ONLY.
+fn reads_only(program: &Program, procedure: u16) -> bool
+    ensures { result ≡ reads_by (slice_get program.now.resolved.procedures procedure) }
+{
+    match program
+        .resolved
+        .procedures
+        .as_slice()
+        .get(procedure as usize)
+    {
+        None => false,
+        Some(procedure) => procedure.read_only,
+    }
+}
+
+/// Returns the call with this number, if it is live and not read only.
+fn writer_at<'a>(program: &Program, course: &'a Course, call: u32) -> Option<&'a Live>
+    ensures found { IfSome result (λ l. IsLive course.now call l.now) }
+    ensures writes { IfSome result (λ l. is_read_only program.now call ≡ false) }
+    ensures none { IfNone result ((l : Kept) → IsLive course.now call l → is_read_only program.now call ≡ false → ⊥) }
+{
+    if is_read_only(program, call) {
+        return None;
+    }
+    live_at(course, call)
+}
+
 /// Whether a call may be repaired.
 fn may_repair(program: &Program, rounds: u32, course: &Course, call: u32) -> bool
     requires { IsCourse program.now.resolved.tables (audited program.now rounds) course.now }
     ensures { result ≡ not (is_some (refusal (audited program.now rounds) (course_of course.now) (an.A call))) }
 {
-    match live_at(course, call) {
+    match writer_at(program, course, call) {
         None => false,
         Some(live) => both(is_hit_by(course, live), has_round(live, rounds)),
     }
@@ -125,7 +167,7 @@ fn may_commit(program: &Program, rounds: u32, course: &Course, call: u32) -> boo
     requires { IsCourse program.now.resolved.tables (audited program.now rounds) course.now }
     ensures { result ≡ not (is_some (refusal (audited program.now rounds) (course_of course.now) (an.C call))) }
 {
-    match live_at(course, call) {
+    match writer_at(program, course, call) {
         None => false,
         Some(live) => !is_hit_by(course, live),
     }
@@ -136,9 +178,20 @@ fn may_decide(program: &Program, rounds: u32, course: &Course, call: u32) -> boo
     requires { IsCourse program.now.resolved.tables (audited program.now rounds) course.now }
     ensures { result ≡ not (is_some (refusal (audited program.now rounds) (course_of course.now) (an.X call))) }
 {
-    match live_at(course, call) {
+    match writer_at(program, course, call) {
         None => false,
         Some(live) => both(is_hit_by(course, live), !has_round(live, rounds)),
+    }
+}
+
+/// Whether a call may be answered.
+fn may_answer(program: &Program, rounds: u32, course: &Course, call: u32) -> bool
+    requires { IsCourse program.now.resolved.tables (audited program.now rounds) course.now }
+    ensures { result ≡ not (is_some (refusal (audited program.now rounds) (course_of course.now) (an.R call))) }
+{
+    match live_at(course, call) {
+        None => false,
+        Some(_) => is_read_only(program, call),
     }
 }
 
@@ -154,6 +207,7 @@ pub(crate) fn allows(program: &Program, rounds: u32, course: &Course, event: Eve
         Event::M(call) => may_move(program, rounds, course, call),
         Event::C(call) => may_commit(program, rounds, course, call),
         Event::X(call) => may_decide(program, rounds, course, call),
+        Event::R(call) => may_answer(program, rounds, course, call),
         Event::S(_) | Event::G => false,
     }
 }

@@ -9,7 +9,7 @@ ghost use Rattle.mv_lawful.specs.Lawful.{refusal, after};
 ghost use Rattle.mv_audit.specs.Courses.{audited, course_of, round_event, commit_event, IsLiveCall, IsCourse};
 
 use crate::course::Course;
-use crate::steps::{with_call, with_commit, with_round};
+use crate::steps::{with_answer, with_call, with_commit, with_round};
 use crate::trimming::trimmed;
 use mv_catalog::resolved::Program;
 use mv_record::record::Record;
@@ -38,6 +38,7 @@ fn run(alloc: Global, program: &Program, course: Course, call: u32) -> Result<Ra
 {
     let Course {
         order,
+        answered,
         commits,
         calls,
         tables,
@@ -52,6 +53,7 @@ fn run(alloc: Global, program: &Program, course: Course, call: u32) -> Result<Ra
     } = ran;
     let course = Course {
         order,
+        answered,
         commits,
         calls,
         tables,
@@ -85,9 +87,9 @@ pub(crate) fn begin(
     let Ran {
         course,
         records,
-        reply: _,
+        reply,
     } = ran;
-    with_call(alloc, course, records)
+    with_call(alloc, course, records, reply)
 }
 
 /// Repairs a live call, or moves it.
@@ -111,9 +113,9 @@ pub(crate) fn again(
     let Ran {
         course,
         records,
-        reply: _,
+        reply,
     } = ran;
-    with_round(alloc, course, call, moved, records)
+    with_round(alloc, course, call, moved, records, reply)
 }
 
 /// Commits a live call. With `own` it is repaired in the same step.
@@ -161,4 +163,22 @@ pub(crate) fn commit(
 {
     let course = commit_call(alloc, program, rounds, course, call, own)?;
     Ok(trimmed(alloc, course))
+}
+
+/// Answers a live call.
+pub(crate) fn answer(
+    alloc: Global,
+    program: &Program,
+    rounds: u32,
+    course: Course,
+    call: u32,
+) -> Result<Course, NoMemory>
+    requires whole { IsProgram program.now }
+    requires course { IsCourse program.now.resolved.tables (audited program.now rounds) course }
+    requires allowed { refusal (audited program.now rounds) (course_of course) (an.R call) ≡ None }
+    requires live { IsLiveCall course call }
+    ensures after { IfOk result (λ next. course_of next ≡ after (audited program.now rounds) (course_of course) (an.R call)) }
+    ensures course { IfOk result (IsCourse program.now.resolved.tables (audited program.now rounds)) }
+{
+    with_answer(alloc, course, call)
 }

@@ -6,13 +6,16 @@ ghost use Rattle.mv_journal.specs.declared.event.Event.{Event as AnEvent};
 ghost use Rattle.mv_record.specs.Databases.{IsProgram};
 ghost use Rattle.mv_lawful.specs.Lawful.{refusal, after, beginning, first_open, open_call, course_of as reached};
 ghost use Rattle.mv_lawful.specs.Outcomes.{has_line, outcome_of};
+ghost use Rattle.mv_lawful.specs.declared.places.Place.{Place as APlace};
+ghost use Rattle.mv_audit.specs.declared.course.Live.{Live as Kept};
 ghost use Rattle.mv_audit.specs.Courses.{audited, course_of, line_of, live_of, replies_in, IsCourse, IsJudgement, IsWithin};
 
 use crate::course::{Course, Live, allows};
-use crate::events::{again, begin, commit};
+use crate::events::{again, answer, begin, commit};
 use mv_catalog::resolved::Program;
 use mv_journal::event::Event;
 use mv_journal::outcome::{HistoryLine, Outcome, Round};
+use mv_lawful::places::{Place, places_of};
 use mv_table::table::{Table, Tables};
 use mv_values::calls::Reply;
 use mv_values::copied::Copied;
@@ -65,6 +68,7 @@ fn opening(alloc: Global, program: &Program, rounds: u32) -> Result<Course, NoMe
     let tables = tables_of(alloc, &program.opening)?;
     Ok(Course {
         order: List::new(alloc),
+        answered: List::new(alloc),
         commits: List::new(alloc),
         calls: List::new(alloc),
         tables,
@@ -98,18 +102,19 @@ fn advance(
         Event::M(call) => again(alloc, program, rounds, course, call, true),
         Event::C(call) => commit(alloc, program, rounds, course, call, false),
         Event::X(call) => commit(alloc, program, rounds, course, call, true),
+        Event::R(call) => answer(alloc, program, rounds, course, call),
         Event::S(_) | Event::G => Ok(course),
     }
 }
 
-/// Whether a call hasn't committed.
+/// Whether a call isn't done.
 fn is_open(program: &Program, rounds: u32, course: &Course) -> bool
     ensures { result ≡ is_some (open_call (audited program.now rounds) (course_of course.now)) }
 {
     first_open(course.calls.as_slice()) < program.resolved.calls.len()
 }
 
-/// Returns the number of the first call that hasn't committed.
+/// Returns the number of the first call that isn't done.
 fn first_open(calls: &[Live]) -> usize
     ensures { result ≡ first_open 0 (map live_of calls.now) }
 {
@@ -130,16 +135,32 @@ fn copy_rounds(alloc: Global, rounds: &[Round]) -> Result<List<Round>, NoMemory>
     Ok(all)
 }
 
-/// Returns the commits of these calls, in order.
-fn history_of(alloc: Global, calls: &[Live], order: &[u32]) -> Result<List<HistoryLine>, NoMemory>
-    requires { All (λ c. c < length calls.now) order.now }
-    ensures { IfOk result (λ history. history ≡ map (line_of calls.now) order.now) }
+/// Returns the start of each call.
+fn starts_of(alloc: Global, calls: &[Live]) -> Result<List<u32>, NoMemory>
+    ensures { IfOk result (λ starts. starts ≡ map (λ (l : Kept). l.start) calls.now) }
+{
+    let mut starts = List::new(alloc);
+    for call in calls {
+        starts.push(call.start)?;
+    }
+    Ok(starts)
+}
+
+/// Returns the lines of calls in their places.
+fn history_of(
+    alloc: Global,
+    calls: &[Live],
+    places: &[Place],
+) -> Result<List<HistoryLine>, NoMemory>
+    requires { All (λ (p : APlace). p.call < length calls.now) places.now }
+    ensures { IfOk result (λ history. history ≡ map (line_of calls.now) places.now) }
 {
     let mut history = List::new(alloc);
-    for call in order {
-        let rounds = copy_rounds(alloc, calls[*call as usize].rounds.as_slice())?;
+    for place in places {
+        let rounds = copy_rounds(alloc, calls[place.call as usize].rounds.as_slice())?;
         history.push(HistoryLine {
-            call: *call,
+            commit: place.commit,
+            call: place.call,
             rounds,
         })?;
     }
@@ -158,7 +179,7 @@ fn copy_reply(alloc: Global, reply: &Reply) -> Result<Reply, NoMemory>
     Ok(Reply { lines, end })
 }
 
-/// Returns the replies of the calls that have committed.
+/// Returns the replies of the calls that are done.
 fn replies_of(alloc: Global, calls: &[Live]) -> Result<List<Reply>, NoMemory>
     ensures { IfOk result (λ replies. replies ≡ replies_in calls.now) }
 {
@@ -182,17 +203,26 @@ fn outcome_of(
     requires course { IsCourse program.now.resolved.tables (audited program.now rounds) course }
     requires events { course_of course ≡ reached (audited program.now rounds) events.now }
     requires shut { open_call (audited program.now rounds) (course_of course) ≡ None }
+    requires few { length course.order < 2 ^ 32 }
     ensures { IfOk result (λ o. o ≡ outcome_of (audited program.now rounds) events.now) }
 {
     let Course {
         order,
+        answered,
         commits: _,
         calls,
         tables,
         low: _,
         due: _,
     } = course;
-    let history = history_of(alloc, calls.as_slice(), order.as_slice())?;
+    let starts = starts_of(alloc, calls.as_slice())?;
+    let places = places_of(
+        alloc,
+        order.as_slice(),
+        starts.as_slice(),
+        answered.as_slice(),
+    )?;
+    let history = history_of(alloc, calls.as_slice(), places.as_slice())?;
     let replies = replies_of(alloc, calls.as_slice())?;
     let mut journal = List::new(alloc);
     journal.append(events)?;

@@ -130,7 +130,9 @@ fn with_line(event: Event) -> Option<Event>
 {
     match event {
         Event::S(_) | Event::G => None,
-        Event::B(_) | Event::A(_) | Event::M(_) | Event::C(_) | Event::X(_) => Some(event),
+        Event::B(_) | Event::A(_) | Event::M(_) | Event::C(_) | Event::X(_) | Event::R(_) => Some(
+            event,
+        ),
     }
 }
 

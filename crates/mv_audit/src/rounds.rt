@@ -2,7 +2,7 @@
 
 ghost use Rattle.std.specs.Prelude.{◌≡◌, ◌≤◌, ◌<◌, ◌^◌, IfOk, length};
 ghost use Rattle.mv_record.specs.Paths.{PathsRise};
-ghost use Rattle.mv_audit.specs.Courses.{unnumbered, closed, count_by, more_rounds, fresh, restarted, finished};
+ghost use Rattle.mv_audit.specs.Courses.{unnumbered, closed, count_by, more_rounds, no_reply, fresh, restarted, finished, answered};
 
 use crate::course::Live;
 use crate::kept::executions;
@@ -76,6 +76,7 @@ fn more_rounds(
     let Live {
         start,
         records: old,
+        given: _,
         rounds,
         reply: _,
     } = live;
@@ -90,9 +91,24 @@ fn more_rounds(
     Ok(rounds)
 }
 
-/// Returns a call that begins after this many commits, and leaves these records.
-pub(crate) fn fresh(alloc: Global, start: u32, records: List<Record>) -> Result<Live, NoMemory>
-    ensures { IfOk result (λ live. live ≡ fresh start records) }
+/// Returns a reply without lines.
+pub(crate) fn no_reply(alloc: Global) -> Reply
+    ensures { result ≡ no_reply }
+{
+    Reply {
+        lines: List::new(alloc),
+        end: None,
+    }
+}
+
+/// Returns a call that begins after this many commits. Its full run leaves these records and this reply.
+pub(crate) fn fresh(
+    alloc: Global,
+    start: u32,
+    records: List<Record>,
+    reply: Reply,
+) -> Result<Live, NoMemory>
+    ensures { IfOk result (λ live. live ≡ fresh start records reply) }
 {
     let first = Round {
         start,
@@ -102,29 +118,32 @@ pub(crate) fn fresh(alloc: Global, start: u32, records: List<Record>) -> Result<
     Ok(Live {
         start,
         records,
+        given: reply,
         rounds: List::of(alloc, first)?,
         reply: None,
     })
 }
 
-/// Returns a call that is repaired or moved after all commits, and leaves these records.
+/// Returns a call that is repaired or moved after all commits. Its full run leaves these records and this reply.
 pub(crate) fn restarted(
     alloc: Global,
     live: Live,
     mark: Mark,
     records: List<Record>,
+    reply: Reply,
     commits: &[List<Change>],
 ) -> Result<Live, NoMemory>
     requires past { live.start ≤ length commits.now }
     requires few { length commits.now < 2 ^ 32 }
     requires old { PathsRise live.records }
     requires new { PathsRise records }
-    ensures { IfOk result (λ next. next ≡ restarted live mark records commits.now) }
+    ensures { IfOk result (λ next. next ≡ restarted live mark records reply commits.now) }
 {
     let rounds = more_rounds(alloc, live, mark, records.as_slice(), commits)?;
     Ok(Live {
         start: commits.len() as u32,
         records,
+        given: reply,
         rounds,
         reply: None,
     })
@@ -151,6 +170,7 @@ pub(crate) fn finished(
         Ok(Live {
             start: commits.len() as u32,
             records: none,
+            given: no_reply(alloc),
             rounds,
             reply: Some(reply),
         })
@@ -158,14 +178,36 @@ pub(crate) fn finished(
         let Live {
             start,
             records: _,
+            given: _,
             rounds,
             reply: _,
         } = live;
         Ok(Live {
             start,
             records: none,
+            given: no_reply(alloc),
             rounds,
             reply: Some(reply),
         })
+    }
+}
+
+/// Returns a call that is answered with the reply of its full run.
+pub(crate) fn answered(alloc: Global, live: Live) -> Live
+    ensures { result ≡ answered live }
+{
+    let Live {
+        start,
+        records: _,
+        given,
+        rounds,
+        reply: _,
+    } = live;
+    Live {
+        start,
+        records: List::new(alloc),
+        given: no_reply(alloc),
+        rounds,
+        reply: Some(given),
     }
 }

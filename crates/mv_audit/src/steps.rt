@@ -4,10 +4,10 @@ ghost use Rattle.std.specs.Prelude.{◌≡◌, ◌≤◌, ◌<◌, ◌^◌, Some
 ghost use Rattle.mv_record.specs.Paths.{PathsRise};
 ghost use Rattle.mv_record.specs.Writes.{AreRising};
 ghost use Rattle.mv_audit.specs.declared.course.Live.{Live as Kept};
-ghost use Rattle.mv_audit.specs.Courses.{mark_of, begun_state, again_state, committed_state, left_by};
+ghost use Rattle.mv_audit.specs.Courses.{mark_of, begun_state, again_state, committed_state, answered_state, left_by};
 
 use crate::course::{Course, Live};
-use crate::rounds::{finished, fresh, restarted};
+use crate::rounds::{answered, finished, fresh, no_reply, restarted};
 use crate::settling::{Left, settle};
 use mv_journal::outcome::Mark;
 use mv_record::record::Record;
@@ -16,17 +16,18 @@ use mv_values::list::List;
 use mv_values::memory::NoMemory;
 use std::alloc::Global;
 
-/// Adds a call that begins after all commits, and leaves these records.
+/// Adds a call that begins after all commits. Its full run leaves these records and this reply.
 pub(crate) fn with_call(
     alloc: Global,
     course: Course,
     records: List<Record>,
+    reply: Reply,
 ) -> Result<Course, NoMemory>
     requires { length course.order < 2 ^ 32 }
-    ensures { IfOk result (λ next. next ≡ begun_state course records) }
+    ensures { IfOk result (λ next. next ≡ begun_state course records reply) }
 {
     let mut course = course;
-    let live = fresh(alloc, course.order.len() as u32, records)?;
+    let live = fresh(alloc, course.order.len() as u32, records, reply)?;
     course.calls.push(live)?;
     Ok(course)
 }
@@ -36,30 +37,32 @@ fn blank(alloc: Global) -> Live {
     Live {
         start: 0,
         records: List::new(alloc),
+        given: no_reply(alloc),
         rounds: List::new(alloc),
         reply: None,
     }
 }
 
-/// Adds a round to a call, which leaves these records.
+/// Adds a round to a call. Its full run leaves these records and this reply.
 pub(crate) fn with_round(
     alloc: Global,
     course: Course,
     call: u32,
     moved: bool,
     records: List<Record>,
+    reply: Reply,
 ) -> Result<Course, NoMemory>
     requires within { call < length course.calls }
     requires past { (l : Kept) → slice_get course.calls call ≡ Some l → l.start ≤ length course.commits }
     requires few { length course.commits < 2 ^ 32 }
     requires old { (l : Kept) → slice_get course.calls call ≡ Some l → PathsRise l.records }
     requires new { PathsRise records }
-    ensures { IfOk result (λ next. (l : Kept) → slice_get course.calls call ≡ Some l → next ≡ again_state course call l (mark_of moved) records) }
+    ensures { IfOk result (λ next. (l : Kept) → slice_get course.calls call ≡ Some l → next ≡ again_state course call l (mark_of moved) records reply) }
 {
     let mut course = course;
     let old = course.calls.replace(call as usize, blank(alloc));
     let mark = mark_of(moved);
-    let live = restarted(alloc, old, mark, records, course.commits.as_slice())?;
+    let live = restarted(alloc, old, mark, records, reply, course.commits.as_slice())?;
     course.calls.set(call as usize, live);
     Ok(course)
 }
@@ -90,6 +93,7 @@ pub(crate) fn with_commit(
 {
     let Course {
         order,
+        answered,
         commits,
         calls,
         tables,
@@ -106,10 +110,23 @@ pub(crate) fn with_commit(
     commits.push(changes)?;
     Ok(Course {
         order,
+        answered,
         commits,
         calls,
         tables,
         low,
         due,
     })
+}
+
+/// Answers a call with the reply of its full run.
+pub(crate) fn with_answer(alloc: Global, course: Course, call: u32) -> Result<Course, NoMemory>
+    requires { call < length course.calls }
+    ensures { IfOk result (λ next. (l : Kept) → slice_get course.calls call ≡ Some l → next ≡ answered_state course call l) }
+{
+    let mut course = course;
+    let old = course.calls.replace(call as usize, blank(alloc));
+    course.calls.set(call as usize, answered(alloc, old));
+    course.answered.push(call)?;
+    Ok(course)
 }

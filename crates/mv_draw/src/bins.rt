@@ -12,11 +12,11 @@ pub(crate) const BINS: usize = 96;
 /// What happened in the events of a bin.
 #[derive(Clone, Copy)]
 pub(crate) struct Bin {
-    /// Calls that committed and were neither repaired nor moved, nor rolled back.
+    /// Calls that ended and were neither repaired nor moved, nor rolled back.
     pub(crate) plain: usize,
-    /// Calls that committed after a repair or a move.
+    /// Calls that ended after a repair or a move.
     pub(crate) again: usize,
-    /// Calls that committed, were rolled back, and were neither repaired nor moved.
+    /// Calls that ended, were rolled back, and were neither repaired nor moved.
     pub(crate) undone: usize,
     /// Statements that these calls executed in their first rounds.
     pub(crate) first: usize,
@@ -36,7 +36,7 @@ impl Bin {
         live: 0,
     };
 
-    /// Returns the number of calls that committed.
+    /// Returns the number of calls that ended.
     pub(crate) fn calls(&self) -> usize {
         self.plain
             .saturating_add(self.again)
@@ -79,7 +79,7 @@ pub(crate) fn size_of(events: usize) -> usize {
     events / BINS + 1
 }
 
-/// Returns the bins of a run. A call counts in the bin of its commit.
+/// Returns the bins of a run. A call counts in the bin of the event with which it ends.
 pub(crate) fn bins_of(
     alloc: Global,
     events: &[Event],
@@ -107,7 +107,7 @@ fn add_live(bins: &mut List<Bin>, size: usize, events: &[Event]) {
     for (at, event) in events.iter().enumerate() {
         match event {
             Event::B(_) => live = live.saturating_add(1),
-            Event::C(_) | Event::X(_) => live = live.saturating_sub(1),
+            Event::C(_) | Event::X(_) | Event::R(_) => live = live.saturating_sub(1),
             _ => {}
         }
         let place = at / size.max(1);

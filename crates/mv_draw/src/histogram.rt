@@ -96,7 +96,7 @@ impl Panels {
 
     fn add_panels(&mut self, bins: &[Bin]) -> Result<(), NoMemory> {
         let most = most_of(bins);
-        self.add_axis(CALLS, b"calls, by their commits", most.calls)?;
+        self.add_axis(CALLS, b"calls, by their ends", most.calls)?;
         self.add_axis(
             STATEMENTS,
             b"statements that these calls executed",
@@ -237,7 +237,7 @@ fn most_of(bins: &[Bin]) -> Most {
 fn add_story(text: &mut List<u8>, from: usize, size: usize, bin: &Bin) -> Result<(), NoMemory> {
     add_count(text, b"events from ", from)?;
     add_count(text, b" to ", from.saturating_add(size).saturating_sub(1))?;
-    add_count(text, b"\ncommitted calls: ", bin.calls())?;
+    add_count(text, b"\nended calls: ", bin.calls())?;
     add_count(text, b"\nof these repaired or moved: ", bin.again)?;
     add_count(text, b"\nrolled back at once: ", bin.undone)?;
     add_count(text, b"\nstatements at first: ", bin.first)?;

@@ -60,7 +60,10 @@ fn story_of(alloc: Global, call: &Call) -> Result<List<u8>, NoMemory> {
     }
     add_count(&mut text, b"events ", call.bar.from)?;
     add_count(&mut text, b" to ", call.bar.to)?;
-    add_count(&mut text, b", commit ", call.commit)?;
+    match call.commit {
+        Some(number) => add_count(&mut text, b", commit ", number as usize)?,
+        None => add_count(&mut text, b", answered at ", call.start as usize)?,
+    }
     text.append(b"\nstatements at first: ")?;
     call.cost.add_first(&mut text)?;
     if call.is_again() {
@@ -83,7 +86,7 @@ fn look_of(call: &Call) -> Look {
     }
 }
 
-/// Returns the bar of a call. It reaches from its begin to its commit.
+/// Returns the bar of a call. It reaches from its begin to its commit or its answer.
 fn bar_of(scale: &Scale, number: usize, call: &Call) -> Shape
     ensures { IsRect result }
 {

@@ -114,7 +114,7 @@ fn marks_of(alloc: Global, scale: &Scale, events: &[Event]) -> Result<Content, N
                 let y = row(call as usize).saturating_add(2);
                 add_mark(alloc, &mut marks, Shape::Diamond { x, y }, at, call)?;
             }
-            Event::B(_) | Event::S(_) | Event::C(_) | Event::G => {}
+            Event::B(_) | Event::S(_) | Event::C(_) | Event::R(_) | Event::G => {}
         }
     }
     Ok(marks)

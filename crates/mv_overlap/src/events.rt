@@ -44,13 +44,25 @@ pub(crate) fn move_up(alloc: Global, core: &mut Core, call: u32) -> Result<bool,
     Ok(false)
 }
 
-/// Commits a call. If it is hit, repairs it, and if its start is below low, moves it. Returns whether it has committed.
+/// Answers a read only call, or moves it if its start is below low. Returns whether it was answered.
+fn answer(alloc: Global, core: &mut Core, call: u32) -> Result<bool, NoMemory>
+    ensures script { core.new.book.script ≡ core.old.book.script }
+{
+    if try_event(alloc, core, Event::R(call))?.is_none() {
+        return Ok(true);
+    }
+    move_up(alloc, core, call)
+}
+
+/// Commits a call, or answers a read only one. If it is hit, repairs it, and if its start is below low, moves it. Returns
+/// whether it has committed or was answered.
 pub(crate) fn commit(alloc: Global, core: &mut Core, call: u32) -> Result<bool, NoMemory>
     ensures script { core.new.book.script ≡ core.old.book.script }
 {
     match try_event(alloc, core, Event::C(call))? {
         None => Ok(true),
         Some(Fault::Conflict) => repair(alloc, core, call),
+        Some(Fault::Kind) => answer(alloc, core, call),
         Some(_) => move_up(alloc, core, call),
     }
 }

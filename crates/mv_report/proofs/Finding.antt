@@ -20,7 +20,8 @@ use Rattle.mv_journal.specs.declared.outcome.Round.{Round}
 use Rattle.mv_journal.specs.declared.outcome.HistoryLine.{HistoryLine}
 use Rattle.mv_journal.specs.declared.outcome.Outcome.{Outcome}
 use Rattle.mv_alone.specs.Line.{printed, printed_after, line_of}
-use Rattle.mv_report.specs.Text.{in_quotes, reason_text, answer_text, reply_text, replies_text, mark_text, count_text, starts_text, counts_text, rounds_text, commit_text, history_text, journal_text, tables_text, text_of}
+use Rattle.mv_lawful.specs.Rounds.{last_start}
+use Rattle.mv_report.specs.Text.{in_quotes, reason_text, answer_text, reply_text, replies_text, mark_text, count_text, starts_text, counts_text, rounds_text, place_text, line_text, history_text, journal_text, tables_text, text_of}
 use Rattle.mv_report.specs.Shown.{IsPrinted}
 
 -- Reading
@@ -262,17 +263,20 @@ line_plain bs rest h = over bs rest (record { starts = starts bs h; passes = pla
     starts [] h = tt
     starts (b ∷ bs) h = h.0.2
 
-commit_over : (number : ℕ) (commit : HistoryLine) → IsOver (commit_text number commit)
-commit_over number commit rest =
-    line_plain (((decimal number ++ codes " ") ++ decimal commit.call) ++ rounds_text commit.rounds) rest
-    (plain_both ((decimal number ++ codes " ") ++ decimal commit.call) (rounds_text commit.rounds)
-    (plain_both (decimal number ++ codes " ") (decimal commit.call) (plain_both (decimal number) (codes " ") (decimal_plain number) (by_bytes (codes " ") refl)) (decimal_plain commit.call))
-    (rounds_plain commit.rounds))
+place_plain : (commit : Option ℕ) (rounds : List Round) → ArePlain (place_text commit rounds)
+place_plain (Some number) rounds = decimal_plain number
+place_plain None rounds = plain_both (codes "r") (decimal (last_start rounds)) (by_bytes (codes "r") refl) (decimal_plain (last_start rounds))
 
-history_over : (n : ℕ) (history : List HistoryLine) → IsOver (flat_map (λ (numbered : ℕ × HistoryLine). commit_text numbered.0 numbered.1) (enumerate_from n history))
-history_over n [] rest = refl
-history_over n (c ∷ cs) rest =
-    over_both (commit_text n c) (flat_map (λ (numbered : ℕ × HistoryLine). commit_text numbered.0 numbered.1) (enumerate_from (n + 1) cs)) (commit_over n c) (history_over (n + 1) cs) rest
+line_over : (l : HistoryLine) → IsOver (line_text l)
+line_over l rest =
+    line_plain (((place_text l.commit l.rounds ++ codes " ") ++ decimal l.call) ++ rounds_text l.rounds) rest
+    (plain_both ((place_text l.commit l.rounds ++ codes " ") ++ decimal l.call) (rounds_text l.rounds)
+    (plain_both (place_text l.commit l.rounds ++ codes " ") (decimal l.call) (plain_both (place_text l.commit l.rounds) (codes " ") (place_plain l.commit l.rounds) (by_bytes (codes " ") refl)) (decimal_plain l.call))
+    (rounds_plain l.rounds))
+
+history_over : (history : List HistoryLine) → IsOver (history_text history)
+history_over [] rest = refl
+history_over (l ∷ ls) rest = over_both (line_text l) (history_text ls) (line_over l) (history_over ls) rest
 
 -- what comes after the journal's line
 abbrev pub rest_of : List TableInfo → Outcome → List ℕ
@@ -286,4 +290,4 @@ found_journal tables outcome h =
     ap (found true false) (append_assoc ((before ++ line (codes "journal")) ++ journal_text outcome.journal) (tables_text tables outcome.tables) (line (codes "end"))
     ∙ (append_assoc (before ++ line (codes "journal")) (journal_text outcome.journal) end ∙ append_assoc before (line (codes "journal")) (rest_of tables outcome)))
     ∙ over_both (replies ++ line (codes "history")) (history_text outcome.history)
-    (over_both replies (line (codes "history")) (replies_over 0 outcome.replies h) (λ rest. refl)) (history_over 1 outcome.history) (line (codes "journal") ++ rest_of tables outcome)
+    (over_both replies (line (codes "history")) (replies_over 0 outcome.replies h) (λ rest. refl)) (history_over outcome.history) (line (codes "journal") ++ rest_of tables outcome)

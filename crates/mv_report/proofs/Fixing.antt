@@ -8,7 +8,7 @@ use Rattle.mv_values.specs.declared.rows.Keyed.{Keyed}
 use Rattle.mv_values.specs.declared.schema.TableInfo.{TableInfo}
 use Rattle.mv_values.specs.Texts.{line}
 use Rattle.mv_journal.specs.declared.event.Event.{Event}
-use Rattle.mv_journal.specs.declared.event.Event.TheVariants.{B, S, A, M, C, X, G}
+use Rattle.mv_journal.specs.declared.event.Event.TheVariants.{B, S, A, M, C, X, R, G}
 use Rattle.mv_journal.specs.Events.{IsInRange}
 use Rattle.mv_report.specs.Text.{event_line, journal_text, tables_text}
 use Rattle.mv_lawful.specs.Outcomes.{has_line, shown}
@@ -61,6 +61,7 @@ letter (A call) = 65
 letter (M call) = 77
 letter (C call) = 67
 letter (X call) = 88
+letter (R call) = 82
 letter G = 71
 
 abbrev call_of : Event → ℕ
@@ -70,10 +71,11 @@ call_of (A call) = call
 call_of (M call) = call
 call_of (C call) = call
 call_of (X call) = call
+call_of (R call) = call
 call_of G = 0
 
 abbrev event_of : ℕ → ℕ → Event
-event_of letter call = if letter == 66 then B call else (if letter == 65 then A call else (if letter == 77 then M call else (if letter == 67 then C call else X call)))
+event_of letter call = if letter == 66 then B call else (if letter == 65 then A call else (if letter == 77 then M call else (if letter == 67 then C call else (if letter == 82 then R call else X call))))
 
 -- an event that has a line, with what is known of it
 pub record IsShown (e : Event) : Type 0 where
@@ -88,6 +90,7 @@ shown_is (A call) h k = record { is = refl; line = refl; small = k; low = omega 
 shown_is (M call) h k = record { is = refl; line = refl; small = k; low = omega arith }
 shown_is (C call) h k = record { is = refl; line = refl; small = k; low = omega arith }
 shown_is (X call) h k = record { is = refl; line = refl; small = k; low = omega arith }
+shown_is (R call) h k = record { is = refl; line = refl; small = k; low = omega arith }
 shown_is (S call) h k = cc
 shown_is G h k = cc
 
@@ -135,6 +138,7 @@ no_line (A call) h = cc
 no_line (M call) h = cc
 no_line (C call) h = cc
 no_line (X call) h = cc
+no_line (R call) h = cc
 
 shown_text : (es : List Event) → journal_text es ≡ journal_text (shown es)
 shown_text [] = refl

@@ -7,7 +7,7 @@ use Rattle.mv_values.specs.declared.rows.Keyed.{Keyed}
 use Rattle.mv_values.specs.declared.schema.TableInfo.{TableInfo}
 use Rattle.mv_values.specs.Texts.{line}
 use Rattle.mv_journal.specs.declared.event.Event.{Event}
-use Rattle.mv_journal.specs.declared.event.Event.TheVariants.{B, S, A, M, C, X, G}
+use Rattle.mv_journal.specs.declared.event.Event.TheVariants.{B, S, A, M, C, X, R, G}
 use Rattle.mv_journal.specs.Events.{event_text}
 use Rattle.mv_lawful.specs.Outcomes.{shown}
 use Rattle.mv_report.specs.Text.{journal_text, tables_text, text_of}
@@ -90,6 +90,7 @@ events_lines (A c ∷ es) rest = event_more (event_text (A c)) rest es ((refl, r
 events_lines (M c ∷ es) rest = event_more (event_text (M c)) rest es ((refl, refl, refl), ((refl, refl, refl), decimal_plain c)) refl (events_lines es rest)
 events_lines (C c ∷ es) rest = event_more (event_text (C c)) rest es ((refl, refl, refl), ((refl, refl, refl), decimal_plain c)) refl (events_lines es rest)
 events_lines (X c ∷ es) rest = event_more (event_text (X c)) rest es ((refl, refl, refl), ((refl, refl, refl), decimal_plain c)) refl (events_lines es rest)
+events_lines (R c ∷ es) rest = event_more (event_text (R c)) rest es ((refl, refl, refl), ((refl, refl, refl), decimal_plain c)) refl (events_lines es rest)
 events_lines (G ∷ es) rest = events_lines es rest
 
 -- What comes after them

@@ -1,8 +1,11 @@
 -- One more item of a list behind the texts of those before it.
-use Rattle.std.proofs.Common.{◌≡◌, ◌<◌, ◌+◌, ◌-◌, ◌++◌, ◌∷◌, [], ℕ, zero, suc, List, length, take, drop, get_or, min, refl, sym, ap, ◌∙◌, append_assoc, append-nil, arith}
+use Rattle.std.proofs.Common.{◌≡◌, ◌<◌, ◌≤◌, ◌+◌, ◌-◌, ◌++◌, ◌∷◌, [], ℕ, zero, suc, List, length, take, drop, get_or, min, refl, sym, ap, ◌∙◌, append_assoc, append-nil, arith}
+use Rattle.std.specs.Prelude.{slice_index_or}
 use Rattle.std.specs.List.{flat_map, join_by, enumerate_from, zip}
 use Rattle.std.proofs.lemmas.List.{take_all, take_more, length-take-le}
 use Rattle.std.proofs.lemmas.Grind.{flat_map-append}
+use Rattle.mv_journal.specs.declared.outcome.Round.{Round}
+use Rattle.mv_lawful.specs.Rounds.{last_start}
 
 -- a text that grew twice
 pub grew : (old mid new a b whole : List ℕ) → mid ≡ old ++ a → new ≡ mid ++ b → whole ≡ a ++ b → new ≡ old ++ whole
@@ -64,3 +67,14 @@ joined f sep [] lt = absurd (omega arith)
 joined f sep (x ∷ xs) lt =
     let all : take (length (x ∷ xs) - 1) xs ≡ xs = take_all (length (x ∷ xs) - 1) xs (omega arith) in
     rw (all, append-nil (f x)) refl
+
+-- the start of the last round
+last_at : (rs : List Round) (k : ℕ) (d : Round) → length rs ≡ suc k → (slice_index_or rs k d).start ≡ last_start rs
+last_at [] k d h = absurd (omega (arith, h))
+last_at (r ∷ []) zero d h = refl
+last_at (r ∷ []) (suc k) d h = absurd (omega (arith, h))
+last_at (r ∷ s ∷ rs) zero d h = absurd (omega (arith, h))
+last_at (r ∷ s ∷ rs) (suc k) d h = last_at (s ∷ rs) k d (omega (arith, h))
+
+pub last_is : (rs : List Round) (d : Round) → 1 ≤ length rs → (slice_index_or rs (length rs - 1) d).start ≡ last_start rs
+last_is rs d h = last_at rs (length rs - 1) d (omega (arith, h))

@@ -16,6 +16,7 @@ use Rattle.mv_journal.specs.declared.outcome.Round.{Round}
 use Rattle.mv_journal.specs.declared.outcome.HistoryLine.{HistoryLine}
 use Rattle.mv_journal.specs.declared.outcome.Outcome.{Outcome}
 use Rattle.mv_journal.specs.Events.{event_text}
+use Rattle.mv_lawful.specs.Rounds.{last_start}
 
 -- a byte of a text in single quotes. A quote is doubled
 abbrev pub in_quotes : ℕ → List ℕ
@@ -65,13 +66,18 @@ counts_text rounds = join_by (λ round. count_text round.count round.mark) (code
 abbrev pub rounds_text : List Round → List ℕ
 rounds_text rounds = codes " starts " ++ starts_text rounds ++ codes " runs " ++ counts_text rounds
 
--- a commit: its number, its call, and the call's rounds
-abbrev pub commit_text : ℕ → HistoryLine → List ℕ
-commit_text number commit = line (decimal number ++ codes " " ++ decimal commit.call ++ rounds_text commit.rounds)
+-- where a call stands: at the commit of this number, or as an answered call at the start of its last round
+abbrev pub place_text : Option ℕ → List Round → List ℕ
+place_text (Some number) rounds = decimal number
+place_text None rounds = codes "r" ++ decimal (last_start rounds)
 
--- the commits, by number from 1
+-- a call in the history: its place, its number and its rounds
+abbrev pub line_text : HistoryLine → List ℕ
+line_text l = line (place_text l.commit l.rounds ++ codes " " ++ decimal l.call ++ rounds_text l.rounds)
+
+-- the calls in their order
 abbrev pub history_text : List HistoryLine → List ℕ
-history_text history = flat_map (λ numbered. commit_text numbered.0 numbered.1) (enumerate_from 1 history)
+history_text history = flat_map line_text history
 
 -- the line of an event. Statements and collections have none
 abbrev pub event_line : Event → List ℕ

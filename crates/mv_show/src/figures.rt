@@ -19,6 +19,7 @@ pub fn figures(alloc: Global, calls: &[Call]) -> Result<List<u8>, NoMemory> {
     add_count(&mut text, b"\nrolled back ", totals.undone)?;
     text.push(b'\n')?;
     add_reasons(alloc, calls, &mut text)?;
+    add_ends(calls, &mut text)?;
     add_totals(&totals, &mut text)?;
     add_longest(alloc, calls, &mut text)?;
     add_procedures(alloc, calls, &mut text)?;
@@ -72,9 +73,20 @@ fn add_reasons(alloc: Global, calls: &[Call], text: &mut List<u8>) -> Result<(),
     Ok(())
 }
 
+/// Adds how many calls committed and how many were answered.
+fn add_ends(calls: &[Call], text: &mut List<u8>) -> Result<(), NoMemory> {
+    let commits = calls.iter().filter(|call| call.commit.is_some()).count();
+    add_count(text, b"commits ", commits)?;
+    add_count(
+        text,
+        b"\nanswered calls ",
+        calls.len().saturating_sub(commits),
+    )?;
+    text.push(b'\n')
+}
+
 fn add_totals(totals: &Totals, text: &mut List<u8>) -> Result<(), NoMemory> {
-    add_count(text, b"commits ", totals.calls)?;
-    add_count(text, b"\nrounds ", totals.rounds)?;
+    add_count(text, b"rounds ", totals.rounds)?;
     add_count(text, b"\nrounds that a move ended ", totals.open)?;
     add_count(text, b"\ncalls repaired ", totals.repaired)?;
     add_count(text, b"\ncalls moved ", totals.moved)?;

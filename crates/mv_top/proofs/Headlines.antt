@@ -1,22 +1,28 @@
 -- A lawful journal has a text by which its calls are serializable.
-use Rattle.std.proofs.Common.{◌≡◌, ◌≤◌, ◌<◌, ℕ, zero, suc, List, [], ◌∷◌, Option, Some, length, take, refl, ap, subst, ◌∙◌, arith}
+use Rattle.std.proofs.Common.{◌≡◌, ◌≤◌, ◌<◌, ℕ, zero, suc, true, List, [], ◌∷◌, Option, Some, None, length, take, refl, ap, subst, ◌∙◌, arith}
 use Rattle.std.specs.Prelude.{slice_get, slice_index}
 use Rattle.std.specs.Option.{ForSome}
 use Rattle.std.proofs.lemmas.Option.{same_Some, slice_get-get_or, slice_get_within}
 use Rattle.mv_edge.specs.Edge.{Writes}
+use Rattle.mv_values.specs.declared.calls.Call.{Call}
 use Rattle.mv_values.specs.declared.calls.Options.{Options}
 use Rattle.mv_values.specs.Tables.{Tables}
+use Rattle.mv_catalog.specs.declared.resolved.ProcInfo.{ProcInfo}
 use Rattle.mv_catalog.specs.declared.resolved.Program.{Program}
-use Rattle.mv_alone.specs.TableAfter.{outcome, tables_left, table_after, reply_in}
+use Rattle.mv_catalog.specs.Text.{FitsText, IsProcedure}
+use Rattle.mv_accept.proofs.Fitting.{accepted_fits}
+use Rattle.mv_alone.specs.TableAfter.{outcome, outcome_in, outcome_at, tables_left, table_after, reply_in}
+use Rattle.mv_recorded.proofs.Quiet.{readers_change_nothing}
+use Rattle.mv_recorded.proofs.RowsTyped.{all_get}
 use Rattle.mv_journal.specs.declared.event.Event.{Event}
 use Rattle.mv_journal.specs.declared.outcome.Outcome.{Outcome}
-use Rattle.mv_lawful.specs.Work.{Work, tables_after, table_at}
+use Rattle.mv_lawful.specs.Work.{Work, tables_after, table_at, ReadersKeepTables}
 use Rattle.mv_lawful.specs.Lawful.{Lawful}
 use Rattle.mv_lawful.specs.Outcomes.{outcome_of, shown}
 use Rattle.mv_lawful.specs.Serializable.{order_of, IsSerializable}
 use Rattle.mv_lawful.proofs.Serializing.{lawful_is_serializable}
 use Rattle.mv_lawful.proofs.Showing.{shown_is_all_shown, shown_is_lawful}
-use Rattle.mv_report.specs.History.{work_of, text}
+use Rattle.mv_report.specs.History.{work_of, text, reads_in, reads_by}
 use Rattle.mv_words.specs.declared.command.Command.{Command}
 use Rattle.mv_words.specs.declared.command.Command.TheVariants.{Run, Replay}
 use Rattle.mv_top.specs.declared.status.Status.{Status}
@@ -44,6 +50,20 @@ table_same p options order (suc k) le =
     let at : slice_get order k ≡ Some c = slice_get-get_or order k 0 (omega (arith, le)) in
     table_next w w.opening order k c at ∙ ap (λ (db : Tables). tables_left db (outcome p c db)) (table_same p options order k (omega (arith, le)))
 
+-- Read only calls
+
+-- the read only calls of a program leave each database as it is
+readers_keep : (p : Program) (options : Options) → FitsText p.resolved → ReadersKeepTables (work_of p options)
+readers_keep p options fits c db reads = by (slice_get p.resolved.calls c) reads
+  where
+    ran : (call : Call) (o : Option ProcInfo) → slice_get p.resolved.procedures call.procedure ≡ o → reads_by o ≡ true → tables_left db (outcome_in p o call db) ≡ db
+    ran call None at is = refl
+    ran call (Some proc) at is = readers_change_nothing p.resolved.tables proc call db (all_get (IsProcedure p.resolved.tables) p.resolved.procedures call.procedure proc fits.procedures at) is
+
+    by : (o : Option Call) → reads_in p.resolved.procedures o ≡ true → tables_left db (outcome_at p o db) ≡ db
+    by None is = refl
+    by (Some call) is = ran call (slice_get p.resolved.procedures call.procedure) refl is
+
 -- Texts
 
 text_by : (p : Program) (options : Options) (es : List Event) (bytes : List ℕ) → shown es ≡ es → IsSerializable (work_of p options) (outcome_of (work_of p options) es) → bytes ≡ text p options es
@@ -66,6 +86,8 @@ text_by p options es bytes printed s is = record {
   begun = s.begun;
   committed = s.committed;
   between = s.between;
+  placed = s.placed;
+  answered = s.answered;
   first = s.first;
   starts = s.starts;
 }
@@ -73,17 +95,17 @@ text_by p options es bytes printed s is = record {
     o : Outcome
     o = outcome_of (work_of p options) es
 
-pub text_of_lawful : (p : Program) (options : Options) (es : List Event) (bytes : List ℕ) → Lawful (work_of p options) es → bytes ≡ text p options es → IsSerializableText p bytes
-text_of_lawful p options es bytes lawful is =
-    text_by p options (shown es) bytes (shown_is_all_shown es) (lawful_is_serializable (work_of p options) (shown es) (shown_is_lawful (work_of p options) es lawful)) (is ∙ text_shown p options es)
+pub text_of_lawful : (p : Program) (options : Options) (es : List Event) (bytes : List ℕ) → FitsText p.resolved → Lawful (work_of p options) es → bytes ≡ text p options es → IsSerializableText p bytes
+text_of_lawful p options es bytes fits lawful is =
+    text_by p options (shown es) bytes (shown_is_all_shown es) (lawful_is_serializable (work_of p options) (shown es) (readers_keep p options fits) (shown_is_lawful (work_of p options) es lawful)) (is ∙ text_shown p options es)
 
 -- What is written
 
 run_for : (threads : ℕ) (options : Options) (script bytes : List ℕ) → IsTextFor (Run threads options) script bytes → IsSerializableFor script bytes
-run_for threads options script bytes t = let run = t.2.0 in (t.0, t.1, text_of_lawful t.0 options run.journal bytes run.lawful run.text_is)
+run_for threads options script bytes t = let run = t.2.0 in (t.0, t.1, text_of_lawful t.0 options run.journal bytes (accepted_fits script t.0 t.1) run.lawful run.text_is)
 
 pub replay_for : (options : Options) (script bytes : List ℕ) → IsTextFor (Replay options) script bytes → IsSerializableFor script bytes
-replay_for options script bytes t = let it = t.2 in (t.0, t.1, text_of_lawful t.0 options it.events bytes it.is.lawful it.text_is)
+replay_for options script bytes t = let it = t.2 in (t.0, t.1, text_of_lawful t.0 options it.events bytes (accepted_fits script t.0 t.1) it.is.lawful it.text_is)
 
 -- the answer of a command, if all its texts for an input are such texts
 answer_for : (IsSuch : List ℕ → List ℕ → Type 0) (words : List (List ℕ)) (left : Option (List ℕ)) (command : Command) (status : Status) (answer : List ℕ) → input_of command left ≡ left

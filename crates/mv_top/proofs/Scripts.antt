@@ -20,8 +20,8 @@ use Rattle.mv_recorded.proofs.RowsTyped.{all_get}
 use Rattle.mv_graph.specs.declared.graph.Graph.{Graph}
 use Rattle.mv_compile.specs.Compiled.{graph_of, graphs_of}
 use Rattle.mv_script.specs.declared.script.Script.{Script}
-use Rattle.mv_script.specs.Scripts.{run_by, run_in, IsCallOf, CanRun, IsScript, work_of as script_work}
-use Rattle.mv_report.specs.History.{work_of}
+use Rattle.mv_script.specs.Scripts.{run_by, run_in, reads_by, reads_in, IsCallOf, CanRun, IsScript, work_of as script_work}
+use Rattle.mv_report.specs.History.{work_of, reads_by as proc_reads, reads_in as program_reads}
 
 -- What a list has at a place
 
@@ -99,10 +99,20 @@ run_is : (p : Program) (db : Tables) (o : Option Call) → run_in (graphs_of p.r
 run_is p db None = refl
 run_is p db (Some call) = by_procedure p call db (slice_get p.resolved.procedures call.procedure) refl
 
+-- a graph tells whether its procedure is read only
+reads_at : (p : Program) (call : Call) (o : Option ProcInfo) → slice_get p.resolved.procedures call.procedure ≡ o → reads_by (slice_get (graphs_of p.resolved) call.procedure) ≡ proc_reads o
+reads_at p call None h = ap reads_by (graph_by p call None h)
+reads_at p call (Some proc) h = ap reads_by (graph_by p call (Some proc) h)
+
+reads_is : (p : Program) (o : Option Call) → reads_in (graphs_of p.resolved) o ≡ program_reads p.resolved.procedures o
+reads_is p None = refl
+reads_is p (Some call) = reads_at p call (slice_get p.resolved.procedures call.procedure) refl
+
 -- a script's work is that of its program
 pub work_is : (p : Program) (options : Options) → script_work (script_of p options) ≡ work_of p options
 work_is p options = λ i. record {
   run = λ c db. run_is p db (slice_get p.resolved.calls c) i;
+  read_only = λ c. reads_is p (slice_get p.resolved.calls c) i;
   count = length p.resolved.calls;
   opening = p.opening;
   options = options;

@@ -6,12 +6,12 @@ use Rattle.mv_catalog.specs.declared.resolved.Resolved.{Resolved}
 use Rattle.mv_journal.specs.declared.event.Event.{Event}
 use Rattle.mv_journal.specs.declared.outcome.Outcome.{Outcome}
 use Rattle.mv_lawful.specs.Work.{Work}
-use Rattle.mv_lawful.specs.Outcomes.{without_collections, in_turn, IsOutcomeInTurn, outcome_of}
+use Rattle.mv_lawful.specs.Outcomes.{without_collections, IsOutcomeInTurn, outcome_of}
 use Rattle.mv_lawful.proofs.Collections.{collections_are_unseen}
-use Rattle.mv_lawful.proofs.Turns.{in_turn_is_lawful}
+use Rattle.mv_lawful.proofs.Turned.{in_turn_is_lawful}
 use Rattle.mv_tpccgen.specs.declared.load.Load.{Load}
 use Rattle.mv_tpccsum.specs.Summary.{new_order_line, calls_text, summary}
-use Rattle.mv_report.specs.History.{work_of}
+use Rattle.mv_report.specs.History.{work_of, in_turn as turns_of}
 use Rattle.mv_top.specs.Workers.{IsLeftBy}
 use Rattle.mv_top.specs.Tpcc.{IsSummary}
 
@@ -29,7 +29,7 @@ summary_turns : (load : Load) (p : Program) (options : Options) (bytes : List �
 summary_turns load p options bytes left is h =
     let it = in_turn_is_lawful (work_of p options) in
     record {
-      journal = in_turn (length p.resolved.calls);
+      journal = turns_of p;
       lawful = it.lawful;
       bounded = it.bounded;
       summary_is = h ∙ (ap (summary load p.resolved) is.outcome ∙ (summary_unseen load p.resolved (work_of p options) is.journal

@@ -1,7 +1,6 @@
 -- What workers leave has the text of a run, and a text fixes its journal.
 use Rattle.std.proofs.Common.{◌≡◌, inl, inr, ◌<◌, ◌≤◌, ℕ, List, [], ◌∷◌, ◌++◌, Option, Some, None, Result, Ok, Err, All, refl, sym, ap, ◌∙◌, arith, length}
-use Rattle.std.specs.Prelude.{codes, slice_get, ◌==◌}
-use Rattle.std.specs.List.{position}
+use Rattle.std.specs.Prelude.{codes, slice_get}
 use Rattle.std.proofs.lemmas.List.Elements.{All-nil, All-push, All-map, All-weaker}
 use Rattle.mv_values.specs.declared.schema.TableInfo.{TableInfo}
 use Rattle.mv_values.specs.declared.calls.Call.{Call}
@@ -29,18 +28,19 @@ use Rattle.mv_recorded.specs.Doing.{itself, fixed_rows}
 use Rattle.mv_recorded.specs.Recorded.{own_record, recorded, outside}
 use Rattle.mv_recorded.proofs.Following.{Claim, IsLaw, told_follows}
 use Rattle.mv_journal.specs.declared.event.Event.{Event}
-use Rattle.mv_journal.specs.declared.event.Event.TheVariants.{B, S, A, M, C, X, G}
+use Rattle.mv_journal.specs.declared.event.Event.TheVariants.{B, S, A, M, C, X, R, G}
 use Rattle.mv_journal.specs.declared.outcome.Outcome.{Outcome}
 use Rattle.mv_journal.specs.Events.{IsInRange}
 use Rattle.mv_lawful.specs.Work.{Work}
 use Rattle.mv_lawful.specs.Lawful.{Lawful, course_of}
+use Rattle.mv_lawful.specs.Places.{start_in}
 use Rattle.mv_lawful.specs.Rounds.{IsBounded}
 use Rattle.mv_lawful.specs.Laws.{IsOfCalls}
-use Rattle.mv_lawful.specs.Outcomes.{reply_in, reply_after, without_collections, shown, IsOutcomeInTurn, outcome_of}
+use Rattle.mv_lawful.specs.Outcomes.{reply_in, reply_after, commits_before, without_collections, shown, IsOutcomeInTurn, outcome_of}
 use Rattle.mv_lawful.proofs.Collections.{collections_are_unseen}
 use Rattle.mv_lawful.proofs.Serial.{lawful_names_calls}
 use Rattle.mv_lawful.proofs.Showing.{shown_is_all_shown, shown_is_lawful, shown_is_bounded, shown_has_the_outcome}
-use Rattle.mv_lawful.proofs.Turns.{in_turn_is_lawful}
+use Rattle.mv_lawful.proofs.Turned.{in_turn_is_lawful}
 use Rattle.mv_report.specs.Shown.{IsPrinted, IsPlain}
 use Rattle.mv_report.specs.Text.{replies_text, history_text, event_line, journal_text, tables_text, text_of}
 use Rattle.mv_report.specs.JournalLines.{journal_lines_in}
@@ -62,6 +62,7 @@ lines_shown (A c ∷ es) = ap (λ bytes. event_line (A c) ++ bytes) (lines_shown
 lines_shown (M c ∷ es) = ap (λ bytes. event_line (M c) ++ bytes) (lines_shown es)
 lines_shown (C c ∷ es) = ap (λ bytes. event_line (C c) ++ bytes) (lines_shown es)
 lines_shown (X c ∷ es) = ap (λ bytes. event_line (X c) ++ bytes) (lines_shown es)
+lines_shown (R c ∷ es) = ap (λ bytes. event_line (R c) ++ bytes) (lines_shown es)
 lines_shown (G ∷ es) = lines_shown es
 
 -- a text that has the lines of an outcome's events
@@ -102,6 +103,7 @@ lines_unseen (A c ∷ es) = ap (λ bytes. event_line (A c) ++ bytes) (lines_unse
 lines_unseen (M c ∷ es) = ap (λ bytes. event_line (M c) ++ bytes) (lines_unseen es)
 lines_unseen (C c ∷ es) = ap (λ bytes. event_line (C c) ++ bytes) (lines_unseen es)
 lines_unseen (X c ∷ es) = ap (λ bytes. event_line (X c) ++ bytes) (lines_unseen es)
+lines_unseen (R c ∷ es) = ap (λ bytes. event_line (R c) ++ bytes) (lines_unseen es)
 lines_unseen (G ∷ es) = lines_unseen es
 
 text_unseen : (w : Work) (tables : List TableInfo) (es : List Event) → text_of tables (outcome_of w es) ≡ text_of tables (outcome_of w (without_collections es))
@@ -196,11 +198,12 @@ in_range n (A c) few h = omega (arith, few, h)
 in_range n (M c) few h = omega (arith, few, h)
 in_range n (C c) few h = omega (arith, few, h)
 in_range n (X c) few h = omega (arith, few, h)
+in_range n (R c) few h = omega (arith, few, h)
 in_range n G few h = tt
 
 pub is_plain : (p : Program) (options : Options) (journal : List Event) → length p.resolved.calls ≤ most_calls → Lawful (work_of p options) journal → IsPlain (outcome_of (work_of p options) journal)
 is_plain p options journal few lawful = record {
-  lines = All-map (λ (reply : Reply). All IsPrinted reply.lines) (reply_in w order) (first_numbers w.count) (λ k d lt. by_place _ (position (λ d. d == _) order));
+  lines = All-map (λ (reply : Reply). All IsPrinted reply.lines) (reply_in w (course_of w journal)) (first_numbers w.count) (λ k d lt. by_place _ (commits_before order (course_of w journal).answered (start_in (course_of w journal).calls _) _));
   calls = All-weaker (IsOfCalls w.count) IsInRange (λ e. in_range w.count e few) journal (lawful_names_calls w journal lawful);
 }
   where

@@ -13,6 +13,7 @@ event_number fault.Conflict = 17
 event_number fault.Idle = 18
 event_number fault.Rounds = 19
 event_number fault.Stale = 20
+event_number fault.Kind = 25
 
 abbrev pub number_of : Refusal → ℕ
 number_of (Script refusal) = script_number refusal

@@ -6,6 +6,6 @@ use Rattle.mv_lawful.specs.Outcomes.{IsOutcomeInTurn}
 use Rattle.mv_gate.specs.Gates.{IsOutcome}
 
 -- the outcome of so many workers for n calls: that of a lawful and bounded journal, or of one in which each call begins
--- and commits before the next begins; one worker, or none, leaves the second
+-- and ends before the next begins; one worker, or none, leaves the second
 abbrev pub IsLeftBy : ℕ → Work → ℕ → Outcome → Type 0
 IsLeftBy threads w n o = ((1 < threads) × IsOutcome w o) ⊎ IsOutcomeInTurn w n o

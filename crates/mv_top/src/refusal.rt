@@ -20,7 +20,7 @@ pub enum Refusal {
     Line { n: u32 },
     /// The event on this line of the journal is refused, and all events before it are allowed.
     Event { n: u32, fault: Fault },
-    /// The events of the journal are allowed, and this is the first call that hasn't committed at its end.
+    /// The events of the journal are allowed, and this is the first call that isn't done at its end.
     Open { call: u32 },
 }
 
@@ -54,7 +54,7 @@ impl From<Refusal> for NoText {
 }
 
 impl Refusal {
-    /// Returns the number of the refusal: 1 to 21, or 26.
+    /// Returns the number of the refusal: 1 to 21, or 24 to 26.
     pub fn number(&self) -> u32
         ensures { result ≡ number_of self.now }
     {
@@ -94,6 +94,7 @@ fn event_number(fault: Fault) -> u32
         Fault::Idle => 18,
         Fault::Rounds => 19,
         Fault::Stale => 20,
+        Fault::Kind => 25,
     }
 }
 

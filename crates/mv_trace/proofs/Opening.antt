@@ -8,7 +8,7 @@ use Rattle.std.proofs.lemmas.List.Sums.{sum_by-append}
 use Rattle.mv_journal.specs.declared.event.Event.{Event}
 use Rattle.mv_journal.specs.declared.event.Event.TheVariants.{B}
 use Rattle.mv_trace.specs.declared.bars.Bar.{Bar}
-use Rattle.mv_trace.specs.Bars.{is_begin, begins, commits, IsAt, AreBars, IsOpenBar, AreOpen, has_ended}
+use Rattle.mv_trace.specs.Bars.{is_begin, begins, ends, IsAt, AreBars, IsOpenBar, AreOpen, has_ended}
 
 -- Lists
 
@@ -53,7 +53,7 @@ at_last events event place test e h = (event, ap (slice_get (events ++ event ∷
 later : (events : List Event) (event : Event) (call : ℕ) (bar : Bar) → IsOpenBar events call bar → IsOpenBar (events ++ event ∷ []) call bar
 later events event call bar h = record {
   from = at_later events event bar.from (begins call) h.from;
-  to = elim h.to [ inl same ↦ inl same | inr at ↦ inr (at_later events event bar.to (commits call) at) ];
+  to = elim h.to [ inl same ↦ inl same | inr at ↦ inr (at_later events event bar.to (ends call) at) ];
 }
 
 counted : (events : List Event) (event : Event) → is_begin event ≡ false → count_by is_begin (events ++ event ∷ []) ≡ count_by is_begin events
@@ -102,7 +102,7 @@ kept events event bars call old bar begins_none there from to h =
       from = subst (λ place. IsAt (events ++ event ∷ []) place (begins call)) (sym from) was.from;
       to = elim was.to [
         | inl same ↦ inl (from ∙ (same ∙ sym to))
-        | inr at ↦ inr (subst (λ place. IsAt (events ++ event ∷ []) place (commits call)) (sym to) at)
+        | inr at ↦ inr (subst (λ place. IsAt (events ++ event ∷ []) place (ends call)) (sym to) at)
       ];
     }) h
 
@@ -110,17 +110,17 @@ kept events event bars call old bar begins_none there from to h =
 pub same : (call : ℕ) → (call == call) ≡ true
 same call = eq-eqb call call refl
 
--- an event with which a call commits
+-- an event with which a call ends
 pub ended : (events : List Event) (event : Event) (bars : List Bar) (call : ℕ) (old bar : Bar) → is_begin event ≡ false → slice_get bars call ≡ Some old
-    → bar.from ≡ old.from → bar.to ≡ length events → IsTrue (commits call event) → AreOpen events bars → AreOpen (events ++ event ∷ []) (set bars call bar)
+    → bar.from ≡ old.from → bar.to ≡ length events → IsTrue (ends call event) → AreOpen events bars → AreOpen (events ++ event ∷ []) (set bars call bar)
 ended events event bars call old bar begins_none there from to is h =
     let was = later events event call old (h.are call old there) in
     replaced events event bars call bar begins_none (record {
       from = subst (λ place. IsAt (events ++ event ∷ []) place (begins call)) (sym from) was.from;
-      to = inr (at_last events event bar.to (commits call) to is);
+      to = inr (at_last events event bar.to (ends call) to is);
     }) h
 
--- bars of calls that have committed
+-- bars of calls that have ended
 pub closed : (events : List Event) (bars : List Bar) → list_all has_ended bars ≡ true → AreOpen events bars → AreBars events bars
 closed events bars all h call bar there =
     let open_bar = h.are call bar there in

@@ -11,12 +11,12 @@ use mv_journal::event::Event;
 use mv_values::list::List;
 use std::alloc::Global;
 
-/// The bar of a call. It reaches from the event with which the call begins to the one with which it commits.
+/// The bar of a call. It reaches from the event with which the call begins to the one with which it ends: it commits or is answered.
 #[derive(Clone, Copy)]
 pub struct Bar {
     /// The place of its begin among the events, from 0.
     pub from: usize,
-    /// The place of its commit. It equals `from` as long as the call is live.
+    /// The place of its end. It equals `from` as long as the call is live.
     pub to: usize,
     /// The place of its first repair or move, if it has one, and else of its begin.
     pub again: usize,
@@ -74,7 +74,7 @@ impl Bar {
         }
     }
 
-    fn committed(self, at: usize, is_exclusive: bool) -> Bar
+    fn ended(self, at: usize, is_exclusive: bool) -> Bar
         ensures from { result.from ≡ self.from }
         ensures to { result.to ≡ at }
     {
@@ -97,7 +97,7 @@ fn live_bar(bars: &[Bar], call: u32, line: usize) -> Result<Bar, Fault>
     }
 }
 
-/// Whether each call has committed.
+/// Whether each call has ended.
 fn have_ended(bars: &[Bar]) -> bool
     ensures { result ≡ list_all has_ended bars.now }
 {
@@ -105,7 +105,7 @@ fn have_ended(bars: &[Bar]) -> bool
 }
 
 /// Returns the bars of the calls of a journal, by the numbers of the calls: one for each. Fails if a call begins out of
-/// turn, if an event is of a call that isn't live, or if a call doesn't commit. The first event is on this line.
+/// turn, if an event is of a call that isn't live, or if a call doesn't end. The first event is on this line.
 pub(crate) fn bars_of(alloc: Global, first: usize, events: &[Event]) -> Result<List<Bar>, Fault>
     ensures bars { IfOk result (AreBars events.now) }
     ensures each { IfOk result (λ bars. length bars ≡ count_by is_begin events.now) }
@@ -139,12 +139,17 @@ fn add_event(bars: &mut List<Bar>, line: usize, at: usize, event: &Event) -> Res
         }
         Event::C(call) => {
             let bar = live_bar(bars.as_slice(), call, line)?;
-            bars.set(call as usize, bar.committed(at, false));
+            bars.set(call as usize, bar.ended(at, false));
             Ok(())
         }
         Event::X(call) => {
             let bar = live_bar(bars.as_slice(), call, line)?.repaired(at);
-            bars.set(call as usize, bar.committed(at, true));
+            bars.set(call as usize, bar.ended(at, true));
+            Ok(())
+        }
+        Event::R(call) => {
+            let bar = live_bar(bars.as_slice(), call, line)?;
+            bars.set(call as usize, bar.ended(at, false));
             Ok(())
         }
         Event::S(_) => Ok(()),

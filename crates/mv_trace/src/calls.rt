@@ -6,7 +6,7 @@ use crate::bars::Bar;
 use crate::costs::{Cost, cost_of};
 use crate::fault::Fault;
 use crate::run::{End, Run};
-use mv_journal::outcome::HistoryLine;
+use mv_journal::outcome::{HistoryLine, Round};
 use mv_values::list::List;
 use std::alloc::Global;
 
@@ -17,8 +17,10 @@ pub struct Call<'a> {
     pub end: End<'a>,
     /// Its procedure. It's empty where no script tells it.
     pub name: &'a [u8],
-    /// The number of its commit, from 1.
-    pub commit: usize,
+    /// The number of its commit, from 1. An answered call has none.
+    pub commit: Option<u32>,
+    /// The number of commits before its last round.
+    pub start: u32,
     pub cost: Cost,
 }
 
@@ -56,12 +58,12 @@ pub(crate) fn calls_of<'a>(
     }
     for (before, line) in run.history.as_slice().iter().enumerate() {
         let place = run.history_at.saturating_add(before).saturating_add(1);
-        note_commit(&mut calls, before + 1, place, line)?;
+        note_line(&mut calls, place, line)?;
     }
     Ok(calls)
 }
 
-/// Returns a call before its commit is known.
+/// Returns a call before its line is known.
 fn begun<'a>(bar: &Bar, end: End<'a>, name: &'a [u8]) -> Call<'a>
     ensures { result.bar ≡ bar.now }
 {
@@ -69,7 +71,8 @@ fn begun<'a>(bar: &Bar, end: End<'a>, name: &'a [u8]) -> Call<'a>
         bar: *bar,
         end,
         name,
-        commit: 0,
+        commit: None,
+        start: 0,
         cost: Cost::NONE,
     }
 }
@@ -85,13 +88,16 @@ fn name_at<'a>(names: Option<&List<&'a [u8]>>, number: usize) -> &'a [u8] {
     }
 }
 
-/// Notes a commit and its cost at its call. Its line is at this place.
-fn note_commit(
-    calls: &mut List<Call>,
-    number: usize,
-    place: usize,
-    line: &HistoryLine,
-) -> Result<(), Fault>
+/// Returns the start of the last of these rounds.
+fn last_start(rounds: &[Round]) -> u32 {
+    match rounds.last() {
+        Some(round) => round.start,
+        None => 0,
+    }
+}
+
+/// Notes a line of the history, and its cost, at its call. The line is at this place.
+fn note_line(calls: &mut List<Call>, place: usize, line: &HistoryLine) -> Result<(), Fault>
     ensures { OnOk result (map (λ call. call.bar) calls.new ≡ map (λ call. call.bar) calls.old) }
 {
     let at = line.call as usize;
@@ -99,11 +105,12 @@ fn note_commit(
         return Err(Fault::Line(place));
     };
     let call = *call;
-    if call.commit != 0 {
+    if call.cost.rounds != 0 {
         return Err(Fault::Line(place));
     }
     let noted = Call {
-        commit: number,
+        commit: line.commit,
+        start: last_start(line.rounds.as_slice()),
         cost: cost_of(line.rounds.as_slice()),
         ..call
     };

@@ -1,4 +1,4 @@
-//! The line of a commit.
+//! The lines of a history.
 
 use mv_journal::outcome::{HistoryLine, Mark, Round};
 use mv_values::list::List;
@@ -6,8 +6,9 @@ use mv_values::memory::NoMemory;
 use std::alloc::Global;
 use std::str;
 
-/// Reads the line of a commit: `<commit> <call> starts <start>,.. runs <count>+..`. Returns none if the line is another.
-pub(crate) fn commit_in(alloc: Global, line: &[u8]) -> Result<Option<HistoryLine>, NoMemory> {
+/// Reads the line of a call: `<place> <call> starts <start>,.. runs <count>+..`. The place is the number of the call's
+/// commit, or `r` and its last start. Returns none if the line is another.
+pub(crate) fn line_in(alloc: Global, line: &[u8]) -> Result<Option<HistoryLine>, NoMemory> {
     let Some(parts) = parts_of(line) else {
         return Ok(None);
     };
@@ -16,14 +17,16 @@ pub(crate) fn commit_in(alloc: Global, line: &[u8]) -> Result<Option<HistoryLine
         return Ok(None);
     }
     Ok(Some(HistoryLine {
+        commit: parts.commit,
         call: parts.call,
         rounds,
     }))
 }
 
-/// The parts of the line of a commit.
+/// The parts of the line of a call.
 #[derive(Clone, Copy)]
 struct Parts<'a> {
+    commit: Option<u32>,
     call: u32,
     starts: &'a str,
     counts: &'a str,
@@ -31,11 +34,17 @@ struct Parts<'a> {
 
 fn parts_of(line: &[u8]) -> Option<Parts<'_>> {
     let line = str::from_utf8(line).ok()?;
-    let (_, rest) = line.split_once(' ')?;
+    let (place, rest) = line.split_once(' ')?;
     let (call, rest) = rest.split_once(" starts ")?;
     let (starts, counts) = rest.split_once(" runs ")?;
     let call = call.parse::<u32>().ok()?;
+    let commit = if place.starts_with('r') {
+        None
+    } else {
+        Some(place.parse::<u32>().ok()?)
+    };
     Some(Parts {
+        commit,
         call,
         starts,
         counts,

@@ -1,7 +1,7 @@
 //! The parts of the text of a run.
 
 use crate::fault::Fault;
-use crate::rounds::commit_in;
+use crate::rounds::line_in;
 use mv_journal::event::Event;
 use mv_journal::line::read_event;
 use mv_journal::outcome::HistoryLine;
@@ -72,7 +72,7 @@ impl<'a> Run<'a> {
     ) -> Result<Part, Fault> {
         match part {
             Part::Replies => self.read_reply(number, line),
-            Part::History => self.read_commit(alloc, number, line),
+            Part::History => self.read_call(alloc, number, line),
             Part::Journal | Part::Tables => self.read_event(number, line),
         }
     }
@@ -93,13 +93,13 @@ impl<'a> Run<'a> {
     }
 
     /// Reads a line of the history.
-    fn read_commit(&mut self, alloc: Global, number: usize, line: &[u8]) -> Result<Part, Fault> {
+    fn read_call(&mut self, alloc: Global, number: usize, line: &[u8]) -> Result<Part, Fault> {
         if line == b"journal".as_slice() {
             self.journal_at = number;
             return Ok(Part::Journal);
         }
-        match commit_in(alloc, line)? {
-            Some(commit) => self.history.push(commit)?,
+        match line_in(alloc, line)? {
+            Some(call) => self.history.push(call)?,
             None => return Err(Fault::Line(number)),
         }
         Ok(Part::History)

@@ -426,7 +426,7 @@ pub(crate) const REFUSALS: &[(u32, &str)] = &[
     ),
     (
         15,
-        "an event is B, S, C, A, X or M, a space and the number of a call, or G alone",
+        "an event is B, S, C, A, X, M or R, a space and the number of a call, or G alone",
     ),
     (
         16,
@@ -445,7 +445,15 @@ pub(crate) const REFUSALS: &[(u32, &str)] = &[
         "A is for a call with a round left by --rounds, and X for one without",
     ),
     (20, "this call is stale: it moves by M first"),
-    (21, "at the end of the journal this call hasn't committed"),
+    (
+        21,
+        "at the end of the journal this call has neither committed nor been answered",
+    ),
+    (24, "a READ ONLY procedure has no INSERT, UPDATE or DELETE"),
+    (
+        25,
+        "a call of a READ ONLY procedure is answered by R, and any other one commits by C or X",
+    ),
     (
         26,
         "the input of audit is the number of the script's bytes, in 1 to 8 digits, an LF, the script and a report: ./audit makes it of two files",

@@ -23,7 +23,7 @@ pub(crate) const GRAMMAR: &[(&str, &str, &[&str])] = &[
         "",
         &[
             "TABLE table ( column type , columns opening",
-            "PROCEDURE procedure ( parameters body",
+            "PROCEDURE procedure ( parameters kind",
         ],
     ),
     (
@@ -42,6 +42,7 @@ pub(crate) const GRAMMAR: &[(&str, &str, &[&str])] = &[
     ("parameters_on", "", &[", new sort parameters_on", ")"]),
     ("sort", "", &["ROWS ( column type row_columns", "type"]),
     ("row_columns", "", &[", column type row_columns", ")"]),
+    ("kind", "", &["READ ONLY body", "body"]),
     (
         "body",
         "",

@@ -60,7 +60,7 @@ fn target_of(number: u32, what: &str) -> Option<Target<'_>> {
         3 => Some(Target::Byte(number_in(what.strip_prefix("token at ")?)?)),
         11 | 12 | 13 => row_of(what),
         14 => Some(Target::OpenBlock),
-        15..=20 => Some(Target::Line(number_in(what.strip_prefix("journal line ")?)?)),
+        15..=20 | 25 => Some(Target::Line(number_in(what.strip_prefix("journal line ")?)?)),
         21 => Some(Target::Call(number_in(what.strip_prefix("call ")?)?)),
         _ => {
             let (_, token) = what.split_once(" at token ")?;

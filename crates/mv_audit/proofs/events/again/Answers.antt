@@ -1,5 +1,6 @@
 use Rattle.std.proofs.Common.{◌<◌, ◌≤◌, ◌^◌, length, sym, ap, subst, ◌∙◌}
 use Rattle.mv_record.specs.Paths.{PathsRise}
+use Rattle.mv_alone.specs.TableAfter.{outcome, reply_in}
 use Rattle.mv_recorded.specs.Recorded.{records}
 use Rattle.mv_audit.specs.declared.course.Course.{Course}
 use Rattle.mv_audit.specs.Courses.{audited}
@@ -30,10 +31,11 @@ with_round-requires-clause-new c = subst PathsRise (sym c.in_ok-ran.ensures.reco
 pub returns-clause-after : goal.returns-clause-after
 returns-clause-after c =
     let p = c.args.program.now in
-    again_is p.resolved.tables (audited p c.args.rounds) c.args.course c.in_ok-ran.ran.course c.args.call c.args.moved c.in_ok-ran.ran.records c.with_round.result c.in_ok-ran.ensures.course c.requires.course c.requires.live c.with_round.ensures
+    again_is p.resolved.tables (audited p c.args.rounds) c.args.course c.in_ok-ran.ran.course c.args.call c.args.moved c.in_ok-ran.ran.records c.in_ok-ran.ran.reply c.with_round.result c.in_ok-ran.ensures.course c.requires.course c.requires.live c.with_round.ensures
 
 pub returns-clause-course : goal.returns-clause-course
 returns-clause-course c =
     let p = c.args.program.now in
-    again_right p.resolved.tables (audited p c.args.rounds) c.args.course c.in_ok-ran.ran.course c.args.call c.args.moved c.in_ok-ran.ran.records c.with_round.result c.in_ok-ran.ensures.course c.requires.course c.requires.live c.requires.allowed
-    (c.in_ok-ran.ensures.records ∙ ap (records p c.args.call) c.requires.course.tables) c.with_round.ensures
+    again_right p.resolved.tables (audited p c.args.rounds) c.args.course c.in_ok-ran.ran.course c.args.call c.args.moved c.in_ok-ran.ran.records c.in_ok-ran.ran.reply c.with_round.result c.in_ok-ran.ensures.course c.requires.course c.requires.live c.requires.allowed
+    (c.in_ok-ran.ensures.records ∙ ap (records p c.args.call) c.requires.course.tables)
+    (c.in_ok-ran.ensures.reply ∙ ap (λ db. reply_in (outcome p c.args.call db)) c.requires.course.tables) c.with_round.ensures

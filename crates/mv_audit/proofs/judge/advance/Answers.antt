@@ -28,6 +28,9 @@ commit-requires-clause-live c = is_live_call c.args.course c.in-C.call _ (subst 
 pub commit-requires-in-X-clause-live : goal.commit-requires-in-X-clause-live
 commit-requires-in-X-clause-live c = is_live_call c.args.course c.in-X.call _ (subst (λ e. refusal (audited c.args.program.now c.args.rounds) (course_of c.args.course) e ≡ None) c.in-X.is c.requires.allowed)
 
+pub answer-requires-clause-live : goal.answer-requires-clause-live
+answer-requires-clause-live c = is_live_call c.args.course c.in-R.call _ (subst (λ e. refusal (audited c.args.program.now c.args.rounds) (course_of c.args.course) e ≡ None) c.in-R.is c.requires.allowed)
+
 pub returns-in-B-clause-more : goal.returns-in-B-clause-more
 returns-in-B-clause-more c =
     let w = audited c.args.program.now c.args.rounds in
@@ -51,3 +54,9 @@ returns-in-X-clause-more c =
     let w = audited c.args.program.now c.args.rounds in
     let s = c.args.course in
     ok_by c.commit-in-X.result (λ next. course_of next ≡ after w (course_of s) (an.X c.in-X.call)) (λ next. length next.calls ≤ length s.calls + 1) (λ next is. calls_few w s next (an.X c.in-X.call) is) c.commit-in-X.ensures.after
+
+pub returns-in-R-clause-more : goal.returns-in-R-clause-more
+returns-in-R-clause-more c =
+    let w = audited c.args.program.now c.args.rounds in
+    let s = c.args.course in
+    ok_by c.answer.result (λ next. course_of next ≡ after w (course_of s) (an.R c.in-R.call)) (λ next. length next.calls ≤ length s.calls + 1) (λ next is. calls_few w s next (an.R c.in-R.call) is) c.answer.ensures.after

@@ -7,6 +7,7 @@ pub returns : goal.returns
 returns c l at =
     let old = c.replace-old.result in
     let new = c.args.records in
-    round_made c.args.course c.args.call old c.blank.result c.in_ok-live.live (mark_of c.args.moved) new c.set.new.self c.replace-old.ensures.back
-    (c.in_ok-live.ensures ∙ (ap (λ m. restarted old m new c.as_slice.result.now) c.mark_of-mark.ensures ∙ ap (restarted old (mark_of c.args.moved) new) c.as_slice.ensures))
+    let given = c.args.reply in
+    round_made c.args.course c.args.call old c.blank.result c.in_ok-live.live (mark_of c.args.moved) new given c.set.new.self c.replace-old.ensures.back
+    (c.in_ok-live.ensures ∙ (ap (λ m. restarted old m new given c.as_slice.result.now) c.mark_of-mark.ensures ∙ ap (restarted old (mark_of c.args.moved) new given) c.as_slice.ensures))
     (c.set.ensures ∙ ap (λ ls. slice_set ls c.args.call c.in_ok-live.live) c.replace-old.ensures.items) l at

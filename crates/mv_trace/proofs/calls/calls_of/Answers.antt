@@ -15,4 +15,4 @@ loop-before-init c =
     c.loop-number.invariant ∙ take_all c.loop-number.number bars all
 
 pub loop-before-preserved : goal.loop-before-preserved
-loop-before-preserved c = c.in_ok-note_commit.ensures ∙ c.loop-before.invariant
+loop-before-preserved c = c.in_ok-note_line.ensures ∙ c.loop-before.invariant
