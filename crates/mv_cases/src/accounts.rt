@@ -27,5 +27,10 @@ CREATE PROCEDURE tell () DECLARE :b = 0; DECLARE :x = 0; DECLARE :z = 0; BEGIN
   SELECT bal INTO :z FROM acc WHERE id = 2;  PRINT :x;  PRINT :z;  END;
 ";
 
+/// A READ ONLY procedure on the accounts.
+pub const SEE: &str = "CREATE PROCEDURE see (:a INT) READ ONLY DECLARE :b = 0; BEGIN
+  SELECT bal INTO :b FROM acc WHERE id = :a;  PRINT :b;  END;
+";
+
 /// Calls of two transfers that both count in account 0.
 pub const TRANSFERS: &str = "CALL transfer(1, 2, 10); CALL transfer(3, 4, 10);";

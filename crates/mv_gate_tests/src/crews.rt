@@ -12,7 +12,7 @@ use std::test::Fail;
 use std::thread::Threads;
 
 /// Checks that one worker leaves the text that the calls leave without a gate, and tells the pace of each call in turn. A
-/// worker that gave its calls up would leave the same text, since the gate commits what is left. The pace would miss it.
+/// worker that gave its calls up would leave the same text, since the gate ends what is left. The pace would miss it.
 fn one_worker<R: Threads + Wait + Sync>(rt: &R, alloc: Global, case: &Case) -> Result<(), Fail> {
     let script = script_of(alloc, case)?;
     let want = run_plainly(alloc, script.as_str())?;
@@ -26,14 +26,14 @@ fn one_worker<R: Threads + Wait + Sync>(rt: &R, alloc: Global, case: &Case) -> R
 }
 
 #[test]
-fn one_worker_commits_each_call_in_turn(rt: HostRuntime) -> Result<(), Fail> {
+fn one_worker_ends_each_call_in_turn(rt: HostRuntime) -> Result<(), Fail> {
     for case in CASES {
         one_worker(&rt, rt.alloc(), case)?;
     }
     Ok(())
 }
 
-/// Checks that so many workers commit each call, and tell the pace of each what its rounds say, with one answer.
+/// Checks that so many workers end each call, and tell the pace of each what its rounds say, with one answer.
 fn many_workers<R: Threads + Wait + Sync>(
     rt: &R,
     alloc: Global,
@@ -46,15 +46,15 @@ fn many_workers<R: Threads + Wait + Sync>(
     let want = run_plainly(alloc, script.as_str())?;
     let record = Record::new(alloc);
     let left = run_by(rt, alloc, script.as_str(), workers, &record)?;
-    let commits = left.outcome.history.len();
-    ensure(alloc, commits == want.outcome.history.len(), case.0)?;
+    let ended = left.outcome.history.len();
+    ensure(alloc, ended == want.outcome.history.len(), case.0)?;
     let points = record.into_points();
     let told = are_points_of(alloc, points.as_slice(), &left.outcome)?;
     ensure(alloc, told, case.0)
 }
 
 #[test]
-fn more_workers_than_calls_commit_each_call_once(rt: HostRuntime) -> Result<(), Fail> {
+fn more_workers_than_calls_end_each_call_once(rt: HostRuntime) -> Result<(), Fail> {
     for case in CASES {
         many_workers(&rt, rt.alloc(), 64, case)?;
     }
@@ -62,7 +62,7 @@ fn more_workers_than_calls_commit_each_call_once(rt: HostRuntime) -> Result<(), 
 }
 
 #[test]
-fn two_workers_commit_each_call_once(rt: HostRuntime) -> Result<(), Fail> {
+fn two_workers_end_each_call_once(rt: HostRuntime) -> Result<(), Fail> {
     for case in CASES {
         many_workers(&rt, rt.alloc(), 2, case)?;
     }

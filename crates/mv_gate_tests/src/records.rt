@@ -103,7 +103,7 @@ pub(crate) fn letters_of(alloc: Global, points: &[Point], call: u32) -> Result<S
     Ok(letters)
 }
 
-/// Returns the letters that a call with these rounds gives: it begins, runs each of its statements, tries to commit once
+/// Returns the letters that a call with these rounds gives: it begins, runs each of its statements, tries to end once
 /// a round, and is answered once. A repair that commits in the same step has no try of its own.
 fn letters_for(alloc: Global, rounds: &[Round]) -> Result<String, Fail> {
     let mut letters = String::from_str(alloc, "B")?;
@@ -132,17 +132,17 @@ fn has_one_worker(points: &[Point], call: u32) -> bool {
     own.all(|point| point.worker == first.worker)
 }
 
-/// Whether the points are those of the calls that have committed, for each call by one worker, and no more.
+/// Whether the points are those of the calls that are done, for each call by one worker, and no more.
 pub(crate) fn are_points_of(
     alloc: Global,
     points: &[Point],
     outcome: &Outcome,
 ) -> Result<bool, Fail> {
     let mut count = 0usize;
-    for commit in outcome.history.as_slice() {
-        let letters = letters_of(alloc, points, commit.call)?;
-        let want = letters_for(alloc, commit.rounds.as_slice())?;
-        if letters != want || !has_one_worker(points, commit.call) {
+    for line in outcome.history.as_slice() {
+        let letters = letters_of(alloc, points, line.call)?;
+        let want = letters_for(alloc, line.rounds.as_slice())?;
+        if letters != want || !has_one_worker(points, line.call) {
             return Ok(false);
         }
         count = count.saturating_add(letters.len());

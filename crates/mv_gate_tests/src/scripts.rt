@@ -5,7 +5,7 @@ ghost use Rattle.mv_accept.specs.Accepting.{most_calls};
 ghost use Rattle.mv_script.specs.Scripts.{IsScript};
 
 use mv_accept::accept::accept;
-use mv_cases::accounts::{ADD, OTHERS};
+use mv_cases::accounts::{ADD, OTHERS, SEE};
 use mv_core::runs::run_in_turn;
 use mv_edge::pace::Pace;
 use mv_gate::gate;
@@ -57,6 +57,17 @@ pub(crate) const CASES: &[Case] = &[
         "CALL transfer(1, 2, 10); CALL transfer(3, 4, 10); CALL transfer(2, 3, 10);",
         1,
     ),
+    ("read only calls", "CALL see(1); CALL see(2);", 1),
+    (
+        "read only calls among others",
+        "CALL see(1); CALL add(1, 5); CALL see(1); CALL see(2); CALL add(1, 7);",
+        1,
+    ),
+    (
+        "a collection among read only calls",
+        "CALL add(1, 1); CALL see(1);",
+        65,
+    ),
     ("a collection before the last call", "CALL add(1, 1);", 65),
     ("a collection after the last call", "CALL add(1, 1);", 64),
     (
@@ -71,6 +82,7 @@ pub(crate) fn script_of(alloc: Global, case: &Case) -> Result<String, Fail> {
     let (_, calls, times) = *case;
     let mut script = String::from_str(alloc, ADD)?;
     script.push_str(OTHERS)?;
+    script.push_str(SEE)?;
     script.push_str(REST)?;
     for _ in 0..times {
         script.push_str(calls)?;

@@ -77,6 +77,23 @@ fn note_reply(
     Ok(())
 }
 
+/// Runs a call alone, and notes its reply. The tables after it are dropped.
+fn note_alone(
+    alloc: Global,
+    program: &Program,
+    replies: &mut List<Reply>,
+    call: u32,
+) -> Result<(), Fail>
+    requires { IsProgram program.now }
+{
+    let number = call as usize;
+    if number >= program.resolved.calls.len() {
+        return Err("no such call".into());
+    }
+    let serial = run_alone(alloc, program, &[call])?;
+    note_reply(alloc, replies, serial.replies.as_slice(), number)
+}
+
 /// Runs a call alone, and notes its reply. The tables after it become the program's opening.
 fn run_next(
     alloc: Global,
@@ -98,7 +115,8 @@ fn run_next(
     Ok(())
 }
 
-/// Runs the call of an event alone, if it commits.
+/// Runs the call of an event alone, if it commits, begins or moves. If it commits, its changes are kept. An answered call
+/// has the reply of its last begin or move.
 fn run_event(
     alloc: Global,
     program: &mut Program,
@@ -108,16 +126,19 @@ fn run_event(
     requires { IsProgram program.old }
     ensures { IsProgram program.new }
 {
-    let call = match event {
-        Event::C(call) | Event::X(call) => call,
-        _ => return Ok(()),
-    };
-    run_next(alloc, program, &mut alone.replies, call)?;
-    alone.points.push(point_of(alloc, program)?)?;
-    Ok(())
+    match event {
+        Event::C(call) | Event::X(call) => {
+            run_next(alloc, program, &mut alone.replies, call)?;
+            alone.points.push(point_of(alloc, program)?)?;
+            Ok(())
+        }
+        Event::B(call) | Event::M(call) => note_alone(alloc, program, &mut alone.replies, call),
+        _ => Ok(()),
+    }
 }
 
-/// Runs the calls that commit alone, in this order. The tables after them become the program's opening.
+/// Runs the calls of these events alone: those that commit in this order, and the others at their starts. The tables after
+/// them become the program's opening.
 pub(crate) fn run_commits(
     alloc: Global,
     program: &mut Program,

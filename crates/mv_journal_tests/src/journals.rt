@@ -22,7 +22,8 @@ fn any_event(random: &mut SplitMix64, next: u32) -> Event {
         16..=23 => Event::S(call),
         24..=43 => Event::A(call),
         44..=51 => Event::C(call),
-        52..=60 => Event::X(call),
+        52..=57 => Event::X(call),
+        58..=60 => Event::R(call),
         61 => Event::M(call),
         _ => Event::G,
     }
@@ -36,7 +37,7 @@ fn try_event(alloc: Global, core: &mut Core, event: Event) -> Result<(), NoMemor
     }
 }
 
-/// Makes random events until each call has committed.
+/// Makes random events until each call has committed or was answered.
 fn make_events(alloc: Global, random: &mut SplitMix64, core: &mut Core) -> Result<(), Fail> {
     for _ in 0..100_000u32 {
         if core.open_call().is_none() {

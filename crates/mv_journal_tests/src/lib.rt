@@ -1,5 +1,5 @@
 //! Random journals of random scripts. The text that `replay` makes of each is compared with what calls that run alone, in
-//! the order of the commits, and comparisons of their full runs give. So are the causes of the repairs. The crate has nothing
+//! the order of the history, and comparisons of their full runs give. So are the causes of the repairs. The crate has nothing
 //! else.
 #![tactic(auto)]
 

@@ -80,7 +80,7 @@ fn random_journals_give_the_text_of_calls_alone(rt: HostRuntime) -> Result<(), F
     for seed in 0..200 {
         lines.append(goes_right(rt.alloc(), seed)?.as_slice())?;
     }
-    for letter in b"BSAMCXG" {
+    for letter in b"BSAMCXRG" {
         if !lines.as_slice().contains(letter) {
             return Err("a kind of event is missing".into());
         }

@@ -95,20 +95,57 @@ fn rounds_of(
     Ok(story.rounds)
 }
 
-/// Returns the commits of events, with the rounds of their calls.
+/// Whether the last of these rounds has this start.
+fn is_answered_at(rounds: &[Round], start: u32) -> bool {
+    match rounds.last() {
+        Some(round) => round.start == start,
+        None => false,
+    }
+}
+
+/// Adds the calls that were answered at this start, in the order of their answers.
+fn add_answered(
+    alloc: Global,
+    points: &[Point],
+    events: &[Event],
+    start: u32,
+    history: &mut List<HistoryLine>,
+) -> Result<(), NoMemory> {
+    for event in events {
+        if let Event::R(call) = event {
+            let rounds = rounds_of(alloc, points, events, *call)?;
+            if is_answered_at(rounds.as_slice(), start) {
+                history.push(HistoryLine {
+                    commit: None,
+                    call: *call,
+                    rounds,
+                })?;
+            }
+        }
+    }
+    Ok(())
+}
+
+/// Returns the calls of events in their places, with their rounds: the commits in order, and after each commit the calls
+/// that were answered at it.
 pub(crate) fn history_of(
     alloc: Global,
     points: &[Point],
     events: &[Event],
 ) -> Result<List<HistoryLine>, NoMemory> {
     let mut history = List::new(alloc);
+    let mut commits = 0u32;
+    add_answered(alloc, points, events, commits, &mut history)?;
     for event in events {
         if let Event::C(call) | Event::X(call) = event {
             let rounds = rounds_of(alloc, points, events, *call)?;
+            commits = commits.saturating_add(1);
             history.push(HistoryLine {
+                commit: Some(commits),
                 call: *call,
                 rounds,
             })?;
+            add_answered(alloc, points, events, commits, &mut history)?;
         }
     }
     Ok(history)

@@ -1,4 +1,4 @@
-//! Random scripts of two tables, with procedures that read and write a few rows.
+//! Random scripts of two tables, with procedures that read and write a few rows, and a READ ONLY one.
 
 use mv_values::list::List;
 use mv_values::memory::NoMemory;
@@ -6,12 +6,13 @@ use rand_core::Rng;
 use rand_xoshiro::SplitMix64;
 use std::alloc::Global;
 
-/// Two tables, and three procedures.
+/// Two tables, and four procedures.
 const FRONT: &[u8] = b"CREATE TABLE t (k INT, n INT, m INT, PRIMARY KEY (k));
 CREATE TABLE u (k INT, n INT, PRIMARY KEY (k));
 CREATE PROCEDURE p0(:a INT, :x INT) DECLARE :b = 0; DECLARE :c = 0; BEGIN % PRINT :b, :c; END;
 CREATE PROCEDURE p1(:a INT, :x INT) DECLARE :b = 0; DECLARE :c = 0; BEGIN % PRINT :b, :c; END;
 CREATE PROCEDURE p2(:a INT, :x INT) DECLARE :b = 0; DECLARE :c = 0; BEGIN % PRINT :b, :c; END;
+CREATE PROCEDURE p3(:a INT, :x INT) READ ONLY DECLARE :b = 0; DECLARE :c = 0; BEGIN { PRINT :b, :c; END;
 COPY t <<
 1,#,0
 2,#,0
@@ -32,10 +33,25 @@ const CALL: &[&[u8]] = &[
     b"CALL p0(!, #);\n",
     b"CALL p1(!, #);\n",
     b"CALL p2(!, #);\n",
+    b"CALL p3(!, #);\n",
 ];
 
 /// The texts for `%`: the body of a procedure.
 const BODIES: &[&[u8]] = &[b"$$$$$", b"$$$$$$", b"$$$$$$$", b"$$$$$$$$"];
+
+/// The texts for `{`: the body of a READ ONLY procedure.
+const READING_BODIES: &[&[u8]] = &[b"[[[", b"[[[[", b"[[[[["];
+
+/// The texts for `[`: a statement that changes no table.
+const READING: &[&[u8]] = &[
+    b"SELECT n INTO :b FROM t WHERE k = :a; ",
+    b"SELECT m, n INTO :b, :c FROM t WHERE k > :b OFFSET 1; ",
+    b"SELECT SUM(n) INTO :c FROM t WHERE k >= :a; ",
+    b"SELECT COUNT(*) INTO :c FROM u WHERE n < :x; ",
+    b"IF ^ THEN SELECT n INTO :c FROM u WHERE k = :x; ELSE SET :c = :b; END IF; ",
+    b"IF :b > 9 THEN ROLLBACK 'much'; END IF; ",
+    b"FOR :r IN SELECT k, n FROM t WHERE n >= :x DO SET :b = :b + :r.n; PRINT :r.k; END FOR; ",
+];
 
 /// The texts for `$`: a FOR, an IF, or another statement.
 const STATEMENTS: &[&[u8]] = &[
@@ -145,6 +161,8 @@ const LETTERS: &[(u8, &[&[u8]])] = &[
     (b'|', CALLS),
     (b'~', CALL),
     (b'%', BODIES),
+    (b'{', READING_BODIES),
+    (b'[', READING),
     (b'$', STATEMENTS),
     (b'&', BRANCHES),
     (b'@', BRANCHES_IN_LOOP),

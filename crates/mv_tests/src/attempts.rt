@@ -95,7 +95,7 @@ fn core_after(alloc: Global, script: &str, events: &[Event]) -> Result<Option<Co
 }
 
 /// Returns what an attempt to commit call 1 of the script says after these events. Returns `None` if there is no such
-/// attempt.
+/// attempt, or if the call is read only.
 fn attempt_after(
     alloc: Global,
     script: &str,
@@ -107,6 +107,9 @@ fn attempt_after(
     let Some(_rounds) = core.rounds(1) else {
         return Ok(None);
     };
+    if core.is_read_only(1) {
+        return Ok(None);
+    }
     Ok(Some(core.attempt(alloc, 1)?))
 }
 

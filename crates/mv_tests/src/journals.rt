@@ -390,11 +390,11 @@ fn is_told(alloc: Global, answer: &Result<List<u8>, Fault>, want: &str) -> Resul
 }
 
 /// The words of a replay, and the rounds and the horizon that they give.
-type Given = (&'static [&'static str], u32, Option<u32>);
+pub(crate) type Given = (&'static [&'static str], u32, Option<u32>);
 
 /// Checks that `replay` with these options, as a command and as a call, answers a script with this text or refuses it
 /// with this line.
-fn given_replays<R: Threads + Wait + Sync>(
+pub(crate) fn given_replays<R: Threads + Wait + Sync>(
     rt: &R,
     alloc: Global,
     given: Given,
@@ -408,7 +408,7 @@ fn given_replays<R: Threads + Wait + Sync>(
     ensure(alloc, told, script)
 }
 
-const PLAIN: Given = (&["replay"], 3, None);
+pub(crate) const PLAIN: Given = (&["replay"], 3, None);
 
 /// Checks that `replay` without options, as a command and as a call, answers a script with this text or refuses it with
 /// this line.
@@ -505,7 +505,7 @@ const NO_ROUNDS: Given = (&["replay", "--rounds", "0"], 0, None);
 
 const ONE_ROUND: Given = (&["replay", "--rounds", "1"], 1, None);
 
-const HORIZON: Given = (&["replay", "--horizon", "1"], 3, Some(1));
+pub(crate) const HORIZON: Given = (&["replay", "--horizon", "1"], 3, Some(1));
 
 const GIVEN_TEXTS: &[(Given, Case)] = &[
     (

@@ -22,6 +22,8 @@ mod orders;
 #[cfg(test)]
 mod passes;
 #[cfg(test)]
+mod readers;
+#[cfg(test)]
 mod records;
 #[cfg(test)]
 mod refusals;

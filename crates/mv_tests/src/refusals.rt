@@ -474,6 +474,20 @@ const SCRIPTS: &[(&str, &str)] = &[
         "CALL z(); CREATE TABLE t (k INT, k INT, PRIMARY KEY (k));",
         "refused 6 unknown name at token 2",
     ),
+    // A READ ONLY procedure has no INSERT, UPDATE or DELETE.
+    (
+        "CREATE TABLE t (id INT, PRIMARY KEY (id)); CREATE PROCEDURE w () READ ONLY BEGIN DELETE FROM t; END;",
+        "refused 24 write at token 25",
+    ),
+    (
+        "CREATE TABLE t (id INT, PRIMARY KEY (id)); CREATE PROCEDURE w () READ ONLY BEGIN PRINT 1; END;",
+        "accepted",
+    ),
+    // An earlier fault comes first.
+    (
+        "CREATE TABLE t (id INT, PRIMARY KEY (id)); CREATE PROCEDURE w () READ ONLY BEGIN PRINT :x; DELETE FROM t; END;",
+        "refused 6 unknown name at token 24",
+    ),
 ];
 
 #[test]

@@ -65,6 +65,7 @@ fn graph(alloc: Global) -> Result<Graph, NoMemory> {
     let procedure = ProcInfo {
         name: Txt::new(alloc),
         params: List::new(alloc),
+        read_only: false,
         defaults: List::new(alloc),
         body: List::new(alloc),
     };

@@ -278,16 +278,27 @@ fn replies(alloc: Global, answers: &[Answer]) -> Result<List<Reply>, NoMemory> {
     Ok(replies)
 }
 
-fn commit(alloc: Global, call: u32, listed: &[Round]) -> Result<HistoryLine, NoMemory> {
+fn commit(
+    alloc: Global,
+    number: u32,
+    call: u32,
+    listed: &[Round],
+) -> Result<HistoryLine, NoMemory> {
     let mut rounds = List::new(alloc);
     rounds.append(listed)?;
-    Ok(HistoryLine { call, rounds })
+    Ok(HistoryLine {
+        commit: Some(number),
+        call,
+        rounds,
+    })
 }
 
 fn history(alloc: Global, commits: &[(u32, &[Round])]) -> Result<List<HistoryLine>, NoMemory> {
     let mut history = List::new(alloc);
+    let mut number = 0u32;
     for (call, listed) in commits {
-        history.push(commit(alloc, *call, listed)?)?;
+        number = number.saturating_add(1);
+        history.push(commit(alloc, number, *call, listed)?)?;
     }
     Ok(history)
 }
