@@ -1,4 +1,4 @@
-"""Random scripts: calls that read and write the rows of three tables, some of them hot.
+"""Random scripts: calls that read and write the rows of three tables, some of them hot. A third of the procedures is READ ONLY.
 
 A script is made from texts with names in angle brackets. Each name stands for one of its texts, by chance. The keys of a
 script lie one after another, far apart, or below zero, or all in one shard. A third of the tables has no number in its key.
@@ -14,7 +14,7 @@ CREATE TABLE u (s TEXT(4), n INT, PRIMARY KEY (s));
 CREATE TABLE v (s TEXT(4), k INT, n INT, PRIMARY KEY (s, k));
 """
 
-PROCEDURE = """CREATE PROCEDURE p{} (:a INT, :x INT, :s TEXT(4), :rows ROWS (k INT, n INT)) DECLARE :b = 0; DECLARE :c = 0; BEGIN
+PROCEDURE = """CREATE PROCEDURE p{} (:a INT, :x INT, :s TEXT(4), :rows ROWS (k INT, n INT)) {}DECLARE :b = 0; DECLARE :c = 0; BEGIN
   <body>PRINT :b, :c;
 END;
 """
@@ -72,9 +72,18 @@ TEXTS = {
 WORDS = ("a", "b", "c", "dd")
 
 
-def expanded(random, text):
+READS = {name: [text for text in texts if not re.search("INSERT|UPDATE|DELETE", text)] for name, texts in TEXTS.items()}
+
+
+def expanded(random, text, texts):
     """A text with one of its texts for each name."""
-    return re.sub(r"<([a-z]+)>", lambda name: expanded(random, random.choice(TEXTS[name[1]])), text)
+    return re.sub(r"<([a-z]+)>", lambda name: expanded(random, random.choice(texts[name[1]]), texts), text)
+
+
+def procedure(random, number):
+    """A procedure of this number."""
+    words, texts = random.choice((("READ ONLY ", READS), ("", TEXTS), ("", TEXTS)))
+    return expanded(random, PROCEDURE.format(number, words), texts)
 
 
 def script(seed, calls):
@@ -86,7 +95,7 @@ def script(seed, calls):
     key = lambda: random.choice(hot if random.random() < often else keys)
     pair = lambda: f"({key()}, {random.randint(0, 9)})"
     call = lambda: f"{key()}, {random.randint(0, 9)}, '{random.choice(WORDS)}', ROWS ({', '.join(pair() for _ in range(random.randint(0, turns)))})"
-    procedures = [expanded(random, PROCEDURE.format(number)) for number in range(random.randint(2, 6))]
+    procedures = [procedure(random, number) for number in range(random.randint(2, 6))]
     opening = [
         TABLES,
         *procedures,

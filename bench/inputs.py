@@ -237,6 +237,40 @@ END;
     return opening, chain([look], repeated(commits, change), journal(events))
 
 
+# READ ONLY calls, and the same calls without the words. `words` is `READ ONLY ` or empty.
+
+
+def report_beside_writers(rows, writers, words):
+    """A report that sums up so many rows, one after another, and so many calls after it that each write one of them."""
+    procedures = f"""CREATE PROCEDURE report () {words}DECLARE :sum = 0; BEGIN
+  FOR :r IN SELECT v FROM t DO SET :sum = :sum + :r.v; END FOR;  PRINT :sum;
+END;
+CREATE PROCEDURE bump (:i INT) BEGIN UPDATE t SET v = v + 1 WHERE id = :i; END;
+"""
+    bump = lambda number: f"bump({37 * number % rows})"
+    return [NUMBERS, procedures, *numbered("t", rows)], chain(["CALL report();\n"], repeated(writers, bump))
+
+
+LOOK = "CREATE PROCEDURE look (:i INT) {}DECLARE :v = 0; BEGIN SELECT v INTO :v FROM t WHERE id = :i; PRINT :v; END;\n"
+
+
+def look_ups(calls, words):
+    """Calls of one look-up."""
+    look = lambda number: f"look({37 * number % ROWS})"
+    return [NUMBERS, LOOK.format(words), *numbered("t", ROWS)], repeated(calls, look)
+
+
+def commits_beside(commits, words, beside):
+    """So many calls of `add`, and a look-up at a row that none of them changes. It begins first, and ends last if they
+    commit beside it."""
+    (tables, procedure, *copies), adds = additions(commits)
+    end = "R 0" if words else "C 0"
+    others = (event for other in range(1, commits + 1) for event in (f"B {other}", f"C {other}"))
+    events = chain(["B 0", "S 0"], others, [end]) if beside else chain(["B 0", "S 0", end], others)
+    opening = [tables, procedure, LOOK.format(words), *copies, *block("t", [(ROWS, 0)])]
+    return opening, chain([f"CALL look({ROWS});\n"], adds, journal(events))
+
+
 # A bank with a hot row.
 
 BANK = """CREATE TABLE acc (id INT, bal INT, PRIMARY KEY (id));

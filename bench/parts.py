@@ -104,11 +104,11 @@ def part_of(text, begin, end):
         within = within or line == begin + "\n"
 
 
-ROUNDS = re.compile(r"\d+ \d+ starts [\d,]+ runs (\S+)")
+ROUNDS = re.compile(r"r?\d+ \d+ starts [\d,]+ runs (\S+)")
 
 
 def rounds_of(text):
-    """The rounds of each commit, as a text's history writes them."""
+    """The rounds of each call, as a text's history writes them."""
     return [ROUNDS.fullmatch(line)[1] for line in part_of(text, "history", "journal")]
 
 
@@ -447,6 +447,74 @@ def validation(bench):
     show("Validation of a call of 100 look-ups, which nothing hits", header, rows)
 
 
+# READ ONLY calls.
+
+
+KINDS = {"READ ONLY": "READ ONLY ", "without the words": ""}
+
+
+def readers(bench):
+    reports(bench, bench.size(100_000), bench.size(50_000))
+    look_ups(bench, bench.size(100_000))
+    commits_beside(bench, bench.size(20_000))
+
+
+def reports(bench, count, writers):
+    """Reports of many rows, each beside three workers that write these rows."""
+    rows = []
+    for kind, words in KINDS.items():
+        script = bench.write(f"report {kind}", *inputs.report_beside_writers(count, writers, words))
+        text = bench.folder / "report.txt"
+        taken = take(bench.run(("run", "--threads", "4"), script), text)
+        starts, runs = report_in(text)
+        if words and (len(starts) > 1 or runs != [str(count + 2)]):
+            bench.faults.append(f"a READ ONLY report has the rounds {'+'.join(runs)}")
+        rows.append([kind, "+".join(runs), rate(commits_before_end(text)), seconds(taken.clock)])
+    header = ["report", "statements", "commits meanwhile", "clock"]
+    show(f"A report of {rate(count)} rows beside three workers that write them", header, rows)
+
+
+HISTORY_LINE = re.compile(r"r?\d+ (\d+) starts ([\d,]+) runs (\S+)")
+
+
+def report_in(text):
+    """The starts and the counts of the rounds of call 0."""
+    lines = (HISTORY_LINE.fullmatch(line) for line in part_of(text, "history", "journal"))
+    line = next(line for line in lines if line[1] == "0")
+    return line[2].split(","), line[3].split("+")
+
+
+def commits_before_end(text):
+    """The number of commits before the event with which call 0 ends."""
+    events = takewhile(lambda event: event not in ("R 0", "C 0", "X 0"), part_of(text, "journal", "table "))
+    return sum(event[0] in "CX" for event in events)
+
+
+def look_ups(bench, count):
+    rows = []
+    for words in (("run",), ("run", "--threads", "4")):
+        taken = bench.costs({kind: inputs.look_ups(count, text) for kind, text in KINDS.items()}, words, bench.more_rounds)
+        base = taken["without the words"].processor
+        for kind in KINDS:
+            time = taken[kind].processor
+            rows.append([" ".join(words), kind, seconds(time), f"{1e6 * time / count:.2f}", ratio(time, base)])
+    header = ["words", "procedure", "seconds", "microseconds a call", "of the last"]
+    show(f"{rate(count)} calls of one look-up", header, rows)
+
+
+def commits_beside(bench, count):
+    """What commits cost beside a live call, by whether that is READ ONLY."""
+    scripts = {
+        f"{kind}, {when}": inputs.commits_beside(count, words, when == "live")
+        for kind, words in KINDS.items()
+        for when in ("over", "live")
+    }
+    taken = bench.costs(scripts, ("replay",), bench.more_rounds)
+    base = taken["without the words, live"].processor
+    rows = [[name, seconds(each.processor), ratio(each.processor, base)] for name, each in taken.items()]
+    show(f"{rate(count)} calls of `add` beside a look-up, or after it", ["look-up", "seconds", "of the last"], rows)
+
+
 # Many calls, and many rows.
 
 
@@ -513,6 +581,7 @@ PARTS = {
     "statements": statements,
     "repairs": repairs,
     "validation": validation,
+    "readers": readers,
     "collection": collection,
     "rows": rows,
     "sqlite": sqlite.part,
