@@ -6,3 +6,4 @@ pub mod Judging
 pub mod Drafting
 pub mod Asking
 pub mod Trying
+pub mod Admitting

@@ -14,6 +14,10 @@ use Rattle.mv_history.specs.Hits.{is_alike, any_hits}
 abbrev pub hits_pred : List Write → Change → Pred → Bool
 hits_pred ws c p = if touches c.table c.key ws then admits p c.key && not (is_alike p c.before c.after) else not (is_same (sees p c.before) (sees p c.after))
 
+-- so at a key that the predicate admits
+abbrev pub hits_admitted : List Write → Change → Pred → Bool
+hits_admitted ws c p = admits p c.key && hits_pred ws c p
+
 -- the first of the rest of a call's records that one of the changes hits
 abbrev pub first_record : List Change → List Record → List Record → Option ℕ
 first_record changes before [] = None

@@ -1,4 +1,5 @@
 pub mod Commits
+pub mod Admitting
 pub mod Hitting
 pub mod Tables
 pub mod Drafting

@@ -8,7 +8,8 @@ ghost use Rattle.mv_record.specs.Runs.{writes_in};
 ghost use Rattle.mv_undo.specs.Owning.{earlier, touches};
 ghost use Rattle.mv_history.specs.Changes.{is_same};
 ghost use Rattle.mv_history.specs.Hits.{is_alike, hits, any_hits};
-ghost use Rattle.mv_changes.specs.Hitting.{hits_pred};
+ghost use Rattle.mv_changes.specs.Admitting.{AreAdmitted};
+ghost use Rattle.mv_changes.specs.Hitting.{hits_pred, hits_admitted};
 
 use crate::changes::Changes;
 use crate::columns::are_alike;
@@ -89,25 +90,33 @@ pub fn hit(record: &RecordRef<'_>, number: usize, undo: &Undo, change: &Change) 
     hits_one(&record.preds(), number, undo, change)
 }
 
-/// Whether one of these changes of the predicate's table hits it.
+/// Whether a change of the predicate's table hits it at a key that it admits. Tries the key first: few changes are of
+/// such a key, and the rows of the others need no look.
+fn differs_admitted(pred: &PredRef<'_>, number: usize, undo: &Undo, change: &Change) -> bool
+    ensures { result ≡ hits_admitted (earlier number undo.now) change.now pred.now }
+{
+    pred.admits(&change.key) && differs(pred, number, undo, change)
+}
+
+/// Whether one of these changes of the predicate's table hits it at a key that it admits.
 fn one_hits(pred: &PredRef<'_>, number: usize, undo: &Undo, changes: &[Change]) -> bool
-    ensures { result ≡ list_any (λ c. hits_pred (earlier number undo.now) c pred.now) changes.now }
+    ensures { result ≡ list_any (λ c. hits_admitted (earlier number undo.now) c pred.now) changes.now }
 {
     changes
         .iter()
-        .any(|change| differs(pred, number, undo, change))
+        .any(|change| differs_admitted(pred, number, undo, change))
 }
 
-/// Whether one of a commit's changes hits the predicate. Tries those of its table alone.
+/// Whether one of a commit's changes hits the predicate at a key that it admits. Tries those of its table alone.
 fn commit_hits(pred: &PredRef<'_>, number: usize, undo: &Undo, changes: &Changes) -> bool
-    ensures { result ≡ list_any (λ c. hits_pred (earlier number undo.now) c pred.now) (filter (λ c. c.table == pred.now.table) changes.now) }
+    ensures { result ≡ list_any (λ c. hits_admitted (earlier number undo.now) c pred.now) (filter (λ c. c.table == pred.now.table) changes.now) }
 {
     one_hits(pred, number, undo, changes.of_table(pred.table()))
 }
 
-/// Whether one of a commit's changes hits one of these predicates.
+/// Whether one of a commit's changes hits one of these predicates at a key that it admits.
 fn commit_hits_one(preds: &Preds<'_>, number: usize, undo: &Undo, changes: &Changes) -> bool
-    ensures { result ≡ list_any (λ p. list_any (λ c. hits_pred (earlier number undo.now) c p) (filter (λ c. c.table == p.table) changes.now)) preds.now }
+    ensures { result ≡ list_any (λ p. list_any (λ c. hits_admitted (earlier number undo.now) c p) (filter (λ c. c.table == p.table) changes.now)) preds.now }
 {
     for at in 0..preds.len() {
         if commit_hits(&preds.get(at), number, undo, changes) {
@@ -118,10 +127,12 @@ fn commit_hits_one(preds: &Preds<'_>, number: usize, undo: &Undo, changes: &Chan
 }
 
 /// Whether one of a commit's changes hits the record with this number, as `hit` tells. `undo` has the writes of the
-/// call's records. Allocates nothing. Tries the changes of the tables of the record's predicates alone, which it finds in
-/// the logarithm of the number of changes for each predicate.
+/// call's records. Allocates nothing. The record's predicates must match rows only under keys that they admit, as they do
+/// in tables where each row has its own key. Tries the changes of the tables of the record's predicates alone, which it
+/// finds in the logarithm of the number of changes for each predicate. Looks at the rows only of a change whose key the
+/// predicate admits.
 pub fn any_hit(record: &RecordRef<'_>, number: usize, undo: &Undo, changes: &Changes) -> bool
-    ensures { (before : List Record) → earlier number undo.now ≡ writes_in before → result ≡ any_hits changes.now before record.now }
+    ensures { (before : List Record) → earlier number undo.now ≡ writes_in before → AreAdmitted changes.now record.now → result ≡ any_hits changes.now before record.now }
 {
     commit_hits_one(&record.preds(), number, undo, changes)
 }
