@@ -93,7 +93,7 @@ row_more ws w db t key b lt rising h =
 
 -- The entries under way
 
-abbrev HasPlace : Entry → Type 0
+abbrev pub HasPlace : Entry → Type 0
 HasPlace e = e.0 ≡ place e.1
 
 abbrev OfItem : List Value → Option Change → Type 0
@@ -186,6 +186,34 @@ draft_more es mid new ws w db was c lt rising draft had taken without put with' 
         by false e =
             without (Int (pos t) ∷ key)
             ∙ (ap (λ b. cond b None (item_of es (Int (pos t) ∷ key))) e ∙ (draft.each t key ∙ other_now ws w db t key rising (off w t key e)))
+
+-- the same, where it is put in one step
+pub draft_put : (es new : List Entry) (ws : List Write) (w : Write) (db : Tables) (was : Option Change) (c : Change) → w.table < length db → AreRising db → IsDraft es ws db → All HasPlace new
+    → was ≡ item_of es (Int (pos w.table) ∷ w.key)
+    → ((other : List Value) → item_of new other ≡ cond (is_eq (key_order (Int (pos w.table) ∷ w.key) other)) (Some c) (item_of es other))
+    → c ≡ changed_by w was (row_of (rows_at db w.table) w.key) → IsDraft new (ws ++ w ∷ []) db
+draft_put es new ws w db was c lt rising draft places had with' is = record {
+  places = places;
+  each = each;
+}
+  where
+    this : c ≡ record { table = w.table; key = w.key; before = row_of (rows_at db w.table) w.key; after = row_of (rows_at (applied (ws ++ w ∷ []) db) w.table) w.key }
+    this = is ∙ change_now ws w db was lt rising (had ∙ draft.each w.table w.key)
+
+    each : (t : ℕ) (key : List Value) → item_of new (Int (pos t) ∷ key) ≡ drafted (nat_lt t (length db) && touches t key (ws ++ w ∷ [])) t key db (applied (ws ++ w ∷ []) db)
+    each t key = with' (Int (pos t) ∷ key) ∙ by (is_eq (key_order (full w) (Int (pos t) ∷ key))) refl
+      where
+        here : drafted (nat_lt w.table (length db) && touches w.table w.key (ws ++ w ∷ [])) w.table w.key db (applied (ws ++ w ∷ []) db) ≡ Some c
+        here =
+            ap (λ b. drafted (b && touches w.table w.key (ws ++ w ∷ [])) w.table w.key db (applied (ws ++ w ∷ []) db)) (lt-ltb w.table (length db) lt)
+            ∙ (ap (λ b. drafted b w.table w.key db (applied (ws ++ w ∷ []) db)) (touches_more ws w w.table w.key true (on_itself w) ∙ or_right (touches w.table w.key ws) true refl) ∙ ap Some (sym this))
+
+        by : (b : Bool) → is_eq (key_order (full w) (Int (pos t) ∷ key)) ≡ b → cond b (Some c) (item_of es (Int (pos t) ∷ key)) ≡ drafted (nat_lt t (length db) && touches t key (ws ++ w ∷ [])) t key db (applied (ws ++ w ∷ []) db)
+        by true e =
+            let same = tied (full w) (Int (pos t) ∷ key) e in
+            sym (subst (λ k. drafted (nat_lt t (length db) && touches t k (ws ++ w ∷ [])) t k db (applied (ws ++ w ∷ []) db) ≡ Some c) (full_key w t key same)
+            (subst (λ u. drafted (nat_lt u (length db) && touches u w.key (ws ++ w ∷ [])) u w.key db (applied (ws ++ w ∷ []) db) ≡ Some c) (full_table w t key same) here))
+        by false e = draft.each t key ∙ other_now ws w db t key rising (off w t key e)
 
 -- a write of a table that isn't there
 pub draft_skips : (es : List Entry) (ws : List Write) (w : Write) (db : Tables) → length db ≤ w.table → AreRising db → IsDraft es ws db → IsDraft es (ws ++ w ∷ []) db

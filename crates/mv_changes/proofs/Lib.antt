@@ -7,3 +7,4 @@ pub mod Drafting
 pub mod Asking
 pub mod Trying
 pub mod Admitting
+pub mod Placing

@@ -1,11 +1,13 @@
 -- Defines the changes of a commit by its writes. Each written key, with its table in front, has its row before and
 -- after the writes.
-use Rattle.std.specs.Prelude.{◌≡◌, ◌≤◌, ◌+◌, ℕ, Bool, ◌&&◌, nat_lt, pos, List, [], ◌∷◌, Option, Some, None, Result, All, length, if◌then◌else◌}
+use Rattle.std.specs.Prelude.{◌≡◌, ◌≤◌, ◌+◌, ℕ, Bool, false, ◌&&◌, nat_lt, pos, List, [], ◌∷◌, Option, Some, None, Result, All, length, if◌then◌else◌}
 use Rattle.std.specs.List.{flat_map}
+use Rattle.std.specs.Ordering.{is_eq, is_lt}
 use Rattle.mv_values.specs.declared.value.Value.{Value}
 use Rattle.mv_values.specs.declared.value.Value.TheVariants.{Int}
 use Rattle.mv_values.specs.declared.rows.Keyed.{Keyed}
 use Rattle.mv_values.specs.declared.patch.Write.{Write}
+use Rattle.mv_values.specs.Order.{key_order}
 use Rattle.mv_values.specs.Patching.{row_of, patched, applied}
 use Rattle.mv_values.specs.Tables.{rows_at}
 use Rattle.mv_table.specs.Entries.{item_of}
@@ -36,6 +38,23 @@ drafted written t key old new = if written then Some (record { table = t; key = 
 pub record IsDraft (es : List (List Value × Change)) (ws : List Write) (db : List (List Keyed)) : Type 0 where
   pub places : All (λ e. e.0 ≡ place e.1) es
   pub each : (t : ℕ) (key : List Value) → item_of es (Int (pos t) ∷ key) ≡ drafted (nat_lt t (length db) && touches t key ws) t key db (applied ws db)
+
+-- changes by their places
+abbrev pub by_place : List Change → List (List Value × Change)
+by_place [] = []
+by_place (c ∷ cs) = (place c, c) ∷ by_place cs
+
+-- the place that a write is to
+abbrev pub written : Write → List Value
+written w = Int (pos w.table) ∷ w.key
+
+-- whether a change is before the place of a write, and whether it is there
+abbrev pub is_before : Write → Change → Bool
+is_before w c = is_lt (key_order (place c) (written w))
+
+abbrev pub is_there : Write → Option Change → Bool
+is_there w None = false
+is_there w (Some c) = is_eq (key_order (place c) (written w))
 
 -- the changes whose rows differ after the writes
 abbrev pub differing : List (List Value × Change) → List Change

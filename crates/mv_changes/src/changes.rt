@@ -1,10 +1,8 @@
 //! The changes of one commit.
 
-ghost use Rattle.std.specs.Prelude.{◌≡◌, ◌==◌, ◌≤◌, ◌∷◌, ◌++◌, [], All, nat_lt, length, slice_range, OnOk, OnErr};
+ghost use Rattle.std.specs.Prelude.{◌≡◌, ◌==◌, ◌≤◌, length, slice_range, IfOk};
 ghost use Rattle.std.specs.List.{filter};
-ghost use Rattle.std.specs.declared.cmp.Ordering.TheVariants.{Less};
-ghost use Rattle.mv_values.specs.Order.{key_order};
-ghost use Rattle.mv_history.specs.Changes.{InOrder, place};
+ghost use Rattle.mv_history.specs.Changes.{InOrder};
 ghost use Rattle.mv_changes.specs.Tables.{IsCut, is_below};
 
 use mv_history::change::Change;
@@ -13,23 +11,26 @@ use mv_values::list::List;
 use mv_values::memory::NoMemory;
 use std::alloc::Global;
 use std::marker::Model;
+use std::sync::Arc;
 
-/// The changes of a commit, in the order of their tables and keys, each key once. Contracts see them as a list.
+/// The changes of a commit, in the order of their tables and keys, each key once. Copies share them. Contracts see them as
+/// a list.
 #[derive(Drop)]
 pub struct Changes {
-    items: List<Change>,
+    items: Arc<List<Change>, Global>,
 }
 
 impl Model for Changes {
     ghost use Rattle.std.specs.Prelude.{List as Seq};
+    ghost use Rattle.std.specs.Arc.{arc_value};
     ghost use Rattle.mv_history.specs.declared.change.Change.{Change};
     ghost use Rattle.mv_history.specs.Changes.{InOrder};
 
     ghost Value = { Seq Change };
 
-    ghost view = { λ c. c.items };
+    ghost view = { λ c. arc_value c.items };
 
-    ghost invariant = { λ c. InOrder c.items };
+    ghost invariant = { λ c. InOrder (arc_value c.items) };
 }
 
 /// Counts the changes of lower tables. Costs the logarithm of the number of changes.
@@ -55,13 +56,13 @@ fn part(items: &[Change], from: usize, to: usize) -> &[Change]
 }
 
 impl Changes {
-    /// Returns no changes. Allocates nothing.
-    pub fn new(alloc: Global) -> Changes
-        ensures { result ≡ [] }
+    /// Returns these changes. Fails with `NoMemory` if memory runs out.
+    pub fn of(alloc: Global, items: List<Change>) -> Result<Changes, NoMemory>
+        requires { InOrder items }
+        ensures { IfOk result (λ changes. changes ≡ items) }
     {
-        Changes {
-            items: List::new(alloc),
-        }
+        let items = Arc::new(alloc, items)?;
+        Ok(Changes { items })
     }
 
     /// Borrows the changes.
@@ -70,15 +71,6 @@ impl Changes {
         ensures order { InOrder self.now }
     {
         self.items.as_slice()
-    }
-
-    /// Appends a change after those of lower tables and keys. Fails if memory runs out; nothing is then added.
-    pub fn push(&mut self, change: Change) -> Result<(), NoMemory>
-        requires { All (λ c. key_order (place c) (place change) ≡ Less) self.old }
-        ensures ok { OnOk result (self.new ≡ self.old ++ change ∷ []) }
-        ensures err { OnErr result (self.new ≡ self.old) }
-    {
-        self.items.push(change)
     }
 
     /// Borrows the changes of a table. Costs the logarithm of the number of changes.
@@ -93,9 +85,8 @@ impl Changes {
 }
 
 impl Copied for Changes {
-    fn copy(&self, alloc: Global) -> Result<Changes, NoMemory> {
-        Ok(Changes {
-            items: self.items.copy(alloc)?,
-        })
+    fn copy(&self, _alloc: Global) -> Result<Changes, NoMemory> {
+        let items = Arc::try_clone(&self.items)?;
+        Ok(Changes { items })
     }
 }

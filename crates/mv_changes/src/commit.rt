@@ -1,39 +1,74 @@
 //! The changes that a call makes when it commits.
 
-ghost use Rattle.std.specs.Prelude.{◌≡◌, ◌∷◌, ◌++◌, [], List, All, length, pos, IfOk, OnOk};
-ghost use Rattle.mv_values.specs.declared.value.Value.TheVariants.{Int};
+ghost use Rattle.std.specs.Prelude.{◌≡◌, ◌≤◌, ◌∷◌, ◌++◌, [], List, length, slice_get, IfOk, OnOk};
+ghost use Rattle.std.specs.List.{list_any};
+ghost use Rattle.mv_values.specs.Order.{key_order};
 ghost use Rattle.mv_values.specs.Patching.{applied, row_of};
 ghost use Rattle.mv_values.specs.Tables.{rows_at};
 ghost use Rattle.mv_record.specs.Runs.{writes_in};
 ghost use Rattle.mv_record.specs.Writes.{AreRising};
 ghost use Rattle.mv_values.specs.declared.patch.Write.{Write};
-ghost use Rattle.mv_table.specs.Entries.{KeysRise};
-ghost use Rattle.mv_history.specs.Changes.{changes_between, is_same, place};
-ghost use Rattle.mv_changes.specs.Drafting.{IsDraft, HasAsked, change_of_write, changed_more, changed_by, differing};
+ghost use Rattle.mv_history.specs.Changes.{InOrder, changes_between, is_same, place};
+ghost use Rattle.mv_changes.specs.Tables.{IsCut};
+ghost use Rattle.mv_changes.specs.Drafting.{IsDraft, HasAsked, by_place, written, is_before, is_there, change_of_write, changed_more, differing};
 
 use crate::changes::Changes;
 use mv_history::change::Change;
 use mv_log::records::Records;
 use mv_record::applying::patch_row;
-use mv_table::key_map::KeyMap;
 use mv_values::copied::Copied;
 use mv_values::list::List;
 use mv_values::memory::NoMemory;
 use mv_values::patch::Write;
-use mv_values::value::{Key, Row, Value, compare_keys};
+use mv_values::value::{Row, compare_keys};
 use mv_view::view::{Refused, View};
 use std::alloc::Global;
+use std::cmp::Ordering;
 
-/// Returns a key with its table in front.
-fn place_of(alloc: Global, table: u8, key: &Key) -> Result<Key, NoMemory>
-    ensures { IfOk result (λ place. place ≡ Int (pos table) ∷ key.now) }
+/// Compares the place of a change with that of a write.
+fn order_to(change: &Change, write: &Write) -> Ordering
+    ensures { result ≡ key_order (place change.now) (written write.now) }
 {
-    let mut place = List::new(alloc);
-    place.push(Value::Int(table as i64))?;
-    for value in key.as_slice() {
-        place.push(value.copy(alloc)?)?;
+    if change.table < write.table {
+        return Ordering::Less;
     }
-    Ok(place)
+    if change.table > write.table {
+        return Ordering::Greater;
+    }
+    compare_keys(change.key.as_slice(), write.key.as_slice())
+}
+
+/// Returns the number of changes before the place of a write. Takes time logarithmic in their number.
+fn place_in(changes: &List<Change>, write: &Write) -> usize
+    requires { InOrder changes.now }
+    ensures within { result ≤ length changes.now }
+    ensures cut { IsCut (is_before write.now) changes.now result }
+{
+    changes.as_slice().partition_point(
+        |change: &Change| -> bool
+            ensures { result ≡ is_before write.entry.now change.now }
+        { order_to(change, write).is_lt() },
+    )
+}
+
+/// Whether the change at an index is of the place of a write.
+fn is_there(changes: &List<Change>, at: usize, write: &Write) -> bool
+    ensures { result ≡ is_there write.now (slice_get changes.now at) }
+{
+    match changes.as_slice().get(at) {
+        Some(change) => order_to(change, write).is_eq(),
+        None => false,
+    }
+}
+
+/// Returns a change of nothing. It allocates no memory.
+fn no_change(alloc: Global) -> Change {
+    Change {
+        table: 0,
+        key: List::new(alloc),
+        before: None,
+        after: None,
+    }
 }
 
 /// Returns the change of a key by its first write: from its row in the view's database to the row after the write.
@@ -65,42 +100,33 @@ fn next_change(alloc: Global, change: Change, write: &Write) -> Result<Change, N
     })
 }
 
-/// Returns the change of the write's key after the write, given its change before it, if any.
-fn change_by<V: View>(
-    alloc: Global,
-    was: Option<Change>,
-    write: &Write,
-    view: &mut V,
-) -> Result<Change, Refused>
-    ensures change { IfOk result (λ change. change ≡ changed_by write.now was (row_of (rows_at (V.sight view.old).database write.now.table) write.now.key)) }
-    ensures asks { HasAsked 1 (V.sight view.old) (V.sight view.new) result }
-{
-    match was {
-        Some(change) => Ok(next_change(alloc, change, write)?),
-        None => first_change(alloc, write, view),
-    }
-}
-
 /// Adds a write to the changes, unless it is to a table that the database lacks.
 fn add_write<V: View>(
     alloc: Global,
     tables: usize,
-    changes: &mut KeyMap<Change>,
+    changes: &mut List<Change>,
     write: &Write,
     view: &mut V,
 ) -> Result<(), Refused>
     requires tables { tables ≡ length (V.sight view.old).database }
     requires rising { AreRising (V.sight view.old).database }
-    ensures ok { OnOk result ((ws : List Write) → IsDraft changes.old ws (V.sight view.old).database → IsDraft changes.new (ws ++ write.now ∷ []) (V.sight view.old).database) }
+    requires order { InOrder changes.old }
+    ensures order { OnOk result (InOrder changes.new) }
+    ensures ok { OnOk result ((ws : List Write) → IsDraft (by_place changes.old) ws (V.sight view.old).database → IsDraft (by_place changes.new) (ws ++ write.now ∷ []) (V.sight view.old).database) }
     ensures asks { HasAsked 1 (V.sight view.old) (V.sight view.new) result }
 {
     if write.table as usize >= tables {
         return Ok(());
     }
-    let place = place_of(alloc, write.table, &write.key)?;
-    let was = changes.take(&place);
-    let change = change_by(alloc, was, write, view)?;
-    changes.put(place, change)?;
+    let at = place_in(changes, write);
+    if is_there(changes, at, write) {
+        let was = changes.replace(at, no_change(alloc));
+        let next = next_change(alloc, was, write)?;
+        changes.set(at, next);
+        return Ok(());
+    }
+    let first = first_change(alloc, write, view)?;
+    changes.insert(at, first)?;
     Ok(())
 }
 
@@ -108,13 +134,15 @@ fn add_write<V: View>(
 fn add_writes<V: View>(
     alloc: Global,
     tables: usize,
-    changes: &mut KeyMap<Change>,
+    changes: &mut List<Change>,
     writes: &[Write],
     view: &mut V,
 ) -> Result<(), Refused>
     requires tables { tables ≡ length (V.sight view.old).database }
     requires rising { AreRising (V.sight view.old).database }
-    ensures ok { OnOk result ((ws : List Write) → IsDraft changes.old ws (V.sight view.old).database → IsDraft changes.new (ws ++ writes.now) (V.sight view.old).database) }
+    requires order { InOrder changes.old }
+    ensures order { OnOk result (InOrder changes.new) }
+    ensures ok { OnOk result ((ws : List Write) → IsDraft (by_place changes.old) ws (V.sight view.old).database → IsDraft (by_place changes.new) (ws ++ writes.now) (V.sight view.old).database) }
     ensures asks { HasAsked (length writes.now) (V.sight view.old) (V.sight view.new) result }
 {
     for write in writes {
@@ -134,25 +162,45 @@ fn is_same(before: &Option<Row>, after: &Option<Row>) -> bool
     }
 }
 
-/// Returns the changes whose rows differ.
-fn differing(alloc: Global, changes: KeyMap<Change>) -> Result<Changes, NoMemory>
-    requires { All (λ e. e.0 ≡ place e.1) changes }
-    ensures listed { IfOk result (λ listed. listed ≡ differing changes) }
-    ensures rising { OnOk result (KeysRise changes) }
+/// Whether one of the changes leaves its row as it was.
+fn has_same(changes: &[Change]) -> bool
+    ensures { result ≡ list_any (λ c. is_same c.before c.after) changes.now }
 {
-    let mut listed = Changes::new(alloc);
-    for (_place, change) in changes.into_entries() {
+    changes
+        .iter()
+        .any(|change| is_same(&change.before, &change.after))
+}
+
+/// Copies the changes whose rows differ.
+fn copy_differing(alloc: Global, changes: &[Change]) -> Result<Changes, NoMemory>
+    requires { InOrder changes.now }
+    ensures { IfOk result (λ listed. listed ≡ differing (by_place changes.now)) }
+{
+    let mut listed = List::new(alloc);
+    for change in changes {
         if !is_same(&change.before, &change.after) {
-            listed.push(change)?;
+            let copy = change.copy(alloc)?;
+            listed.push(copy)?;
         }
     }
-    Ok(listed)
+    Changes::of(alloc, listed)
+}
+
+/// Returns the changes whose rows differ. It copies them only if some row doesn't.
+fn differing(alloc: Global, changes: List<Change>) -> Result<Changes, NoMemory>
+    requires { InOrder changes }
+    ensures { IfOk result (λ listed. listed ≡ differing (by_place changes)) }
+{
+    if has_same(changes.as_slice()) {
+        return copy_differing(alloc, changes.as_slice());
+    }
+    Changes::of(alloc, changes)
 }
 
 /// Returns the changes that the writes of a call's records make to the view's database, which has this many tables. A
 /// change has the row of a written key before and after the writes, if these differ. Fails if memory runs out, or with
 /// `Stale` if the view does. Costs one look-up in the view for each key written, and for each write the logarithm of
-/// their number.
+/// their number. The first write of a key moves the changes of later keys.
 pub fn changes_of_commit<V: View>(
     alloc: Global,
     tables: usize,
@@ -164,7 +212,7 @@ pub fn changes_of_commit<V: View>(
     ensures changes { IfOk result (λ changes. changes ≡ changes_between (V.sight view.old).database (applied (writes_in records.now) (V.sight view.old).database)) }
     ensures asks { HasAsked (length (writes_in records.now)) (V.sight view.old) (V.sight view.new) result }
 {
-    let mut changes = KeyMap::new(alloc);
+    let mut changes = List::new(alloc);
     for number in 0..records.len() {
         let record = records.get(number);
         add_writes(alloc, tables, &mut changes, record.writes(), view)?;

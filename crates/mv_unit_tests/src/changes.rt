@@ -309,9 +309,9 @@ fn one(alloc: Global, n: i64) -> Result<Changes, NoMemory> {
         before: Some(row(alloc, &[n, 100, 0])?),
         after: Some(row(alloc, &[n, 101, 0])?),
     };
-    let mut changes = Changes::new(alloc);
-    changes.push(change)?;
-    Ok(changes)
+    let mut items = List::new(alloc);
+    items.push(change)?;
+    Changes::of(alloc, items)
 }
 
 /// Returns three commits: the first changes row 1, the others row 2.

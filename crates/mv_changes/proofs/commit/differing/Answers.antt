@@ -1,19 +1,9 @@
-use Rattle.std.proofs.Common.{sym, ap, subst, ◌∙◌}
-use Rattle.mv_history.specs.Changes.{InOrder}
-use Rattle.mv_changes.specs.Drafting.{differing}
-use Rattle.mv_changes.proofs.Drafting.{differing_in_order, listed_before, one_listed}
+use Rattle.std.proofs.Common.{◌≡◌, List, sym, ap, subst, ◌∙◌}
+use Rattle.std.specs.Prelude.{IfOk}
+use Rattle.std.specs.List.{list_any}
+use Rattle.mv_history.specs.declared.change.Change.{Change}
+use Rattle.mv_changes.proofs.Placing.{all_differ, same_rows}
 use Rattle.mv_changes.proofs.commit.differing.Goals as goal
 
-pub loop-place-init : goal.loop-place-init
-loop-place-init c = record {
-  can = tt;
-  ends = tt;
-  whole = rw c.new-listed.ensures (ap differing (c.into_iter-place-iterator.ensures.into_iter_gives ∙ c.into_entries-place-items.ensures.items));
-  order = differing_in_order c.args.changes c.into_entries-place-items.ensures.rising c.requires;
-}
-
-pub push-requires : goal.push-requires
-push-requires c =
-    listed_before c.loop-place.listed c.in-Some.change (differing c.next.new.self)
-    (subst InOrder (sym (one_listed c.loop-place.listed c.in-Some._place c.in-Some.change c.next.new.self c.loop-place._place-iterator (differing c.args.changes)
-    (sym c.is_same.ensures ∙ c.if-not-is_same.true) c.in-Some.ensures.steps c.loop-place.invariant.whole)) c.loop-place.invariant.order)
+pub returns : goal.returns
+returns c = subst (λ (l : List Change). IfOk c.of.result (λ changes. changes ≡ l)) (sym (all_differ c.args.changes (ap (list_any same_rows) (sym c.as_slice.ensures) ∙ (sym c.has_same.ensures ∙ c.if-has_same.false)))) c.of.ensures

@@ -12,4 +12,4 @@ pub returns : goal.returns
 returns c =
     c.part.ensures
     ∙ (cut_out c.args.table c.as_slice-items.result.now c.count_below-from.result c.count_below-to.result c.count_below-from.ensures.within c.count_below-to.ensures.within c.count_below-from.ensures.cut c.count_below-to.ensures.cut
-    ∙ ap (filter (λ (x : Change). x.table == c.args.table)) (c.as_slice-items.ensures ∙ c.self.view_is))
+    ∙ ap (filter (λ (x : Change). x.table == c.args.table)) (c.as_slice-items.ensures ∙ (c.deref.ensures ∙ c.self.view_is)))
