@@ -1,7 +1,8 @@
 -- Which records changes hit, by the writes before them.
-use Rattle.std.proofs.Common.{◌≡◌, ◌==◌, Bool, List, [], ◌∷◌, ◌++◌, refl, sym, ap, ◌∙◌, append-nil, append_assoc}
+use Rattle.std.proofs.Common.{◌≡◌, ◌<◌, ◌≤◌, ◌+◌, ◌==◌, ℕ, Bool, true, false, length, drop, slice_index_or, List, [], ◌∷◌, ◌++◌, refl, sym, ap, ◌∙◌, append-nil, append_assoc}
 use Rattle.std.specs.Prelude.{◌||◌, ◌&&◌}
 use Rattle.std.specs.List.{list_any}
+use Rattle.std.proofs.lemmas.List.{drop_all, drop_more}
 use Rattle.std.proofs.lemmas.List.Folds.{list_any-append}
 use Rattle.mv_values.specs.declared.pred.Pred.{Pred}
 use Rattle.mv_values.specs.declared.patch.Write.{Write}
@@ -33,6 +34,22 @@ commits_hit before r [] = refl
 commits_hit before r (c ∷ cs) =
     ap (λ x. x || is_hit_by (writes_in before) r cs) (same_any before r c.changes)
     ∙ (ap (λ x. any_hits c.changes before r || x) (commits_hit before r cs) ∙ sym (list_any-append (hits before r) c.changes (changes_since cs)))
+
+-- a commit more is tried
+commit_next : (ws : List Write) (r : Record) (since : List Committed) (i : ℕ) (c : Committed) → i < length since → c ≡ slice_index_or since i c
+    → is_hit_by ws r (drop i since) ≡ (any_hits c.changes (with_writes ws) r || is_hit_by ws r (drop (i + 1) since))
+commit_next ws r since i c lt at = ap (is_hit_by ws r) (drop_more since i c lt ∙ ap (λ x. x ∷ drop (i + 1) since) (sym at))
+
+pub commit_hits_here : (ws : List Write) (r : Record) (since : List Committed) (i : ℕ) (c : Committed) (hit : Bool) → i < length since → c ≡ slice_index_or since i c → hit ≡ any_hits c.changes (with_writes ws) r → hit ≡ true
+    → is_hit_by ws r (drop i since) ≡ is_hit_by ws r since → true ≡ is_hit_by ws r since
+commit_hits_here ws r since i c hit lt at is here more = ap (λ b. b || is_hit_by ws r (drop (i + 1) since)) (sym here ∙ is) ∙ (sym (commit_next ws r since i c lt at) ∙ more)
+
+pub commit_hits_later : (ws : List Write) (r : Record) (since : List Committed) (i : ℕ) (c : Committed) (hit : Bool) → i < length since → c ≡ slice_index_or since i c → hit ≡ any_hits c.changes (with_writes ws) r → hit ≡ false
+    → is_hit_by ws r (drop i since) ≡ is_hit_by ws r since → is_hit_by ws r (drop (i + 1) since) ≡ is_hit_by ws r since
+commit_hits_later ws r since i c hit lt at is missed more = ap (λ b. b || is_hit_by ws r (drop (i + 1) since)) (sym missed ∙ is) ∙ (sym (commit_next ws r since i c lt at) ∙ more)
+
+pub none_hits : (ws : List Write) (r : Record) (since : List Committed) (i : ℕ) → length since ≤ i → is_hit_by ws r (drop i since) ≡ is_hit_by ws r since → false ≡ is_hit_by ws r since
+none_hits ws r since i past more = ap (is_hit_by ws r) (sym (drop_all i since past)) ∙ more
 
 -- one record more
 pub hits_more : (cs : List Change) (before xs : List Record) (r : Record) → hits_in cs before (xs ++ r ∷ []) ≡ hits_in cs before xs ++ any_hits cs (before ++ xs) r ∷ []

@@ -8,3 +8,4 @@ pub mod Deciding
 pub mod Asking
 pub mod Stepping
 pub mod Repairing
+pub mod Admitting

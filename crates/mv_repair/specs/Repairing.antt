@@ -1,7 +1,7 @@
 -- Defines what the contract of a repair says: the runs that it needs, and how often it queries the view. That a repair
 -- executes only what depends on a change is the paper's (Dashti, Basil John, Shaikhha and Koch, SIGMOD 2017). The
 -- bounds on the queries are this project's own.
-use Rattle.std.specs.Prelude.{◌≡◌, ℕ, ◌+◌, ◌*◌, Bool, true, false, not, ◌&&◌, List, [], ◌∷◌, ◌++◌, length}
+use Rattle.std.specs.Prelude.{◌≡◌, ℕ, ◌+◌, ◌*◌, Bool, true, false, not, ◌&&◌, List, [], ◌∷◌, ◌++◌, All, length}
 use Rattle.std.specs.List.{filter, flat_map}
 use Rattle.mv_values.specs.declared.calls.Call.{Call}
 use Rattle.mv_values.specs.declared.pred.Pred.{Pred}
@@ -18,19 +18,22 @@ use Rattle.mv_history.specs.declared.change.Change.{Change}
 use Rattle.mv_history.specs.Kept.{Placed, with_paths, among, kept_paths}
 use Rattle.mv_alike.specs.Laws.{AreRuns}
 use Rattle.mv_changes.specs.declared.recent.Committed.{Committed}
+use Rattle.mv_changes.specs.Admitting.{AreAdmitted}
 use Rattle.mv_changes.specs.Commits.{changes_in}
 
 -- the changes of commits in one list, in the order of the commits
 abbrev pub changes_since : List Committed → List Change
 changes_since commits = flat_map (λ changes. changes) (changes_in commits)
 
--- the task is a call that has ended on some database, and the changes lead from that database to the new one
+-- the task is a call that has ended on some database. The changes lead from that database to the new one, and the
+-- predicates of its records match their rows only under keys that they admit
 pub record IsRepairable (g : Graph) (task : Task) (changes : List Change) (new : Tables) : Type 0 where
   pub call : Call
   pub old : Tables
   pub on : IsTaskOn g call old task
   pub ended : task.ended ≡ true
   pub runs : AreRuns g.tables g.procedure call old new changes
+  pub admitted : All (AreAdmitted changes) task.log.records
 
 -- there is a predicate
 abbrev pub is_some : List Pred → Bool

@@ -1,20 +1,24 @@
-use Rattle.std.proofs.Common.{◌≡◌, true, [], List, refl, sym, ap, rules, subst, ◌∙◌}
+use Rattle.std.proofs.Common.{◌≡◌, true, [], List, All, refl, sym, ap, rules, subst, ◌∙◌}
 use Rattle.mv_values.specs.Tables.{Tables}
 use Rattle.mv_record.specs.declared.record.Record.{Record}
 use Rattle.mv_undo.specs.declared.owned.Owned.{Owned}
 use Rattle.mv_undo.specs.Owning.{HasWritesOf}
 use Rattle.mv_exec.specs.Running.{refusals}
 use Rattle.mv_exec.proofs.Viewing.{never_on, same_on}
+use Rattle.mv_changes.specs.Admitting.{AreAdmitted}
 use Rattle.mv_repair.specs.Repairing.{changes_since, HasQueried}
 use Rattle.mv_repair.specs.Stepping.{HasStepped}
 use Rattle.mv_repair.specs.Walking.{hits_in}
 use Rattle.mv_repair.proofs.Repairing.{begun, none_queried, all_there, is_on, tried}
 use Rattle.mv_repair.proofs.repair.repair.Goals as goal
 
-pub hits_of-requires : goal.hits_of-requires
-hits_of-requires g c =
+pub hits_of-requires-clause-writes : goal.hits_of-requires-clause-writes
+hits_of-requires-clause-writes g c =
     subst (λ (rs : List Record). HasWritesOf c.undo.result.now rs) (sym c.records.ensures)
     (subst (λ (ws : List Owned). HasWritesOf ws c.args.task.now.log.records) (sym c.undo.ensures) c.requires.leads.on.is.writes)
+
+pub hits_of-requires-clause-admitted : goal.hits_of-requires-clause-admitted
+hits_of-requires-clause-admitted g c = subst (λ (rs : List Record). All (AreAdmitted (changes_since c.args.since.now)) rs) (sym c.records.ensures) c.requires.leads.admitted
 
 pub loop-alloc-init : goal.loop-alloc-init
 loop-alloc-init g c = record {
