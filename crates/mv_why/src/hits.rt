@@ -9,7 +9,7 @@ ghost use Rattle.mv_why.specs.Causes.{hit_in, hit};
 ghost use Rattle.mv_why.specs.Walking.{undo_of};
 
 use crate::cause::Reason;
-use mv_changes::hit::{any_hit, hit};
+use mv_changes::hit::hit;
 use mv_changes::recent::Committed;
 use mv_history::change::Change;
 use mv_log::record_ref::RecordRef;
@@ -82,8 +82,8 @@ fn hit_in(
 }
 
 /// Returns the first change of the first commit that hits the record with this number, as a reason. `undo` has the
-/// writes of the record's run. Costs for each commit and each predicate a search in the commit's changes, and a trial of
-/// the predicate on each of those of its table. Of the first commit that hits the record, each change may be tried.
+/// writes of the record's run. Tries each predicate of the record on each change of its table, up to the one that is
+/// found.
 pub(crate) fn hit_by(
     alloc: Global,
     record: &RecordRef<'_>,
@@ -94,9 +94,10 @@ pub(crate) fn hit_by(
     ensures { IfOk result (λ reason. (before : Seq Record) → earlier number undo.now ≡ writes_in before → reason ≡ hit since.now before record.now) }
 {
     for committed in since {
-        if any_hit(record, number, undo, &committed.changes) {
-            let changes = committed.changes.as_slice();
-            return hit_in(alloc, record, number, undo, committed.commit, changes);
+        let changes = committed.changes.as_slice();
+        let found = hit_in(alloc, record, number, undo, committed.commit, changes)?;
+        if found.is_some() {
+            return Ok(found);
         }
     }
     Ok(None)
