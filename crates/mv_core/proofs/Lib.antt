@@ -7,6 +7,7 @@ pub mod Numbered
 pub mod Lows
 pub mod Moving
 pub mod Recents
+pub mod Admitting
 pub mod Ending
 pub mod Driving
 pub mod Telling

@@ -1,5 +1,5 @@
 -- The tables of a history, and what a store keeps of them.
-use Rattle.std.proofs.Common.{◌≡◌, ◌⊎◌, inl, inr, ℕ, zero, suc, ◌+◌, ◌-◌, ◌<◌, ◌≤◌, Bool, true, false, not, List, [], ◌∷◌, ◌++◌, Option, Some, None, length, take, drop, is_some, refl, sym, ap, subst, ◌∙◌, arith, length-append, rules}
+use Rattle.std.proofs.Common.{◌≡◌, ◌⊎◌, inl, inr, ℕ, zero, suc, ◌+◌, ◌-◌, ◌<◌, ◌≤◌, Bool, true, false, not, List, [], ◌∷◌, ◌++◌, All, Option, Some, None, length, take, drop, is_some, refl, sym, ap, subst, ◌∙◌, arith, length-append, rules}
 use Rattle.std.specs.Prelude.{nat_lt, Err}
 use Rattle.std.proofs.lemmas.List.{take_all, length-drop}
 use Rattle.std.proofs.lemmas.Bool.{le-ltb, ltb-false, cases_eq}
@@ -20,6 +20,8 @@ use Rattle.mv_history.specs.Hits.{is_unhit}
 use Rattle.mv_history.proofs.Covering.{changes_cover}
 use Rattle.mv_history.proofs.Joining.{covers_join}
 use Rattle.mv_history.proofs.Judging.{all_of, no_hit_is_unhit}
+use Rattle.mv_changes.specs.Admitting.{AreAdmitted}
+use Rattle.mv_repair.proofs.Repairing.{all_of as ended_all}
 use Rattle.mv_alike.specs.Laws.{AreRuns}
 use Rattle.mv_alike.proofs.Unhit.{unhit_same}
 use Rattle.mv_lawful.specs.declared.fault.Fault.TheVariants.{Kind, Stale, Conflict}
@@ -41,6 +43,7 @@ use Rattle.mv_core.specs.Told.{reply_told, writes_told}
 use Rattle.mv_core.specs.Calls.{IsLive, IsLiveCall}
 use Rattle.mv_core.specs.Books.{Booked, work_in, last_tables, last_run, last_changes, start_run, Made, IsSame, commit_event, IsNotStale, AreRecordsOf}
 use Rattle.mv_core.specs.Cores.{RunsOn, CanRepair, IsDatabaseIn, IsStored, IsStoreOf, Shows, ShowsStart, ShowsLast}
+use Rattle.mv_core.proofs.Admitting.{flat_admitted}
 use Rattle.mv_core.proofs.Telling.{told_reply, told_tables}
 use Rattle.mv_core.proofs.Lows.{low_within}
 use Rattle.mv_core.proofs.Numbers.{table_stays}
@@ -131,10 +134,19 @@ can_repair s order c start task changes db k runs ended all new call g here = re
   old = table_at (work_of s) order start;
   on = runs call g here;
   ended = ended;
+  admitted =
+      subst (λ (cs : List (List Change)). All (AreAdmitted (all_of cs)) task.log.records) (sym all)
+      (subst (λ (rs : List Record). All (AreAdmitted (all_of (since (work_of s) order start))) rs) (sym whole) (flat_admitted s order c start start k));
   runs =
       subst (λ (cs : List (List Change)). AreRuns g.tables g.procedure call (table_at (work_of s) order start) db (all_of cs)) (sym all)
       (subst (λ x. AreRuns g.tables g.procedure call (table_at (work_of s) order start) x (all_of (since (work_of s) order start))) (sym new) (are_runs s order c start call g k here));
 }
+  where
+    old : Tables
+    old = table_at (work_of s) order start
+
+    whole : task.log.records ≡ records_at (work_of s) order start c
+    whole = ended_all g call old task (table_database k.0 s order start k.1).rising (runs call g here) ended ∙ sym (ap (λ (r : Run). r.records) (run_is s c call g old here))
 
 -- the changes up to the last commit are all changes since
 pub changes_to_last : (w : Work) (order : List ℕ) (start : ℕ) → changes_up_to w order start (length order) ≡ all_of (since w order start)

@@ -7,6 +7,7 @@ ghost use Rattle.mv_lawful.specs.Work.{since};
 ghost use Rattle.mv_lawful.specs.Lawful.{Live, Lawful, beginning, course_of, open_call, refusal, is_stale, has_round, oldest, floor, next_low, AllAllowed};
 ghost use Rattle.mv_lawful.specs.Places.{places};
 ghost use Rattle.mv_lawful.specs.Outcomes.{history_line, outcome_of, reply_in};
+ghost use Rattle.mv_script.specs.Scripts.{IsScript};
 ghost use Rattle.mv_view.specs.declared.view.Refused.TheVariants as refused;
 ghost use Rattle.mv_changes.specs.Commits.{changes_in, AreNumbered};
 ghost use Rattle.mv_undo.specs.Owning.{HasWritesOf};
@@ -446,8 +447,9 @@ impl Book {
 
     /// Validates a live call that isn't read only against the commits after its start. Its task must have executed all
     /// its statements at that start. Returns `Free` exactly if the law of journals allows its commit. It allocates no
-    /// memory. It tries each predicate of the records on each change of the predicate's table.
+    /// memory. It tries each predicate of the records on the key of each change of the predicate's table.
     pub fn check(&self, call: u32, task: &Task) -> Check
+        requires script { IsScript self.now.script }
         requires live { IsLiveCall self.now.course call }
         requires kind { IsNoReader self.now call }
         requires records { AreRecordsOf self.now call task.now.log.records }

@@ -1,4 +1,4 @@
-use Rattle.std.proofs.Common.{sym, subst, Some}
+use Rattle.std.proofs.Common.{sym, subst}
 use Rattle.mv_changes.specs.Commits.{changes_in}
 use Rattle.mv_repair.specs.Repairing.{changes_since}
 use Rattle.mv_script.specs.declared.script.Script.{Script}

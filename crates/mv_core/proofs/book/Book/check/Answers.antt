@@ -1,5 +1,6 @@
 use Rattle.std.proofs.Common.{arith, ◌≡◌, sym, ◌∙◌}
 use Rattle.mv_core.specs.Books.{work_in}
+use Rattle.mv_core.proofs.Admitting.{recent_admitted}
 use Rattle.mv_core.proofs.Recents.{recent_seen, recent_needed, low_seen, answers_free, answers_hit, answers_stale}
 use Rattle.mv_core.proofs.book.Book.check.Goals as goal
 
@@ -21,13 +22,21 @@ returns-in-Some c l live =
     let start = c.start-start.ensures.value l live in
     let low = low_seen c.self.inside c.args.self.now c.self.view_is in
     let not = c.if-start-self.false in
+    let kept = recent_seen c.self.inside c.args.self.now c.self.view_is c.self.invariant.recent in
+    let admitted =
+    recent_admitted c.args.self.now.script c.args.self.now.course c.args.call c.start-start.result l.start c.self.inside.recent c.records.result c.requires.script kept start
+    (recent_needed (work_in c.args.self.now) c.args.self.now.course c.args.call l c.self.inside.recent kept live (omega (arith, start, low, not))) (c.records.ensures ∙ c.requires.records l live) in
     answers_hit (work_in c.args.self.now) c.args.self.now.course c.args.call c.start-start.result l c.self.inside.recent c.records.result c.in-Some.hit c.requires.kind live
-    (recent_seen c.self.inside c.args.self.now c.self.view_is c.self.invariant.recent) start (omega (arith, start, low, not)) (c.records.ensures ∙ c.requires.records l live) (sym c.in-Some.ensures)
+    kept start (omega (arith, start, low, not)) (c.records.ensures ∙ c.requires.records l live) (sym (c.in-Some.ensures admitted))
 
 pub returns-in-None : goal.returns-in-None
 returns-in-None c l live =
     let start = c.start-start.ensures.value l live in
     let low = low_seen c.self.inside c.args.self.now c.self.view_is in
     let not = c.if-start-self.false in
+    let kept = recent_seen c.self.inside c.args.self.now c.self.view_is c.self.invariant.recent in
+    let admitted =
+    recent_admitted c.args.self.now.script c.args.self.now.course c.args.call c.start-start.result l.start c.self.inside.recent c.records.result c.requires.script kept start
+    (recent_needed (work_in c.args.self.now) c.args.self.now.course c.args.call l c.self.inside.recent kept live (omega (arith, start, low, not))) (c.records.ensures ∙ c.requires.records l live) in
     answers_free (work_in c.args.self.now) c.args.self.now.course c.args.call c.start-start.result l c.self.inside.recent c.records.result c.requires.kind live
-    (recent_seen c.self.inside c.args.self.now c.self.view_is c.self.invariant.recent) start (omega (arith, start, low, not)) (c.records.ensures ∙ c.requires.records l live) (sym c.in-None.ensures)
+    kept start (omega (arith, start, low, not)) (c.records.ensures ∙ c.requires.records l live) (sym (c.in-None.ensures admitted))
