@@ -16,6 +16,7 @@ ghost use Rattle.mv_core.specs.declared.book.Check.TheVariants.{Free as IsFree, 
 ghost use Rattle.mv_script.specs.Scripts.{IsScript, work_of};
 ghost use Rattle.mv_core.specs.Calls.{IsLive, IsLiveCall, due_number};
 ghost use Rattle.mv_core.specs.Books.{work_in, last_tables, last_run, last_changes, Made, IsSame, IsSettled, IsMissing, IsNotStale, IsAlone, IsReader, IsNoReader, AreRecordsOf, AreLastOf, IsAnswer, HasAnswered};
+ghost use Rattle.mv_core.specs.Told.{reply_told};
 ghost use Rattle.mv_core.specs.Cores.{RunsOn, IsDatabaseIn, IsTaskIn, IsRunningIn, HasRunOn, HasRunOne, IsLiveTask, IsRepaired, HasStep, ShowsStart, ShowsLast, count_or};
 
 use crate::book::{Book, Check};
@@ -298,8 +299,24 @@ pub fn move_task<V: View>(
     Ok(task)
 }
 
-/// Event R of a live read only call that has run whole at its start. Returns the start. Fails with `Stale` exactly if
-/// the start is below low, and with `NoMemory` if memory runs out. Then the call isn't answered.
+/// Event R of a live read only call that has run whole at its start, and tells this reply. Returns the start. Fails with
+/// `Stale` exactly if the start is below low, and with `NoMemory` if memory runs out. Then the call isn't answered.
+pub fn answer_told(book: &mut Book, call: u32, task: &Task, reply: Reply) -> Result<u32, Refused>
+    requires script { IsScript book.old.script }
+    requires live { IsLiveCall book.old.course call }
+    requires number { call < length book.old.script.calls }
+    requires kind { IsReader book.old call }
+    requires missing { IsMissing task.now.executed book.old call }
+    requires whole { AreRecordsOf book.old call task.now.log.records }
+    requires reply { reply ≡ reply_told task.now.log.records }
+    ensures { HasAnswered call result book.old book.new }
+{
+    book.reserve(call)?;
+    book.settle(call, task);
+    book.answer_read(call, reply)
+}
+
+/// The same, with the reply that the task tells. It copies that.
 pub fn answer_task(alloc: Global, book: &mut Book, call: u32, task: &Task) -> Result<u32, Refused>
     requires script { IsScript book.old.script }
     requires live { IsLiveCall book.old.course call }
@@ -310,9 +327,7 @@ pub fn answer_task(alloc: Global, book: &mut Book, call: u32, task: &Task) -> Re
     ensures { HasAnswered call result book.old book.new }
 {
     let reply = reply_of(alloc, &task.records())?;
-    book.reserve(call)?;
-    book.settle(call, task);
-    book.answer_read(call, reply)
+    answer_told(book, call, task, reply)
 }
 
 /// Returns the changes that a call with these records makes to the tables after all commits, which the view shows. Fails
