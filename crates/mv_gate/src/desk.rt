@@ -379,7 +379,6 @@ impl<N: Making> Desk<N> {
         call: u32,
         start: Start<N>,
         mut task: Task,
-        spare: &mut Spare,
     ) -> Result<Tried<N>, NoMemory>
         requires whole { IsWhole self.old call task }
         requires start { (l : Live) → IsLive self.old.course call l → l.start ≡ start.number }
@@ -396,14 +395,15 @@ impl<N: Making> Desk<N> {
                 answer: Answer::Repaired,
                 repair: Some(repair),
                 moved: None,
+                done: None,
             });
         }
         let commit = self.exclusive(alloc, beside, call, &mut task)?;
-        spare.keep(task);
         Ok(Tried {
             answer: Answer::Committed(commit),
             repair: None,
             moved: None,
+            done: Some(task),
         })
     }
 
@@ -431,6 +431,7 @@ impl<N: Making> Desk<N> {
                 answer: Answer::Moved,
                 repair: None,
                 moved: Some(moved),
+                done: None,
             });
         }
         if self.is_read_only(call) {
@@ -439,6 +440,7 @@ impl<N: Making> Desk<N> {
                 answer: Answer::Answered(start),
                 repair: None,
                 moved: None,
+                done: None,
             });
         }
         let commit = self.move_and_commit(alloc, beside, call, spare)?;
@@ -446,6 +448,7 @@ impl<N: Making> Desk<N> {
             answer: Answer::Committed(commit),
             repair: None,
             moved: None,
+            done: None,
         })
     }
 
@@ -477,16 +480,17 @@ impl<N: Making> Desk<N> {
     {
         let _events = self.book.journal();
         if self.book.is_stale(call) {
-            spare.keep(task);
             let mut seen = start.pass_for(beside.board);
-            return self.meet_late(alloc, beside, call, &mut seen, spare);
+            let mut tried = self.meet_late(alloc, beside, call, &mut seen, spare)?;
+            tried.done = Some(task);
+            return Ok(tried);
         }
         let number = self.answer(alloc, call, &task)?;
-        spare.keep(task);
         Ok(Tried {
             answer: Answer::Answered(number),
             repair: None,
             moved: None,
+            done: Some(task),
         })
     }
 
@@ -515,27 +519,29 @@ impl<N: Making> Desk<N> {
         match self.book.check(call, &task) {
             Check::Free => {
                 let commit = self.commit(alloc, beside, call, &task)?;
-                spare.keep(task);
                 Ok(Tried {
                     answer: Answer::Committed(commit),
                     repair: None,
                     moved: None,
+                    done: Some(task),
                 })
             }
-            Check::Hit { .. } => self.meet_hit(alloc, beside, call, start, task, spare),
+            Check::Hit { .. } => self.meet_hit(alloc, beside, call, start, task),
             Check::Stale { .. } => {
-                spare.keep(task);
                 let mut seen = start.pass_for(beside.board);
-                self.meet_late(alloc, beside, call, &mut seen, spare)
+                let mut tried = self.meet_late(alloc, beside, call, &mut seen, spare)?;
+                tried.done = Some(task);
+                Ok(tried)
             }
         }
     }
 
     /// Tries to commit a call that has run whole and that its holder gives up, by one event: C, A, X or M; or by M and C,
     /// if its start is below low and it has used its rounds. A read only call is answered by R, where others commit. A
-    /// call that is to be repaired, or that has moved, is given back with a start after all commits. Keeps the log of any
-    /// other call. Returns `Lost`, and does nothing, only if the history doesn't have the call as its holder knows it.
-    /// Fails with `NoMemory` if memory runs out. Then no event was made, and the call is left to `commit_all_left`.
+    /// call that is to be repaired, or that has moved, is given back with a start after all commits. Gives back the task of
+    /// a call that needs it no more, too. Returns `Lost`, and does nothing, only if the history doesn't have the call as
+    /// its holder knows it. Fails with `NoMemory` if memory runs out. Then no event was made, and the call is left to
+    /// `commit_all_left`.
     pub fn attempt<R: Wait>(
         &mut self,
         alloc: Global,
@@ -557,6 +563,7 @@ impl<N: Making> Desk<N> {
                 answer: Answer::Lost,
                 repair: None,
                 moved: None,
+                done: None,
             });
         }
         let Held {
@@ -604,6 +611,7 @@ impl<N: Making> Desk<N> {
                 answer: Answer::Lost,
                 repair: None,
                 moved: None,
+                done: None,
             });
         }
         let mut seen = start.pass_for(beside.board);

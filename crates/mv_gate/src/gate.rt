@@ -154,6 +154,7 @@ impl<N: Making> Gate<N> {
     }
 
     /// Repairs a call that was hit, or runs one that has moved, without the lock. Returns `None` if no call is given back.
+    /// Keeps the log of a call that needs it no more.
     fn run_again<R: Wait>(
         &self,
         rt: &R,
@@ -166,7 +167,11 @@ impl<N: Making> Gate<N> {
             answer: _,
             repair,
             moved,
+            done,
         } = tried;
+        if let Some(task) = done {
+            spare.keep(task);
+        }
         if let Some(repair) = repair {
             return Ok(Some(repair.run(alloc, &beside)?));
         }

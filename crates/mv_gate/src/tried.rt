@@ -2,12 +2,15 @@
 
 use crate::answers::Answer;
 use crate::held::{Begun, Repair};
+use mv_exec::task::Task;
 use mv_seats::board::Making;
 
-/// The answer of an attempt, and the call that it gives back.
+/// The answer of an attempt, and the call that it gives back. `done` is the task of a call that needs it no more. Its
+/// memory is freed after the hold.
 #[derive(Drop)]
 pub struct Tried<N: Making> {
     pub answer: Answer,
     pub repair: Option<Repair<N>>,
     pub moved: Option<Begun<N>>,
+    pub done: Option<Task>,
 }

@@ -44,5 +44,5 @@ commit-requires-clause-allowed g c =
     let live = (subst (λ (b : Booked). IsWhole b c.args.call c.args.task) (sym c.self.view_is) c.requires.whole).live in
     subst (λ (b : Booked). refusal (work_in b) b.course (C c.args.call) ≡ None) c.self.view_is (c.in-Free.ensures live.0 live.1)
 
-pub returns-in-Stale-clause-repair : goal.returns-in-Stale-clause-repair
-returns-in-Stale-clause-repair g c = c.meet_late.ensures.repair c.args.start.number
+pub returns-in_ok-tried-in-Stale-clause-repair : goal.returns-in_ok-tried-in-Stale-clause-repair
+returns-in_ok-tried-in-Stale-clause-repair g c = c.in_ok-tried-in-Stale.ensures.repair c.args.start.number
