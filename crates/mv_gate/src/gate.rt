@@ -27,10 +27,17 @@ use mv_shards::shards::Shards;
 use mv_shards::start::Start;
 use mv_values::memory::NoMemory;
 use std::alloc::Global;
+use std::hint::spin_loop;
 use std::marker::Brand;
-use std::sync::{Mutex, Wait};
+use std::sync::{Mutex, MutexGuard, Wait};
 use std::thread;
 use std::thread::Threads;
+
+/// How often a worker tries the lock before it sleeps.
+const TRIES: u32 = 200;
+
+/// How long it waits between two tries, in steps of the processor's own wait.
+const STEPS: u32 = 20;
 
 /// The number of commits from one collection of old versions to the next.
 const COLLECTION_INTERVAL: u32 = 64;
@@ -111,13 +118,24 @@ impl<N: Making> Gate<N> {
         ensures seen { IfOk result (λ start. IsPrefix pass.old.seen start.knows.seen) }
         ensures past { IfOk result (λ start. length pass.old.seen ≤ start.number) }
     {
-        let mut guarded = self.guarded.lock(rt);
+        let mut guarded = self.enter(rt);
         guarded.snapshot(alloc, &self.board, pass)
     }
 
     /// Returns what lies beside the lock.
     fn beside<'a, R: Wait>(&'a self, rt: &'a R) -> Beside<'a, N, R> {
         Beside::new(rt, self.script.get(), &self.shards, &self.board)
+    }
+
+    /// Takes the lock. It tries for a while before it sleeps, since most holds are shorter than it takes to wake a thread.
+    fn enter<'a, R: Wait>(&'a self, rt: &R) -> MutexGuard<'a, Guarded<N>> {
+        for _ in 0..TRIES {
+            if let Some(guarded) = self.guarded.try_lock() {
+                return guarded;
+            }
+            stay();
+        }
+        self.guarded.lock(rt)
     }
 
     /// Event B, as one hold. Returns `None` too once a worker has found no memory.
@@ -130,7 +148,7 @@ impl<N: Making> Gate<N> {
         requires { pass.old.role ≡ Plain }
         ensures { pass.new ≡ pass.old }
     {
-        let mut guarded = self.guarded.lock(rt);
+        let mut guarded = self.enter(rt);
         guarded.begin(alloc, &self.board, pass)
     }
 
@@ -143,7 +161,7 @@ impl<N: Making> Gate<N> {
         spare: &mut Spare,
     ) -> Result<Tried<N>, NoMemory> {
         let beside = self.beside(rt);
-        let mut guarded = self.guarded.lock(rt);
+        let mut guarded = self.enter(rt);
         match reached {
             Reached::Ready(ready) => {
                 let Ready { held } = ready;
@@ -183,7 +201,7 @@ impl<N: Making> Gate<N> {
 
     /// Event G, as one hold, if a horizon is given and no worker has found no memory. Returns the new low.
     fn raise_low<R: Wait>(&self, rt: &R) -> Option<u32> {
-        let mut guarded = self.guarded.lock(rt);
+        let mut guarded = self.enter(rt);
         match guarded.collect() {
             Ok(low) => low,
             Err(_) => None,
@@ -203,8 +221,15 @@ impl<N: Making> Gate<N> {
 
     /// Notes that a worker has found no memory, as one hold.
     fn give_up<R: Wait>(&self, rt: &R) {
-        let mut guarded = self.guarded.lock(rt);
+        let mut guarded = self.enter(rt);
         guarded.give_up();
+    }
+}
+
+/// Waits for a moment.
+fn stay() {
+    for _ in 0..STEPS {
+        spin_loop();
     }
 }
 
