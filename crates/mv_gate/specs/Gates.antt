@@ -2,6 +2,7 @@
 use Rattle.std.specs.Prelude.{◌≡◌, ◌⊎◌, ◌<◌, ◌≤◌, ◌+◌, ℕ, Bool, true, false, List, [], ◌∷◌, Option, Some, None, Result, Ok, Err, length, slice_get}
 use mathlib.Core.List.{IsPrefix}
 use Rattle.mv_values.specs.declared.memory.NoMemory.{NoMemory}
+use Rattle.mv_record.specs.declared.record.Record.{Record}
 use Rattle.mv_changes.specs.declared.recent.Committed.{Committed}
 use Rattle.mv_changes.specs.Commits.{changes_in}
 use Rattle.mv_journal.specs.declared.event.Event.TheVariants.{B, A, M, C, X, R, G}
@@ -21,6 +22,8 @@ use Rattle.mv_shards.specs.Ledgers.{Entered, AreLastChanges}
 use Rattle.mv_core.specs.Calls.{IsLive, IsLiveCall}
 use Rattle.mv_core.specs.Books.{Booked, work_in, Made, IsSame, IsSettled, IsMissing, AreRecordsOf}
 use Rattle.mv_core.specs.Cores.{RunsOn, HasTurns}
+use Rattle.mv_core.specs.Told.{reply_told, writes_told}
+use Rattle.mv_gate.specs.declared.told.Told.{Told}
 use Rattle.mv_gate.specs.declared.answers.Answer.{Answer}
 use Rattle.mv_gate.specs.declared.answers.Answer.TheVariants as answer
 
@@ -89,6 +92,10 @@ pub record IsHeld (s : BoardScript) (h : Holding) : Type 0 where
   pub past : h.start.number ≤ length h.start.knows.seen
   pub runs : RunsOn (script_in s) h.call (table_at (work s) h.start.knows.seen h.start.number) h.task
   pub executed : IsExecuted (work s) h.start.knows.seen h.call h.from h.start.number h.task
+
+-- the reply and the writes are those that records tell
+abbrev pub Tells : List Record → Told → Type 0
+Tells rs told = (told.reply ≡ reply_told rs) × (told.writes ≡ writes_told rs)
 
 -- what contracts see of a call that is to be repaired: its number, its new start, the old one, its task there, and the
 -- commits after that

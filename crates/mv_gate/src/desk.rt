@@ -11,23 +11,25 @@ ghost use Rattle.mv_shards.specs.Scripts.{script_in, work};
 ghost use Rattle.mv_shards.specs.Ledgers.{AreLastChanges};
 ghost use Rattle.mv_core.specs.Calls.{IsLive, IsLiveCall};
 ghost use Rattle.mv_core.specs.Books.{work_in, Made, IsSame, IsNotStale, IsReader, IsNoReader, HasAnswered};
+ghost use Rattle.mv_core.specs.Told.{reply_told, writes_told};
 ghost use Rattle.mv_core.specs.Cores.{HasCommitted, HasMovedAndCommitted};
 ghost use Rattle.mv_gate.specs.declared.answers.Answer.TheVariants as Answer;
 ghost use Rattle.mv_lawful.specs.declared.fault.Fault.TheVariants.{Conflict};
-ghost use Rattle.mv_gate.specs.Gates.{IsWhole, IsPastIn, MayMove, HasRound, IsSettledOrWhole, StartsAt, StartsLast, IsKnown, HandsOut, Tries, GivesRepair, GivesMoved, HasMovedAndAnswered, Collects, IsOutcome, IsDone, GoesOn};
+ghost use Rattle.mv_gate.specs.Gates.{IsWhole, IsPastIn, MayMove, HasRound, IsSettledOrWhole, StartsAt, StartsLast, IsKnown, Tells, HandsOut, Tries, GivesRepair, GivesMoved, HasMovedAndAnswered, Collects, IsOutcome, IsDone, GoesOn};
 
 use crate::answers::Answer;
 use crate::beside::Beside;
-use crate::held::{Begun, Held, Late, Repair};
-use crate::installing::install;
+use crate::held::{Begun, Held, Late, Ready, Repair};
+use crate::installing::{install, install_task};
 use crate::latest::{last_tables, repair_last, run_last};
 use crate::rounds::{has_number, repaired_from};
+use crate::told::Told;
 use crate::tried::Tried;
 use mv_core::book::{Book, Check};
 use mv_core::running::{is_read_only, run_all};
 use mv_core::shared::SharedScript;
 use mv_core::spare::Spare;
-use mv_core::tasks::{answer_task, new_task};
+use mv_core::tasks::{answer_told, new_task};
 use mv_core::told::reply_of;
 use mv_exec::task::Task;
 use mv_journal::outcome::{Mark, Outcome};
@@ -36,9 +38,11 @@ use mv_seats::pass::Pass;
 use mv_shards::ledger::Ledger;
 use mv_shards::start::Start;
 use mv_shards::view::ShardsView;
+use mv_values::calls::Reply;
 use mv_values::copied::Copied;
 use mv_values::list::List;
 use mv_values::memory::NoMemory;
+use mv_values::patch::Write;
 use mv_view::view::Refused;
 use std::alloc::Global;
 use std::marker::Model;
@@ -197,19 +201,40 @@ impl<N: Making> Desk<N> {
         beside: &Beside<'_, N, R>,
         call: u32,
         task: &Task,
+        reply: Reply,
+        writes: &List<Write>,
     ) -> Result<u32, NoMemory>
         requires whole { IsWhole self.old call task.now }
+        requires reply { reply ≡ reply_told task.now.log.records }
+        requires writes { writes.now ≡ writes_told task.now.log.records }
         requires allowed { refusal (work_in self.old) self.old.course (C call) ≡ None }
         ensures { HasCommitted (C call) result self.old self.new }
     {
         let _events = self.book.journal();
         self.book.settle(call, task);
         self.book.reserve(call)?;
-        let installed = install(alloc, beside, &mut self.ledger, call, task)?;
+        let installed = install(alloc, beside, &mut self.ledger, call, task, reply, writes)?;
         let changes = Some(installed.changes);
         let commit = self.book.commit(call, installed.reply, changes, None);
         self.starts[call as usize] = None;
         Ok(commit)
+    }
+
+    /// Event C of a call whose task has run whole. It copies what the task tells.
+    fn commit_unheld<R: Wait>(
+        &mut self,
+        alloc: Global,
+        beside: &Beside<'_, N, R>,
+        call: u32,
+        task: &Task,
+    ) -> Result<u32, NoMemory>
+        requires whole { IsWhole self.old call task.now }
+        requires allowed { refusal (work_in self.old) self.old.course (C call) ≡ None }
+        ensures { HasCommitted (C call) result self.old self.new }
+    {
+        let told = Told::new(alloc, task)?;
+        let Told { reply, writes } = told;
+        self.commit(alloc, beside, call, task, reply, &writes)
     }
 
     /// Event X of a call whose task has run whole.
@@ -229,7 +254,7 @@ impl<N: Making> Desk<N> {
         self.book.settle(call, task);
         self.book.reserve(call)?;
         repair_last(alloc, beside, &self.book, &mut self.ledger, call, task)?;
-        let installed = install(alloc, beside, &mut self.ledger, call, task)?;
+        let installed = install_task(alloc, beside, &mut self.ledger, call, task)?;
         let changes = Some(installed.changes);
         let commit = self
             .book
@@ -238,17 +263,18 @@ impl<N: Making> Desk<N> {
         Ok(commit)
     }
 
-    /// Event R of a read only call whose task has run whole. Returns its start. Fails with `NoMemory` if memory runs out.
-    /// Then the call isn't answered.
-    fn answer(&mut self, alloc: Global, call: u32, task: &Task) -> Result<u32, NoMemory>
+    /// Event R of a read only call whose task has run whole, and tells this reply. Returns its start. Fails with `NoMemory`
+    /// if memory runs out. Then the call isn't answered.
+    fn answer(&mut self, call: u32, task: &Task, reply: Reply) -> Result<u32, NoMemory>
         requires whole { IsWhole self.old call task.now }
+        requires reply { reply ≡ reply_told task.now.log.records }
         requires kind { IsReader self.old call }
         requires fresh { IsNotStale self.old call }
         ensures ok { IfOk result (λ start. HasAnswered call (Ok start) self.old self.new) }
         ensures err { OnErr result (IsSame self.old self.new) }
     {
         let _events = self.book.journal();
-        match answer_task(alloc, &mut self.book, call, task) {
+        match answer_told(&mut self.book, call, task, reply) {
             Ok(start) => {
                 self.starts[call as usize] = None;
                 Ok(start)
@@ -301,7 +327,7 @@ impl<N: Making> Desk<N> {
         let _events = self.book.journal();
         let task = run_last(alloc, beside, &mut self.ledger, call, spare)?;
         self.book.reserve(call)?;
-        let installed = install(alloc, beside, &mut self.ledger, call, &task)?;
+        let installed = install_task(alloc, beside, &mut self.ledger, call, &task)?;
         self.book.restart(call, Mark::Moved);
         self.book.settle(call, &task);
         let changes = Some(installed.changes);
@@ -396,6 +422,7 @@ impl<N: Making> Desk<N> {
                 repair: Some(repair),
                 moved: None,
                 done: None,
+                writes: None,
             });
         }
         let commit = self.exclusive(alloc, beside, call, &mut task)?;
@@ -404,6 +431,7 @@ impl<N: Making> Desk<N> {
             repair: None,
             moved: None,
             done: Some(task),
+            writes: None,
         })
     }
 
@@ -432,6 +460,7 @@ impl<N: Making> Desk<N> {
                 repair: None,
                 moved: Some(moved),
                 done: None,
+                writes: None,
             });
         }
         if self.is_read_only(call) {
@@ -441,6 +470,7 @@ impl<N: Making> Desk<N> {
                 repair: None,
                 moved: None,
                 done: None,
+                writes: None,
             });
         }
         let commit = self.move_and_commit(alloc, beside, call, spare)?;
@@ -449,6 +479,7 @@ impl<N: Making> Desk<N> {
             repair: None,
             moved: None,
             done: None,
+            writes: None,
         })
     }
 
@@ -468,9 +499,11 @@ impl<N: Making> Desk<N> {
         call: u32,
         mut start: Start<N>,
         task: Task,
+        told: Told,
         spare: &mut Spare,
     ) -> Result<Tried<N>, NoMemory>
         requires whole { IsWhole self.old call task }
+        requires tells { Tells task.log.records told }
         requires kind { IsReader self.old call }
         ensures ok { IfOk result (λ tried. Tries call tried.answer self.old self.new) }
         ensures err { OnErr result (IsSame self.old self.new) }
@@ -483,14 +516,17 @@ impl<N: Making> Desk<N> {
             let mut seen = start.pass_for(beside.board);
             let mut tried = self.meet_late(alloc, beside, call, &mut seen, spare)?;
             tried.done = Some(task);
+            tried.writes = Some(told.writes);
             return Ok(tried);
         }
-        let number = self.answer(alloc, call, &task)?;
+        let Told { reply, writes } = told;
+        let number = self.answer(call, &task, reply)?;
         Ok(Tried {
             answer: Answer::Answered(number),
             repair: None,
             moved: None,
             done: Some(task),
+            writes: Some(writes),
         })
     }
 
@@ -502,9 +538,11 @@ impl<N: Making> Desk<N> {
         call: u32,
         mut start: Start<N>,
         task: Task,
+        told: Told,
         spare: &mut Spare,
     ) -> Result<Tried<N>, NoMemory>
         requires whole { IsWhole self.old call task }
+        requires tells { Tells task.log.records told }
         requires start { (l : Live) → IsLive self.old.course call l → l.start ≡ start.number }
         ensures ok { IfOk result (λ tried. Tries call tried.answer self.old self.new) }
         ensures err { OnErr result (IsSame self.old self.new) }
@@ -513,24 +551,31 @@ impl<N: Making> Desk<N> {
         ensures moved { IfOk result (λ tried. GivesMoved call tried.answer tried.moved self.new) }
     {
         if self.is_read_only(call) {
-            return self.decide_read(alloc, beside, call, start, task, spare);
+            return self.decide_read(alloc, beside, call, start, task, told, spare);
         }
         let _events = self.book.journal();
         match self.book.check(call, &task) {
             Check::Free => {
-                let commit = self.commit(alloc, beside, call, &task)?;
+                let Told { reply, writes } = told;
+                let commit = self.commit(alloc, beside, call, &task, reply, &writes)?;
                 Ok(Tried {
                     answer: Answer::Committed(commit),
                     repair: None,
                     moved: None,
                     done: Some(task),
+                    writes: Some(writes),
                 })
             }
-            Check::Hit { .. } => self.meet_hit(alloc, beside, call, start, task),
+            Check::Hit { .. } => {
+                let mut tried = self.meet_hit(alloc, beside, call, start, task)?;
+                tried.writes = Some(told.writes);
+                Ok(tried)
+            }
             Check::Stale { .. } => {
                 let mut seen = start.pass_for(beside.board);
                 let mut tried = self.meet_late(alloc, beside, call, &mut seen, spare)?;
                 tried.done = Some(task);
+                tried.writes = Some(told.writes);
                 Ok(tried)
             }
         }
@@ -546,16 +591,16 @@ impl<N: Making> Desk<N> {
         &mut self,
         alloc: Global,
         beside: &Beside<'_, N, R>,
-        mut held: Held<N>,
+        ready: Ready<N>,
         spare: &mut Spare,
     ) -> Result<Tried<N>, NoMemory>
-        requires { held.task.ended ≡ true }
-        ensures ok { IfOk result (λ tried. Tries held.call tried.answer self.old self.new) }
+        ensures ok { IfOk result (λ tried. Tries ready.held.call tried.answer self.old self.new) }
         ensures err { OnErr result (IsSame self.old self.new) }
-        ensures lost { IfOk result (λ tried. tried.answer ≡ Answer.Lost → IsKnown self.old held → ⊥) }
-        ensures repair { IfOk result (λ tried. GivesRepair held.call held.start.number tried.answer tried.repair self.new) }
-        ensures moved { IfOk result (λ tried. GivesMoved held.call tried.answer tried.moved self.new) }
+        ensures lost { IfOk result (λ tried. tried.answer ≡ Answer.Lost → IsKnown self.old ready.held → ⊥) }
+        ensures repair { IfOk result (λ tried. GivesRepair ready.held.call ready.held.start.number tried.answer tried.repair self.new) }
+        ensures moved { IfOk result (λ tried. GivesMoved ready.held.call tried.answer tried.moved self.new) }
     {
+        let Ready { mut held, told } = ready;
         let seen = held.pass_for(beside.board);
         self.learn(beside.board, seen);
         if !self.has(&held) {
@@ -564,6 +609,7 @@ impl<N: Making> Desk<N> {
                 repair: None,
                 moved: None,
                 done: None,
+                writes: None,
             });
         }
         let Held {
@@ -572,7 +618,7 @@ impl<N: Making> Desk<N> {
             task,
             ..
         } = held;
-        self.decide(alloc, beside, call, start, task, spare)
+        self.decide(alloc, beside, call, start, task, told, spare)
     }
 
     /// Learns that what a plain pass has seen begins the history.
@@ -612,6 +658,7 @@ impl<N: Making> Desk<N> {
                 repair: None,
                 moved: None,
                 done: None,
+                writes: None,
             });
         }
         let mut seen = start.pass_for(beside.board);
@@ -717,7 +764,7 @@ impl<N: Making> Desk<N> {
         }
         match self.book.check(call, &task) {
             Check::Free => {
-                self.commit(alloc, beside, call, &task)?;
+                self.commit_unheld(alloc, beside, call, &task)?;
                 spare.keep(task);
                 Ok(())
             }
@@ -740,7 +787,8 @@ impl<N: Making> Desk<N> {
         ensures done { OnOk result (IsDone self.new.course call) }
         ensures kept { GoesOn self.old self.new }
     {
-        self.answer(alloc, call, &task)?;
+        let reply = reply_of(alloc, &task.records())?;
+        self.answer(call, &task, reply)?;
         spare.keep(task);
         Ok(())
     }
@@ -761,7 +809,7 @@ impl<N: Making> Desk<N> {
     {
         if self.book.has_round(call) {
             self.rerun(alloc, beside, call, &mut task)?;
-            self.commit(alloc, beside, call, &task)?;
+            self.commit_unheld(alloc, beside, call, &task)?;
             spare.keep(task);
             return Ok(());
         }

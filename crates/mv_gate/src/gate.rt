@@ -163,10 +163,7 @@ impl<N: Making> Gate<N> {
         let beside = self.beside(rt);
         let mut guarded = self.enter(rt);
         match reached {
-            Reached::Ready(ready) => {
-                let Ready { held } = ready;
-                guarded.attempt(alloc, &beside, held, spare)
-            }
+            Reached::Ready(ready) => guarded.attempt(alloc, &beside, ready, spare),
             Reached::Late(late) => guarded.move_late(alloc, &beside, late, spare),
         }
     }
@@ -186,6 +183,7 @@ impl<N: Making> Gate<N> {
             repair,
             moved,
             done,
+            writes: _,
         } = tried;
         if let Some(task) = done {
             spare.keep(task);
@@ -257,7 +255,7 @@ fn run_statements<N: Making, R: Threads + Wait + Sync, P: Pace>(
     let beside = gate.beside(rt);
     for _ in rt.forever() {
         if held.ended() {
-            return Ok(Reached::Ready(Ready::of(held)));
+            return Ok(Reached::Ready(Ready::new(alloc, held)?));
         }
         if !held.step(alloc, &beside)? {
             return Ok(Reached::Late(held.into_late()));

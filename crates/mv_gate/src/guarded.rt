@@ -9,7 +9,7 @@ ghost use Rattle.mv_gate.specs.Gates.{StartsAt, StartsLast, IsKnown, HandsOut, T
 
 use crate::beside::Beside;
 use crate::desk::Desk;
-use crate::held::{Begun, Held, Late};
+use crate::held::{Begun, Late, Ready};
 use crate::tried::Tried;
 use mv_core::spare::Spare;
 use mv_seats::board::{Board, Making};
@@ -64,18 +64,17 @@ impl<N: Making> Guarded<N> {
         &mut self,
         alloc: Global,
         beside: &Beside<'_, N, R>,
-        held: Held<N>,
+        ready: Ready<N>,
         spare: &mut Spare,
     ) -> Result<Tried<N>, NoMemory>
-        requires { held.task.ended ≡ true }
-        ensures ok { IfOk result (λ tried. Tries held.call tried.answer self.old.desk self.new.desk) }
+        ensures ok { IfOk result (λ tried. Tries ready.held.call tried.answer self.old.desk self.new.desk) }
         ensures err { OnErr result (IsSame self.old.desk self.new.desk) }
-        ensures lost { IfOk result (λ tried. tried.answer ≡ Answer.Lost → IsKnown self.old.desk held → ⊥) }
-        ensures repair { IfOk result (λ tried. GivesRepair held.call held.start.number tried.answer tried.repair self.new.desk) }
-        ensures moved { IfOk result (λ tried. GivesMoved held.call tried.answer tried.moved self.new.desk) }
+        ensures lost { IfOk result (λ tried. tried.answer ≡ Answer.Lost → IsKnown self.old.desk ready.held → ⊥) }
+        ensures repair { IfOk result (λ tried. GivesRepair ready.held.call ready.held.start.number tried.answer tried.repair self.new.desk) }
+        ensures moved { IfOk result (λ tried. GivesMoved ready.held.call tried.answer tried.moved self.new.desk) }
         ensures mark { self.new.wants_memory ≡ marked result self.old.wants_memory }
     {
-        let tried = self.desk.attempt(alloc, beside, held, spare);
+        let tried = self.desk.attempt(alloc, beside, ready, spare);
         self.wants_memory = self.wants_memory || tried.is_err();
         tried
     }

@@ -6,8 +6,10 @@ ghost use Rattle.mv_seats.specs.Knowing.{Plain};
 ghost use Rattle.mv_lawful.specs.Rounds.{IsPast};
 ghost use Rattle.mv_exec.specs.Running.{IsUnchanged};
 ghost use Rattle.mv_core.specs.Cores.{HasRunOne};
+ghost use Rattle.mv_gate.specs.Gates.{Tells};
 
 use crate::beside::Beside;
+use crate::told::Told;
 use mv_changes::recent::Committed;
 use mv_core::running::{repair_over, run_all, run_next};
 use mv_core::spare::Spare;
@@ -106,11 +108,13 @@ impl<N: Making> Model for Repair<N> {
     ghost invariant = { λ r. IsRepairing N.script (record { call = r.call; start = r.start; from = r.from; task = r.task; since = r.since }) };
 }
 
-/// A call that has run whole at its start.
+/// A call that has run whole at its start, and what it tells.
 #[derive(Drop)]
 pub struct Ready<N: Making> {
     pub(crate) held: Held<N>,
+    pub(crate) told: Told,
     ghost ended: { held.task.ended ≡ true },
+    ghost tells: { Tells held.task.log.records told },
 }
 
 /// How far a call has come outside of the lock.
@@ -153,12 +157,13 @@ impl<N: Making> Begun<N> {
         match run_all(alloc, beside.script, call, &mut task, &mut view) {
             Ok(()) => {
                 let _number = start.number();
-                Ok(Reached::Ready(Ready::of(Held {
+                let held = Held {
                     call,
                     start,
                     from: None,
                     task,
-                })))
+                };
+                Ok(Reached::Ready(Ready::new(alloc, held)?))
             }
             Err(why) => {
                 start.refused(beside.board, view, why)?;
@@ -169,12 +174,13 @@ impl<N: Making> Begun<N> {
 }
 
 impl<N: Making> Ready<N> {
-    /// Returns a call that has run whole.
-    pub(crate) fn of(held: Held<N>) -> Ready<N>
+    /// Returns a call that has run whole, with copies of what it tells. Fails with `NoMemory` if memory runs out.
+    pub(crate) fn new(alloc: Global, held: Held<N>) -> Result<Ready<N>, NoMemory>
         requires { held.task.ended ≡ true }
-        ensures { result.held ≡ held }
+        ensures { IfOk result (λ ready. ready.held ≡ held) }
     {
-        Ready { held }
+        let told = Told::new(alloc, &held.task)?;
+        Ok(Ready { held, told })
     }
 }
 
@@ -283,12 +289,15 @@ impl<N: Making> Repair<N> {
         let mut view = ShardsView::new(beside.rt, beside.shards, beside.board, &mut start);
         let commits = since.as_slice();
         match repair_over(alloc, beside.script, call, &mut task, commits, &mut view) {
-            Ok(_) => Ok(Reached::Ready(Ready::of(Held {
-                call,
-                start,
-                from: Some(from),
-                task,
-            }))),
+            Ok(_) => {
+                let held = Held {
+                    call,
+                    start,
+                    from: Some(from),
+                    task,
+                };
+                Ok(Reached::Ready(Ready::new(alloc, held)?))
+            }
             Err(why) => {
                 start.refused(beside.board, view, why)?;
                 Ok(Reached::Late(Late { call, start }))

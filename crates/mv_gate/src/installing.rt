@@ -3,7 +3,6 @@
 ghost use Rattle.std.specs.Prelude.{◌≡◌, ◌<◌, ◌+◌, ◌++◌, ◌∷◌, [], false, length, IfOk, OnOk, OnErr};
 ghost use Rattle.std.specs.List.{list_any};
 ghost use lib.Dec.{eqb};
-ghost use Rattle.mv_record.specs.Runs.{writes_in};
 ghost use Rattle.mv_history.specs.Changes.{changes_between};
 ghost use Rattle.mv_lawful.specs.Work.{records_at};
 ghost use Rattle.mv_shards.specs.Scripts.{work};
@@ -12,12 +11,10 @@ ghost use Rattle.mv_core.specs.Told.{reply_told, writes_told};
 
 use crate::beside::Beside;
 use crate::latest::last_error;
+use crate::told::{Told, counted};
 use mv_changes::changes::Changes;
 use mv_changes::commit::changes_of_commit;
-use mv_core::copies::append_copies;
-use mv_core::told::reply_of;
 use mv_exec::task::Task;
-use mv_log::records::Records;
 use mv_seats::board::Making;
 use mv_shards::ledger::Ledger;
 use mv_values::calls::Reply;
@@ -36,31 +33,56 @@ pub(crate) struct Installed {
     pub(crate) changes: Changes,
 }
 
-/// Returns the records whose writes count: all, or none if one of them ends the call.
-fn counted<'a>(records: &Records<'a>, reply: &Reply) -> Records<'a>
-    requires { reply.now ≡ reply_told records.now }
-    ensures { writes_in result ≡ writes_told records.now }
-{
-    match reply.end {
-        Some(_) => records.first(0),
-        None => records.first(records.len()),
-    }
-}
-
-/// Copies the writes of records, one record after another.
-fn copy_writes(alloc: Global, records: &Records<'_>) -> Result<List<Write>, NoMemory>
-    ensures { IfOk result (λ writes. writes ≡ writes_in records.now) }
-{
-    let mut writes = List::new(alloc);
-    for number in 0..records.len() {
-        append_copies(alloc, &mut writes, records.get(number).writes())?;
-    }
-    Ok(writes)
-}
-
-/// Appends a call as the next commit, and puts its writes into the shards. Its task must have run whole after all commits.
-/// If memory runs out, the call hasn't committed.
+/// Appends a call as the next commit, and puts the writes that it tells into the shards. Its task must have run whole after
+/// all commits. If memory runs out, the call hasn't committed.
 pub(crate) fn install<N: Making, R: Wait>(
+    alloc: Global,
+    beside: &Beside<'_, N, R>,
+    ledger: &mut Ledger<N>,
+    call: u32,
+    task: &Task,
+    reply: Reply,
+    writes: &List<Write>,
+) -> Result<Installed, NoMemory>
+    requires there { call < length N.script.calls }
+    requires fresh { list_any (eqb call) ledger.old.knows.seen ≡ false }
+    requires whole { task.now.log.records ≡ records_at (work N.script) ledger.old.knows.seen ledger.old.commits call }
+    requires reply { reply ≡ reply_told task.now.log.records }
+    requires writes { writes.now ≡ writes_told task.now.log.records }
+    ensures commit { IfOk result (λ installed. installed.commit ≡ ledger.old.commits + 1) }
+    ensures reply { IfOk result (λ installed. installed.reply ≡ ((work N.script).run call (tables_at N.script ledger.old.knows.seen ledger.old.commits)).reply) }
+    ensures changes { IfOk result (λ installed. installed.changes ≡ changes_between (tables_at N.script ledger.old.knows.seen ledger.old.commits) ((work N.script).run call (tables_at N.script ledger.old.knows.seen ledger.old.commits)).tables) }
+    ensures counted { OnOk result (ledger.new.commits ≡ ledger.old.commits + 1) }
+    ensures appended { OnOk result (ledger.new.knows.seen ≡ ledger.old.knows.seen ++ call ∷ []) }
+    ensures stays { OnErr result (ledger.new.commits ≡ ledger.old.commits) }
+    ensures err { OnErr result (ledger.new.knows.seen ≡ ledger.old.knows.seen) }
+{
+    let _commits = ledger.commits();
+    let records = counted(&task.records(), &reply);
+    let tables = beside.script.opening.len();
+    let mut view = ledger.view(beside.rt, beside.shards, beside.board);
+    let changes = match changes_of_commit(alloc, tables, &records, &mut view) {
+        Ok(changes) => changes,
+        Err(why) => return Err(last_error(ledger, beside.board, view, why)),
+    };
+    let commit = ledger.commit(
+        beside.rt,
+        alloc,
+        beside.board,
+        beside.shards,
+        call,
+        writes,
+        changes.as_slice(),
+    )?;
+    Ok(Installed {
+        commit,
+        reply,
+        changes,
+    })
+}
+
+/// The same, with what the task tells. It copies that.
+pub(crate) fn install_task<N: Making, R: Wait>(
     alloc: Global,
     beside: &Beside<'_, N, R>,
     ledger: &mut Ledger<N>,
@@ -78,29 +100,7 @@ pub(crate) fn install<N: Making, R: Wait>(
     ensures stays { OnErr result (ledger.new.commits ≡ ledger.old.commits) }
     ensures err { OnErr result (ledger.new.knows.seen ≡ ledger.old.knows.seen) }
 {
-    let _commits = ledger.commits();
-    let all = task.records();
-    let reply = reply_of(alloc, &all)?;
-    let records = counted(&all, &reply);
-    let writes = copy_writes(alloc, &records)?;
-    let tables = beside.script.opening.len();
-    let mut view = ledger.view(beside.rt, beside.shards, beside.board);
-    let changes = match changes_of_commit(alloc, tables, &records, &mut view) {
-        Ok(changes) => changes,
-        Err(why) => return Err(last_error(ledger, beside.board, view, why)),
-    };
-    let commit = ledger.commit(
-        beside.rt,
-        alloc,
-        beside.board,
-        beside.shards,
-        call,
-        &writes,
-        changes.as_slice(),
-    )?;
-    Ok(Installed {
-        commit,
-        reply,
-        changes,
-    })
+    let told = Told::new(alloc, task)?;
+    let Told { reply, writes } = told;
+    install(alloc, beside, ledger, call, task, reply, &writes)
 }

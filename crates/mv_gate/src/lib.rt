@@ -12,4 +12,5 @@ mod latest;
 mod notes;
 mod rounds;
 mod tables;
+pub mod told;
 pub mod tried;

@@ -9,12 +9,13 @@ use Rattle.mv_record.specs.Writes.{AreRising}
 use Rattle.mv_history.specs.Changes.{changes_between}
 use Rattle.mv_shards.specs.Scripts.{script_in}
 use Rattle.mv_shards.specs.Ledgers.{Entered}
+use Rattle.mv_core.specs.Told.{reply_told, writes_told}
 use Rattle.mv_gate.proofs.Seeing.{told_late, size_shown}
 use Rattle.mv_gate.proofs.Bringing.{told_all, brings_lead, brings_changes, brings_next}
 use Rattle.mv_gate.proofs.installing.install.Goals as goal
 
 pub counted-records-requires : goal.counted-records-requires
-counted-records-requires g c = c.in_ok-reply.ensures
+counted-records-requires g c = c.requires.reply ∙ ap reply_told (sym c.records.ensures)
 
 pub changes_of_commit-requires-clause-tables : goal.changes_of_commit-requires-clause-tables
 changes_of_commit-requires-clause-tables g c =
@@ -35,25 +36,25 @@ commit-requires-clause-fresh g c = subst (λ (l : Entered). list_any (eqb c.args
 
 pub commit-requires-clause-leads : goal.commit-requires-clause-leads
 commit-requires-clause-leads g c =
-    brings_lead g.N.Making.script c.args.ledger.now c.view-view.new.self c.args.call c.records-all.result c.in_ok-writes.writes c.view-view.ensures.same c.commits-commits.ensures.kept.script c.requires.there c.commits-commits.ensures.kept.seen
-    (c.records-all.ensures ∙ c.requires.whole) (c.in_ok-writes.ensures ∙ c.counted-records.ensures)
+    brings_lead g.N.Making.script c.args.ledger.now c.view-view.new.self c.args.call c.args.task.now.log.records c.args.writes.now c.view-view.ensures.same c.commits-commits.ensures.kept.script c.requires.there c.commits-commits.ensures.kept.seen
+    c.requires.whole c.requires.writes
 
 pub commit-requires-clause-changes : goal.commit-requires-clause-changes
 commit-requires-clause-changes g c =
     let s = g.N.Making.script in
     c.as_slice.ensures.items
     ∙ brings_next s c.args.ledger.now c.view-view.new.self c.args.call c.in-Ok.changes c.view-view.ensures.same c.commits-commits.ensures.kept.seen
-    (brings_changes s c.args.ledger.now c.args.call c.records-all.result c.in_ok-writes.writes c.view-view.result.sight.database c.in-Ok.changes c.commits-commits.ensures.kept.script c.requires.there (c.records-all.ensures ∙ c.requires.whole)
-    (c.in_ok-writes.ensures ∙ c.counted-records.ensures) (ap (λ (x : Sight). x.database) c.view-view.ensures.sight)
-    (c.in-Ok.ensures.changes ∙ ap (λ (ws : List Write). changes_between c.view-view.result.sight.database (applied ws c.view-view.result.sight.database)) (sym c.in_ok-writes.ensures)))
+    (brings_changes s c.args.ledger.now c.args.call c.args.task.now.log.records c.args.writes.now c.view-view.result.sight.database c.in-Ok.changes c.commits-commits.ensures.kept.script c.requires.there c.requires.whole
+    c.requires.writes (ap (λ (x : Sight). x.database) c.view-view.ensures.sight)
+    (c.in-Ok.ensures.changes ∙ ap (λ (ws : List Write). changes_between c.view-view.result.sight.database (applied ws c.view-view.result.sight.database)) (c.counted-records.ensures ∙ (ap writes_told c.records.ensures ∙ sym c.requires.writes))))
 
 pub returns-clause-reply : goal.returns-clause-reply
 returns-clause-reply g c =
-    c.in_ok-reply.ensures
-    ∙ (told_all g.N.Making.script c.args.ledger.now.knows.seen c.args.call c.args.ledger.now.commits c.records-all.result c.commits-commits.ensures.kept.script c.requires.there (c.records-all.ensures ∙ c.requires.whole)).0
+    c.requires.reply
+    ∙ (told_all g.N.Making.script c.args.ledger.now.knows.seen c.args.call c.args.ledger.now.commits c.args.task.now.log.records c.commits-commits.ensures.kept.script c.requires.there c.requires.whole).0
 
 pub returns-clause-changes : goal.returns-clause-changes
 returns-clause-changes g c =
-    brings_changes g.N.Making.script c.args.ledger.now c.args.call c.records-all.result c.in_ok-writes.writes c.view-view.result.sight.database c.in-Ok.changes c.commits-commits.ensures.kept.script c.requires.there
-    (c.records-all.ensures ∙ c.requires.whole) (c.in_ok-writes.ensures ∙ c.counted-records.ensures) (ap (λ (x : Sight). x.database) c.view-view.ensures.sight)
-    (c.in-Ok.ensures.changes ∙ ap (λ (ws : List Write). changes_between c.view-view.result.sight.database (applied ws c.view-view.result.sight.database)) (sym c.in_ok-writes.ensures))
+    brings_changes g.N.Making.script c.args.ledger.now c.args.call c.args.task.now.log.records c.args.writes.now c.view-view.result.sight.database c.in-Ok.changes c.commits-commits.ensures.kept.script c.requires.there
+    c.requires.whole c.requires.writes (ap (λ (x : Sight). x.database) c.view-view.ensures.sight)
+    (c.in-Ok.ensures.changes ∙ ap (λ (ws : List Write). changes_between c.view-view.result.sight.database (applied ws c.view-view.result.sight.database)) (c.counted-records.ensures ∙ (ap writes_told c.records.ensures ∙ sym c.requires.writes)))

@@ -1,5 +1,9 @@
+use Rattle.mv_core.proofs.Changed.{same_self}
 use Rattle.mv_gate.proofs.Ending.{keeps_same, keeps_answered, done_answered}
 use Rattle.mv_gate.proofs.desk.Desk.answer_left.Goals as goal
+
+pub returns-in_err-reply-clause-kept : goal.returns-in_err-reply-clause-kept
+returns-in_err-reply-clause-kept g c = keeps_same c.args.self.now c.args.self.now (same_self c.args.self.now)
 
 pub returns-in_err-answer-clause-kept : goal.returns-in_err-answer-clause-kept
 returns-in_err-answer-clause-kept g c = keeps_same c.args.self.now c.answer.new.self c.in_err-answer.ensures.err

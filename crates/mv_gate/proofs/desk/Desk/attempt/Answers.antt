@@ -1,7 +1,7 @@
 use Rattle.std.proofs.Common.{ap, sym, subst, ◌∙◌, rules}
 use Rattle.mv_core.specs.Books.{Booked, IsSame}
 use Rattle.mv_core.proofs.Changed.{same_self}
-use Rattle.mv_gate.specs.Gates.{Holding, IsWhole, IsKnown}
+use Rattle.mv_gate.specs.Gates.{Holding, IsWhole, IsKnown, Tells}
 use Rattle.mv_gate.proofs.Holding.{known_start}
 use Rattle.mv_gate.proofs.Leaving.{seen_before, lost_apart}
 use Rattle.mv_gate.proofs.desk.Desk.attempt.Goals as goal
@@ -15,12 +15,17 @@ returns-then-not-has-clause-ok g c = subst (λ (b : Booked). IsSame c.args.self.
 pub returns-then-not-has-clause-lost : goal.returns-then-not-has-clause-lost
 returns-then-not-has-clause-lost g c lost known =
     lost_apart (IsKnown c.learn.new.self c.pass_for-seen.new.self) _ (search rules) c.if-not-has.ensures.known
-    (subst (λ (h : Holding). IsKnown c.learn.new.self h) (sym c.pass_for-seen.ensures.same) (subst (λ (b : Booked). IsKnown b c.args.held) (sym c.learn.ensures.same) known))
+    (subst (λ (h : Holding). IsKnown c.learn.new.self h) (sym c.pass_for-seen.ensures.same) (subst (λ (b : Booked). IsKnown b c.args.ready.held) (sym c.learn.ensures.same) known))
 
 pub decide-requires-clause-whole : goal.decide-requires-clause-whole
 decide-requires-clause-whole g c =
     subst (λ (h : Holding). IsWhole c.learn.new.self h.call h.task) (sym c.held.view_is)
-    (c.if-not-has.ensures.whole (search rules) (ap (λ (h : Holding). h.task.ended) c.pass_for-seen.ensures.same ∙ c.requires))
+    (c.if-not-has.ensures.whole (search rules) (ap (λ (h : Holding). h.task.ended) c.pass_for-seen.ensures.same ∙ c.args.ready.ended))
 
 pub decide-requires-clause-start : goal.decide-requires-clause-start
 decide-requires-clause-start g c = known_start c.learn.new.self _ (subst (λ (h : Holding). IsKnown c.learn.new.self h) (sym c.held.view_is) (c.if-not-has.ensures.known.0 (search rules)))
+
+pub decide-requires-clause-tells : goal.decide-requires-clause-tells
+decide-requires-clause-tells g c =
+    subst (λ (h : Holding). Tells h.task.log.records c.args.ready.told) (sym c.held.view_is)
+    (subst (λ (h : Holding). Tells h.task.log.records c.args.ready.told) (sym c.pass_for-seen.ensures.same) c.args.ready.tells)

@@ -27,12 +27,12 @@ invariant_of-self g c =
     desk_same g.N.Making.script c.self.inside.book c.reserve.new.self c.self.inside.ledger c.self.inside.ledger c.self.inside.starts.items c.self.invariant
     (same_both c.self.inside.book c.settle.new.self c.reserve.new.self c.settle.ensures.same c.reserve.ensures.same) refl refl
 
-pub install-requires-clause-there : goal.install-requires-clause-there
-install-requires-clause-there g c =
+pub install_task-requires-clause-there : goal.install_task-requires-clause-there
+install_task-requires-clause-there g c =
     subst (λ (x : Script). c.args.call < length x.calls) c.self.invariant.script (subst (λ (b : Booked). IsWhole b c.args.call c.args.task.now) (sym c.self.view_is) c.requires.whole).there
 
-pub install-requires-clause-fresh : goal.install-requires-clause-fresh
-install-requires-clause-fresh g c =
+pub install_task-requires-clause-fresh : goal.install_task-requires-clause-fresh
+install_task-requires-clause-fresh g c =
     subst (λ (xs : List ℕ). list_any (eqb c.args.call) xs ≡ false) (sym (c.repair_last.ensures.kept ∙ c.self.invariant.seen))
     (fresh_call c.self.inside.book c.args.call c.journal-events.ensures.allowed c.journal-events.ensures.reaches (subst (λ (b : Booked). IsWhole b c.args.call c.args.task.now) (sym c.self.view_is) c.requires.whole).live)
 
@@ -57,8 +57,8 @@ invariant_of-self-in_err-repair_last g c =
     desk_same g.N.Making.script c.self.inside.book c.reserve.new.self c.self.inside.ledger c.repair_last.new.ledger c.self.inside.starts.items c.self.invariant
     (same_both c.self.inside.book c.settle.new.self c.reserve.new.self c.settle.ensures.same c.reserve.ensures.same) c.repair_last.ensures.kept c.repair_last.ensures.commits
 
-pub install-requires-clause-whole : goal.install-requires-clause-whole
-install-requires-clause-whole g c =
+pub install_task-requires-clause-whole : goal.install_task-requires-clause-whole
+install_task-requires-clause-whole g c =
     let s = g.N.Making.script in
     let same = same_both c.self.inside.book c.settle.new.self c.reserve.new.self c.settle.ensures.same c.reserve.ensures.same in
     records_here s c.reserve.new.self c.repair_last.new.ledger c.args.call c.repair_last.new.task.log.records (same.script ∙ c.self.invariant.script)
@@ -67,7 +67,7 @@ install-requires-clause-whole g c =
 
 pub invariant_of-self-in_err-installed : goal.invariant_of-self-in_err-installed
 invariant_of-self-in_err-installed g c =
-    desk_same g.N.Making.script c.self.inside.book c.reserve.new.self c.self.inside.ledger c.install.new.ledger c.self.inside.starts.items c.self.invariant
+    desk_same g.N.Making.script c.self.inside.book c.reserve.new.self c.self.inside.ledger c.install_task.new.ledger c.self.inside.starts.items c.self.invariant
     (same_both c.self.inside.book c.settle.new.self c.reserve.new.self c.settle.ensures.same c.reserve.ensures.same) (c.in_err-installed.ensures.err ∙ c.repair_last.ensures.kept) (c.in_err-installed.ensures.stays ∙ c.repair_last.ensures.commits)
 
 pub commit-commit-requires-clause-allowed : goal.commit-commit-requires-clause-allowed
@@ -113,7 +113,7 @@ index_mut-requires g c =
 
 pub invariant_of-self-2 : goal.invariant_of-self-2
 invariant_of-self-2 g c =
-    desk_decided c.args.call g.N.Making.script c.self.inside.book c.commit-commit.new.self c.self.inside.ledger c.install.new.ledger c.self.inside.starts.items c.self.invariant
+    desk_decided c.args.call g.N.Making.script c.self.inside.book c.commit-commit.new.self c.self.inside.ledger c.install_task.new.ledger c.self.inside.starts.items c.self.invariant
     (subst (λ (b : Booked). IsWhole b c.args.call c.args.task.now) (sym c.self.view_is) c.requires.whole).live
     (made_after (X c.args.call) c.self.inside.book c.reserve.new.self c.commit-commit.new.self (same_both c.self.inside.book c.settle.new.self c.reserve.new.self c.settle.ensures.same c.reserve.ensures.same) c.commit-commit.ensures.made)
     (c.in_ok-installed.ensures.appended ∙ ap (λ (xs : List ℕ). xs ++ c.args.call ∷ []) c.repair_last.ensures.kept) (c.in_ok-installed.ensures.counted ∙ ap (λ n. n + 1) c.repair_last.ensures.commits)

@@ -31,21 +31,21 @@ pub check-requires-clause-writes : goal.check-requires-clause-writes
 check-requires-clause-writes g c =
     whole_writes c.self.inside.book c.args.call c.args.task (subst IsScript (sym c.self.invariant.script) c.self.invariant.sound) (subst (λ (b : Booked). IsWhole b c.args.call c.args.task) (sym c.self.view_is) c.requires.whole)
 
-pub returns-in_err-commit-in-Free-clause-kept : goal.returns-in_err-commit-in-Free-clause-kept
-returns-in_err-commit-in-Free-clause-kept g c = keeps_commit c.commit.result c.args.call c.args.self.now c.commit.new.self c.commit.ensures c.requires.whole.live
+pub returns-in_err-commit_unheld-in-Free-clause-kept : goal.returns-in_err-commit_unheld-in-Free-clause-kept
+returns-in_err-commit_unheld-in-Free-clause-kept g c = keeps_commit c.commit_unheld.result c.args.call c.args.self.now c.commit_unheld.new.self c.commit_unheld.ensures c.requires.whole.live
 
-pub returns-in_ok-commit-in-Free-clause-done : goal.returns-in_ok-commit-in-Free-clause-done
-returns-in_ok-commit-in-Free-clause-done g c = done_committed c.args.call c.args.self.now c.commit.new.self c.in_ok-commit-in-Free.ensures.0 c.requires.whole.live
+pub returns-in_ok-commit_unheld-in-Free-clause-done : goal.returns-in_ok-commit_unheld-in-Free-clause-done
+returns-in_ok-commit_unheld-in-Free-clause-done g c = done_committed c.args.call c.args.self.now c.commit_unheld.new.self c.in_ok-commit_unheld-in-Free.ensures.0 c.requires.whole.live
 
-pub returns-in_ok-commit-in-Free-clause-kept : goal.returns-in_ok-commit-in-Free-clause-kept
-returns-in_ok-commit-in-Free-clause-kept g c = keeps_commit c.commit.result c.args.call c.args.self.now c.commit.new.self c.commit.ensures c.requires.whole.live
+pub returns-in_ok-commit_unheld-in-Free-clause-kept : goal.returns-in_ok-commit_unheld-in-Free-clause-kept
+returns-in_ok-commit_unheld-in-Free-clause-kept g c = keeps_commit c.commit_unheld.result c.args.call c.args.self.now c.commit_unheld.new.self c.commit_unheld.ensures c.requires.whole.live
 
 pub unreachable-requires : goal.unreachable-requires
 unreachable-requires g c =
     let live = (subst (λ (b : Booked). IsWhole b c.args.call c.args.task) (sym c.self.view_is) c.requires.whole).live in
     not_stale c.self.inside.book c.args.call (subst (λ (b : Booked). IsNotStale b c.args.call) (sym c.self.view_is) c.requires.fresh) live (c.in-Stale.ensures live.0 live.1).0
 
-pub commit-requires-clause-allowed : goal.commit-requires-clause-allowed
-commit-requires-clause-allowed g c =
+pub commit_unheld-requires-clause-allowed : goal.commit_unheld-requires-clause-allowed
+commit_unheld-requires-clause-allowed g c =
     let live = (subst (λ (b : Booked). IsWhole b c.args.call c.args.task) (sym c.self.view_is) c.requires.whole).live in
     subst (λ (b : Booked). refusal (work_in b) b.course (C c.args.call) ≡ None) c.self.view_is (c.in-Free.ensures live.0 live.1)

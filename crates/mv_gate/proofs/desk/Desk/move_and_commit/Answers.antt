@@ -29,20 +29,20 @@ pub invariant_of-self-in_err-reserve : goal.invariant_of-self-in_err-reserve
 invariant_of-self-in_err-reserve g c =
     desk_same g.N.Making.script c.self.inside.book c.reserve.new.self c.self.inside.ledger c.run_last.new.ledger c.self.inside.starts.items c.self.invariant c.reserve.ensures.same c.run_last.ensures.seen c.run_last.ensures.commits
 
-pub install-requires-clause-there : goal.install-requires-clause-there
-install-requires-clause-there g c = subst (λ (x : Script). c.args.call < length x.calls) c.self.invariant.script (subst (λ (b : Booked). MayMove b c.args.call) (sym c.self.view_is) c.requires.may).there
+pub install_task-requires-clause-there : goal.install_task-requires-clause-there
+install_task-requires-clause-there g c = subst (λ (x : Script). c.args.call < length x.calls) c.self.invariant.script (subst (λ (b : Booked). MayMove b c.args.call) (sym c.self.view_is) c.requires.may).there
 
-pub install-requires-clause-fresh : goal.install-requires-clause-fresh
-install-requires-clause-fresh g c =
+pub install_task-requires-clause-fresh : goal.install_task-requires-clause-fresh
+install_task-requires-clause-fresh g c =
     subst (λ (xs : List ℕ). list_any (eqb c.args.call) xs ≡ false) (sym (c.run_last.ensures.seen ∙ c.self.invariant.seen))
     (fresh_call c.self.inside.book c.args.call c.journal-events.ensures.allowed c.journal-events.ensures.reaches (subst (λ (b : Booked). MayMove b c.args.call) (sym c.self.view_is) c.requires.may).live)
 
-pub install-requires-clause-whole : goal.install-requires-clause-whole
-install-requires-clause-whole g c = last_kept g.N.Making.script c.self.inside.ledger c.run_last.new.ledger c.args.call c.in_ok-task.task.log.records c.in_ok-task.ensures.records c.run_last.ensures.seen c.run_last.ensures.commits
+pub install_task-requires-clause-whole : goal.install_task-requires-clause-whole
+install_task-requires-clause-whole g c = last_kept g.N.Making.script c.self.inside.ledger c.run_last.new.ledger c.args.call c.in_ok-task.task.log.records c.in_ok-task.ensures.records c.run_last.ensures.seen c.run_last.ensures.commits
 
 pub invariant_of-self-in_err-installed : goal.invariant_of-self-in_err-installed
 invariant_of-self-in_err-installed g c =
-    desk_same g.N.Making.script c.self.inside.book c.reserve.new.self c.self.inside.ledger c.install.new.ledger c.self.inside.starts.items c.self.invariant c.reserve.ensures.same
+    desk_same g.N.Making.script c.self.inside.book c.reserve.new.self c.self.inside.ledger c.install_task.new.ledger c.self.inside.starts.items c.self.invariant c.reserve.ensures.same
     (c.in_err-installed.ensures.err ∙ c.run_last.ensures.seen) (c.in_err-installed.ensures.stays ∙ c.run_last.ensures.commits)
 
 pub restart-requires-clause-allowed : goal.restart-requires-clause-allowed
@@ -97,7 +97,7 @@ index_mut-requires g c =
 
 pub invariant_of-self-2 : goal.invariant_of-self-2
 invariant_of-self-2 g c =
-    desk_gone c.args.call g.N.Making.script c.self.inside.book c.settle.new.self c.commit-commit.new.self c.self.inside.ledger c.install.new.ledger c.self.inside.starts.items c.self.invariant c.journal-events.ensures.allowed c.journal-events.ensures.reaches
+    desk_gone c.args.call g.N.Making.script c.self.inside.book c.settle.new.self c.commit-commit.new.self c.self.inside.ledger c.install_task.new.ledger c.self.inside.starts.items c.self.invariant c.journal-events.ensures.allowed c.journal-events.ensures.reaches
     (subst (λ (b : Booked). MayMove b c.args.call) (sym c.self.view_is) c.requires.may).live (subst (λ (b : Booked). MayMove b c.args.call) (sym c.self.view_is) c.requires.may).past
     (made_after (M c.args.call) c.self.inside.book c.reserve.new.self c.settle.new.self c.reserve.ensures.same (made_before (M c.args.call) c.reserve.new.self c.restart.new.self c.settle.new.self c.restart.ensures.made c.settle.ensures.same))
     c.commit-commit.ensures.made (c.in_ok-installed.ensures.appended ∙ ap (λ (xs : List ℕ). xs ++ c.args.call ∷ []) c.run_last.ensures.seen) (c.in_ok-installed.ensures.counted ∙ ap (λ n. n + 1) c.run_last.ensures.commits)

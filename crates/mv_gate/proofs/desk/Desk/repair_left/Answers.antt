@@ -30,17 +30,17 @@ exclusive-requires-clause-allowed g c =
 pub returns-in_err-rerun-clause-kept : goal.returns-in_err-rerun-clause-kept
 returns-in_err-rerun-clause-kept g c = keeps_same c.args.self.now c.rerun.new.self c.in_err-rerun.ensures.err
 
-pub returns-in_err-commit-clause-kept : goal.returns-in_err-commit-clause-kept
-returns-in_err-commit-clause-kept g c =
-    keeps_both c.args.self.now c.rerun.new.self c.commit.new.self (keeps_again c.args.call c.args.self.now c.rerun.new.self c.in_ok-rerun.ensures.ok c.requires.whole.live) (keeps_same c.rerun.new.self c.commit.new.self c.in_err-commit.ensures)
+pub returns-in_err-commit_unheld-clause-kept : goal.returns-in_err-commit_unheld-clause-kept
+returns-in_err-commit_unheld-clause-kept g c =
+    keeps_both c.args.self.now c.rerun.new.self c.commit_unheld.new.self (keeps_again c.args.call c.args.self.now c.rerun.new.self c.in_ok-rerun.ensures.ok c.requires.whole.live) (keeps_same c.rerun.new.self c.commit_unheld.new.self c.in_err-commit_unheld.ensures)
 
 pub returns-then-has_round-clause-done : goal.returns-then-has_round-clause-done
-returns-then-has_round-clause-done g c = done_committed c.args.call c.rerun.new.self c.commit.new.self c.in_ok-commit.ensures.0 c.in_ok-rerun.ensures.whole.live
+returns-then-has_round-clause-done g c = done_committed c.args.call c.rerun.new.self c.commit_unheld.new.self c.in_ok-commit_unheld.ensures.0 c.in_ok-rerun.ensures.whole.live
 
 pub returns-then-has_round-clause-kept : goal.returns-then-has_round-clause-kept
 returns-then-has_round-clause-kept g c =
-    keeps_both c.args.self.now c.rerun.new.self c.commit.new.self (keeps_again c.args.call c.args.self.now c.rerun.new.self c.in_ok-rerun.ensures.ok c.requires.whole.live)
-    (keeps_commit c.commit.result c.args.call c.rerun.new.self c.commit.new.self c.commit.ensures c.in_ok-rerun.ensures.whole.live)
+    keeps_both c.args.self.now c.rerun.new.self c.commit_unheld.new.self (keeps_again c.args.call c.args.self.now c.rerun.new.self c.in_ok-rerun.ensures.ok c.requires.whole.live)
+    (keeps_commit c.commit_unheld.result c.args.call c.rerun.new.self c.commit_unheld.new.self c.commit_unheld.ensures c.in_ok-rerun.ensures.whole.live)
 
 pub returns-clause-done : goal.returns-clause-done
 returns-clause-done g c = done_decided c.args.call c.args.self.now c.exclusive.new.self c.in_ok-exclusive.ensures.0 c.requires.whole.live

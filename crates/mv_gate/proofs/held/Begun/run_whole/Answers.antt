@@ -32,8 +32,8 @@ pub refused-requires : goal.refused-requires
 refused-requires g c = asked_late c.new-view.result.sight c.run_all.new.view.sight _ c.in-Err.why c.new-view.new.start.number c.in-Err.ensures.view refl
     (ap (λ (s : Sight). s.start) c.new-view.ensures.sight ∙ sym (ap (λ (x : Started). x.number) c.new-view.ensures.same))
 
-pub invariant_of-of : goal.invariant_of-of
-invariant_of-of g c =
+pub invariant_of-held : goal.invariant_of-held
+invariant_of-held g c =
     let s = g.N.Making.script in
     held_whole s c.self.inside.call c.new-view.new.start c.in_ok-task.task c.run_all.new.task c.self.invariant.there c.self.invariant.sound c.number-number.ensures.kept.past c.in_ok-task.ensures.records c.in_ok-task.ensures.executed c.run_all.ensures.counts
     (runs_here s c.args.beside.now.script.now c.self.inside.call c.new-view.result.sight.database (tables_at s c.new-view.new.start.knows.seen c.new-view.new.start.number) c.run_all.new.task c.args.beside.now.named

@@ -37,8 +37,8 @@ pub refused-requires : goal.refused-requires
 refused-requires g c = asked_late c.new-view.result.sight c.repair_over.new.view.sight _ c.in-Err.why c.new-view.new.start.number c.in-Err.ensures.view refl
     (ap (λ (s : Sight). s.start) c.new-view.ensures.sight ∙ sym (ap (λ (x : Started). x.number) c.new-view.ensures.same))
 
-pub invariant_of-of : goal.invariant_of-of
-invariant_of-of g c =
+pub invariant_of-held : goal.invariant_of-held
+invariant_of-held g c =
     let s = g.N.Making.script in
     subst (λ (x : Started). IsHeld s (record { call = c.self.inside.call; start = x; from = Some c.self.inside.from; task = c.repair_over.new.task })) (sym c.new-view.ensures.same)
     (held_repaired s (record { call = c.self.inside.call; start = c.self.inside.start; from = c.self.inside.from; task = c.self.inside.task; since = c.self.inside.since }) c.repair_over.new.task c.self.invariant
@@ -48,8 +48,8 @@ invariant_of-of g c =
     ∙ (ap (λ (x : Script). ((work_of x).run c.self.inside.call c.new-view.result.sight.database).records) c.args.beside.now.named ∙ ap (λ (v : Sight). ((work s).run c.self.inside.call v.database).records) c.new-view.ensures.sight))
     (c.in-Ok.ensures.executed ∙ ap (λ (cs : List Committed). executions c.self.inside.task.log.records c.repair_over.new.task.log.records (changes_since cs)) c.as_slice-commits.ensures)).0
 
-pub of-requires : goal.of-requires
-of-requires g c =
+pub new-requires : goal.new-requires
+new-requires g c =
     let s = g.N.Making.script in
     (held_repaired s (record { call = c.self.inside.call; start = c.self.inside.start; from = c.self.inside.from; task = c.self.inside.task; since = c.self.inside.since }) c.repair_over.new.task c.self.invariant
     (runs_here s c.args.beside.now.script.now c.self.inside.call c.new-view.result.sight.database (tables_at s c.self.inside.start.knows.seen c.self.inside.start.number) c.repair_over.new.task c.args.beside.now.named (ap (λ (v : Sight). v.database) c.new-view.ensures.sight)

@@ -4,7 +4,7 @@ use Rattle.mv_values.specs.declared.patch.Write.{Write}
 use Rattle.mv_record.specs.Runs.{writes_in}
 use Rattle.mv_changes.proofs.Trying.{item_got}
 use Rattle.mv_gate.proofs.Bringing.{writes_more}
-use Rattle.mv_gate.proofs.installing.copy_writes.Goals as goal
+use Rattle.mv_gate.proofs.told.copy_writes.Goals as goal
 
 pub loop-number-preserved : goal.loop-number-preserved
 loop-number-preserved c =

@@ -2,7 +2,7 @@ use Rattle.std.proofs.Common.{ap, ◌∙◌, take, length, arith}
 use Rattle.std.proofs.lemmas.List.{take_all}
 use Rattle.mv_record.specs.Runs.{writes_in}
 use Rattle.mv_gate.proofs.Bringing.{writes_none, writes_all}
-use Rattle.mv_gate.proofs.installing.counted.Goals as goal
+use Rattle.mv_gate.proofs.told.counted.Goals as goal
 
 pub returns-in-Some : goal.returns-in-Some
 returns-in-Some c = ap writes_in c.first.ensures ∙ writes_none c.args.records.now c.args.reply.now c.in-Some.field-0 c.requires c.in-Some.is
