@@ -16,13 +16,12 @@ ghost use Rattle.mv_exec.specs.Steps.{HasAddedRecord, HasFronts, IsWidened, chan
 ghost use Rattle.mv_exec.specs.Running.{stepped};
 ghost use Rattle.mv_exec.specs.Tasks.{places_of, IsTask, StandsAsBefore, IsTrimmed};
 
-use crate::changes::make_changes;
 use crate::keeping::{add_writes, set_definers, widen};
 use crate::moves::{inner_place, place_after};
 use crate::places::Place;
 use crate::position::Position;
 use crate::recording::{OpenStatement, Origin, add_record, ends_call};
-use crate::step::{Stepped, answer, changes_for};
+use crate::step::{Stepped, answer, change_variables};
 use crate::task::Task;
 use crate::trim::trim;
 use mv_graph::graph::{Graph, Step};
@@ -77,11 +76,10 @@ fn make_changes_of(
     ensures err { OnErr result (HasFronts number task.old task.new) }
 {
     let given = task.log.records().get(number as usize);
-    let changes = changes_for(alloc, step, &given)?;
     widen(&mut task.definers, room_for(given.sets()))?;
     add_writes(alloc, &mut task.undo, number, given.writes())?;
     push_place(&mut task.places, inner)?;
-    make_changes(&mut task.variables, changes)?;
+    change_variables(alloc, &mut task.variables, step, &given)?;
     set_definers(&mut task.definers, given.sets(), number);
     Ok(())
 }

@@ -82,6 +82,30 @@ pub(crate) fn changes_of(alloc: Global, slots: &[Slot]) -> Result<Vec<VariableCh
     Ok(changes)
 }
 
+/// Sets variables to the values of slots, in order. It makes no list for a single one. On `NoMemory` the variables are
+/// unchanged.
+#[tactic(auto, using(crate::proofs::Changing::slots_changes))]
+pub(crate) fn set_slots(
+    alloc: Global,
+    variables: &mut Variables,
+    slots: &[Slot],
+) -> Result<(), NoMemory>
+    ensures ok { OnOk result (variables.new ≡ (let was = variables.old in record was { env = with_slots slots.now was.env })) }
+    ensures err { OnErr result (variables.new ≡ variables.old) }
+{
+    match slots {
+        [] => Ok(()),
+        [slot] => {
+            let held = Content::Scalar(slot.value.copy(alloc)?);
+            variables.set(slot.slot, held)
+        }
+        _ => {
+            let changes = changes_of(alloc, slots)?;
+            make_changes(variables, changes)
+        }
+    }
+}
+
 /// Returns the row variable of a loop with an empty body.
 pub(crate) fn row_of_empty(step: &Step) -> Option<u16>
     ensures { (proc : ProcInfo) (s : RStmt) → TellsOf proc s step.now → MatchOption result ((rows : List (List Value)) (env : Env) → after_empty_loop (out-RStmt s) rows env ≡ env) (λ x. (rows : List (List Value)) (env : Env) → after_empty_loop (out-RStmt s) rows env ≡ after_turns x rows env) }

@@ -1,6 +1,6 @@
 //! The effect of a record on a running call.
 
-ghost use Rattle.std.specs.Prelude.{◌≡◌, List, [], ◌∷◌, ◌++◌, IfOk, OnOk, MatchOption};
+ghost use Rattle.std.specs.Prelude.{◌≡◌, List, [], ◌∷◌, ◌++◌, IfOk, OnOk, OnErr, MatchOption};
 ghost use Rattle.mv_values.specs.declared.value.Value.{Value};
 ghost use Rattle.mv_alone.specs.declared.state.Env.{Env};
 ghost use Rattle.mv_catalog.specs.declared.resolved.ProcInfo.{ProcInfo};
@@ -11,7 +11,8 @@ ghost use Rattle.mv_exec.specs.Env.{with_changes};
 ghost use Rattle.mv_exec.specs.Moves.{after_turns, after_empty_loop};
 ghost use Rattle.mv_exec.specs.Running.{stepped};
 
-use crate::changes::{VariableChange, changes_of, row_of_empty};
+use crate::changes::{VariableChange, changes_of, make_changes, row_of_empty, set_slots};
+use crate::variables::Variables;
 use mv_alone::state::Content;
 use mv_graph::graph::Step;
 use mv_log::record_ref::RecordRef;
@@ -61,31 +62,35 @@ fn add_last_row(
     Ok(())
 }
 
-/// Adds the changes of a loop with an empty body, if the statement is one.
-fn add_turns(
-    alloc: Global,
-    changes: &mut Vec<VariableChange>,
-    step: &Step,
-    rows: &[Row],
-) -> Result<(), NoMemory>
-    ensures { OnOk result ((proc : ProcInfo) (s : RStmt) → TellsOf proc s step.now → (e : Env) → with_changes changes.new.items e ≡ after_empty_loop (out-RStmt s) rows.now (with_changes changes.old.items e)) }
-{
-    match row_of_empty(step) {
-        Some(row) => add_last_row(alloc, changes, row, rows),
-        None => Ok(()),
-    }
-}
-
-/// Returns the variables that the record of a statement changes.
+/// Returns the changes of a loop with an empty body, whose row is this variable.
 #[tactic(auto, using(crate::proofs::Changing::slots_changes))]
-pub(crate) fn changes_for(
+fn loop_changes(
     alloc: Global,
-    step: &Step,
+    row: u16,
     given: &RecordRef<'_>,
 ) -> Result<Vec<VariableChange>, NoMemory>
-    ensures { IfOk result (λ cs. (proc : ProcInfo) (s : RStmt) → TellsOf proc s step.now → (e : Env) → with_changes cs.items e ≡ after_empty_loop (out-RStmt s) given.now.rows (with_slots given.now.sets e)) }
+    ensures { IfOk result (λ cs. (e : Env) → with_changes cs.items e ≡ after_turns row given.now.rows (with_slots given.now.sets e)) }
 {
     let mut changes = changes_of(alloc, given.sets())?;
-    add_turns(alloc, &mut changes, step, given.rows())?;
+    add_last_row(alloc, &mut changes, row, given.rows())?;
     Ok(changes)
+}
+
+/// Sets the variables that the record of a statement changes. On `NoMemory` they are unchanged.
+pub(crate) fn change_variables(
+    alloc: Global,
+    variables: &mut Variables,
+    step: &Step,
+    given: &RecordRef<'_>,
+) -> Result<(), NoMemory>
+    ensures ok { OnOk result ((proc : ProcInfo) (s : RStmt) → TellsOf proc s step.now → variables.new ≡ (let was = variables.old in record was { env = after_empty_loop (out-RStmt s) given.now.rows (with_slots given.now.sets was.env) })) }
+    ensures err { OnErr result (variables.new ≡ variables.old) }
+{
+    let Some(row) = row_of_empty(step) else {
+        set_slots(alloc, variables, given.sets())?;
+        return Ok(());
+    };
+    let changes = loop_changes(alloc, row, given)?;
+    make_changes(variables, changes)?;
+    Ok(())
 }
