@@ -1,11 +1,14 @@
 -- What is ahead is what the next record has, and how a call comes to the place at which it goes on.
 use Rattle.std.proofs.Common.{◌≡◌, ℕ, Bool, true, false, not, List, [], ◌∷◌, ◌++◌, Option, Some, map, length, refl, sym, ap, subst, ◌∙◌}
-use Rattle.std.specs.Option.{option_or}
+use Rattle.std.specs.Prelude.{slice_get}
+use Rattle.std.specs.Option.{option_map, option_or}
+use Rattle.std.proofs.lemmas.Option.{slice_get-map}
 use Rattle.mv_values.specs.declared.schema.TableInfo.{TableInfo}
 use Rattle.mv_values.specs.Tables.{Tables}
 use Rattle.mv_catalog.specs.declared.resolved.ProcInfo.{ProcInfo}
 use Rattle.mv_catalog.specs.declared.resolved.RStmt.{RStmt, out-RStmt}
 use Rattle.mv_catalog.specs.declared.resolved.RStmt.TheOpen.{RStmt-F}
+use Rattle.mv_record.specs.declared.record.Read.{Read}
 use Rattle.mv_record.specs.declared.record.Record.{Record}
 use Rattle.mv_recorded.specs.Reading.{Loop, loop_of, last_place, sets_variable, reads_of, expressions, read_variables}
 use Rattle.mv_recorded.specs.Recorded.{Site, outside}
@@ -36,6 +39,13 @@ reads_same params loops records definers y h =
     map_same (λ x. record { slot = x; definer = option_or (loop_of x loops) (last_place (sets_variable x) 0 records) })
     (λ x. record { slot = x; definer = option_or (loop_of x loops) (definer_in definers x) })
     (λ x. ap (λ d. record { slot = x; definer = option_or (loop_of x loops) d }) (sym (h x))) (read_variables params (expressions y))
+
+-- one of them
+pub read_at : (definers : List (Option ℕ)) (site : Site) (n : ℕ) (xs : List ℕ) (i x : ℕ) (r : Read) → slice_get xs i ≡ Some x
+    → r ≡ record { slot = x; definer = option_or (loop_of x site.loops) (definer_in definers x) } → slice_get (ahead_at definers site n xs).reads i ≡ Some r
+read_at definers site n xs i x r there is =
+    slice_get-map (λ y. record { slot = y; definer = option_or (loop_of y site.loops) (definer_in definers y) }) xs i
+    ∙ (ap (option_map (λ y. record { slot = y; definer = option_or (loop_of y site.loops) (definer_in definers y) })) there ∙ ap Some (sym is))
 
 -- at the place at which a call goes on, whatever its variables are there
 foresees_at : (proc : ProcInfo) (task : Task) (variables : CallVariables) (ps : List Place) (ended : Bool) (outer : List Place) (p : Place) (s : RStmt) (xs : List ℕ) → IsTask proc task

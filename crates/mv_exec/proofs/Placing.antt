@@ -1,5 +1,5 @@
 -- Places one inside another, and how many of them stay.
-use Rattle.std.proofs.Common.{◌≡◌, ℕ, zero, suc, ◌+◌, ◌<◌, ◌≤◌, true, false, nat_lt, List, [], ◌∷◌, ◌++◌, Option, None, length, take, drop, refl, sym, ap, subst, ◌∙◌, arith, append-nil, append_assoc, add-one, length-append}
+use Rattle.std.proofs.Common.{◌≡◌, ◌↔◌, ℕ, zero, suc, ◌+◌, ◌<◌, ◌≤◌, Bool, true, false, nat_lt, List, [], ◌∷◌, ◌++◌, Option, None, length, take, drop, refl, sym, ap, subst, ◌∙◌, arith, append-nil, append_assoc, add-one, length-append}
 use Rattle.std.proofs.Math.Seq.{take-suc}
 use Rattle.std.specs.Prelude.{slice_index_or}
 use Rattle.std.proofs.lemmas.Bool.{ltb-false, or_parts}
@@ -68,6 +68,40 @@ one_more ps i d lt = rw add-one (take-suc ps i d lt)
 
 pub site_step : (ps : List Place) (i : ℕ) (d : Place) → i < length ps → site_of outside (take (i + 1) ps) ≡ site_in (slice_index_or ps i d).holder (site_of outside (take i ps))
 site_step ps i d lt = ap (site_of outside) (one_more ps i d lt) ∙ site_more outside (take i ps) (slice_index_or ps i d)
+
+-- The turns around a place
+
+pub turn_is : (site : Site) (outer : List ℕ) (last k : ℕ) → last ≡ k → (site.turns ++ k ∷ [] ≡ outer ++ last ∷ []) ↔ (site.turns ≡ outer)
+turn_is site outer last k e = ((λ h. (same_last site.turns outer k last h).0), λ h. ap (λ l. l ++ k ∷ []) h ∙ ap (λ n. outer ++ n ∷ []) (sym e))
+
+pub other_turn : (site : Site) (outer : List ℕ) (last k : ℕ) → (last ≡ k → ⊥) → site.turns ++ k ∷ [] ≡ outer ++ last ∷ [] → ⊥
+other_turn site outer last k apart h = apart (sym (same_last site.turns outer k last h).1)
+
+site_last : (ps outer : List Place) (p : Place) → ps ≡ outer ++ p ∷ [] → (site_of outside ps).turns ≡ (site_in p.holder (site_of outside outer)).turns
+site_last ps outer p e = ap (λ l. (site_of outside l).turns) e ∙ ap (λ (s : Site). s.turns) (site_more outside outer p)
+
+-- a test that tells whether these are the turns, where the ones left of them are those around the outer places
+pub turns_are : (ps outer : List Place) (p : Place) (turns left : List ℕ) (b : Bool) → ps ≡ outer ++ p ∷ []
+    → ((site : Site) → ((site_in p.holder site).turns ≡ turns) ↔ (site.turns ≡ left)) → (b ≡ true) ↔ ((site_of outside outer).turns ≡ left) → (b ≡ true) ↔ ((site_of outside ps).turns ≡ turns)
+turns_are ps outer p turns left b e last h = (
+  (λ y. site_last ps outer p e ∙ (last (site_of outside outer)).1 (h.0 y)),
+  λ t. h.1 ((last (site_of outside outer)).0 (sym (site_last ps outer p e) ∙ t)),
+)
+
+pub turns_differ : (ps outer : List Place) (p : Place) (turns : List ℕ) → ps ≡ outer ++ p ∷ [] → ((site : Site) → (site_in p.holder site).turns ≡ turns → ⊥) → (false ≡ true) ↔ ((site_of outside ps).turns ≡ turns)
+turns_differ ps outer p turns e apart = ((λ y. cc), λ t. absurd (apart (site_of outside outer) (sym (site_last ps outer p e) ∙ t)))
+
+-- the same of a place inside these places
+pub turns_here : (site : Site) (here : Site) (turns left : List ℕ) (b : Bool) → (here.turns ≡ turns) ↔ (site.turns ≡ left) → (b ≡ true) ↔ (site.turns ≡ left) → (b ≡ true) ↔ (here.turns ≡ turns)
+turns_here site here turns left b last h = ((λ y. last.1 (h.0 y)), λ t. h.1 (last.0 t))
+
+pub turns_apart : (here : Site) (turns : List ℕ) → (here.turns ≡ turns → ⊥) → (false ≡ true) ↔ (here.turns ≡ turns)
+turns_apart here turns apart = ((λ y. cc), λ t. absurd (apart t))
+
+pub unturned : (ps : List Place) (turns : List ℕ) (b : Bool) → ps ≡ [] → (b ≡ true) ↔ ([] ≡ turns) → (b ≡ true) ↔ ((site_of outside ps).turns ≡ turns)
+unturned ps turns b e h =
+    let is : (site_of outside ps).turns ≡ [] = ap (λ l. (site_of outside l).turns) e in
+    ((λ y. is ∙ h.0 y), λ t. h.1 (sym is ∙ t))
 
 take_front : {A : Type 0} (xs ys : List A) (n : ℕ) → n ≤ length xs → take n (xs ++ ys) ≡ take n xs
 take_front xs ys zero h = refl

@@ -1,17 +1,15 @@
 //! The place, controller and definers of the next record.
 
-ghost use Rattle.std.specs.Prelude.{◌≡◌, ◌<◌, ◌≤◌, ◌^◌, false, Some, length, map, IfOk};
-ghost use Rattle.std.specs.Option.{option_or};
+ghost use Rattle.std.specs.Prelude.{◌≡◌, ◌↔◌, ◌<◌, ◌≤◌, ◌^◌, false, true, Some, length, slice_get, IfOk};
 ghost use Rattle.mv_catalog.specs.Statements.{size_of};
-ghost use Rattle.mv_recorded.specs.Reading.{loop_of};
 ghost use Rattle.mv_recorded.specs.Recorded.{outside};
 ghost use Rattle.mv_graph.specs.Nodes.{IsGraph};
 ghost use Rattle.mv_exec.specs.Places.{site_in, site_of, IsAtStep};
 ghost use Rattle.mv_exec.specs.Recording.{IsAtRest, foreseen, opened};
-ghost use Rattle.mv_exec.specs.Tasks.{places_of, IsTask, StandsAsBefore, definer_in};
+ghost use Rattle.mv_exec.specs.Tasks.{places_of, IsTask, StandsAsBefore};
 ghost use Rattle.mv_exec.specs.Ahead.{ForeseesLeft, IsNextStep, ahead_at};
 
-use crate::around::{definer_of, parent_at, turns_at};
+use crate::around::{are_turns_at, definer_of, parent_at, turns_at};
 use crate::places::{Holder, Place, outer};
 use crate::position::{Position, next_position};
 use crate::recording::{OpenStatement, begin_record};
@@ -24,132 +22,139 @@ use mv_values::memory::NoMemory;
 use std::alloc::Global;
 use std::marker::Model;
 
-/// The place, controller and definers of a record that hasn't been added yet. Contracts see those of the record.
+/// The place, controller and definers of a record that hasn't been added yet, worked out where they are asked for.
+/// Contracts see those of the record.
 #[derive(Drop)]
-pub struct Ahead {
-    statement: u16,
-    turns: List<u32>,
-    parent: Option<u32>,
-    reads: List<VarRead>,
+pub struct Ahead<'a> {
+    /// The places around that of its statement.
+    places: &'a [Place],
+    holder: Holder,
+    number: usize,
+    definers: &'a [Option<u32>],
+    /// The variables that its statement reads.
+    variables: &'a [u16],
 }
 
-impl Model for Ahead {
+impl<'a> Model for Ahead<'a> {
+    ghost use Rattle.std.specs.Prelude.{◌<◌, ◌^◌};
+    ghost use Rattle.mv_recorded.specs.Recorded.{outside};
     ghost use Rattle.mv_exec.specs.Foreseen.{Ahead as Known};
+    ghost use Rattle.mv_exec.specs.Places.{site_in, site_of};
+    ghost use Rattle.mv_exec.specs.Ahead.{ahead_at};
 
     ghost Value = { Known };
 
-    ghost view = { λ a. record { spot = record { statement = a.statement; turns = a.turns }; parent = a.parent; reads = a.reads } };
+    ghost view = { λ a. ahead_at a.definers.now (site_in a.holder (site_of outside a.places.now)) a.number a.variables.now };
+
+    ghost invariant = { λ a. a.number < 2 ^ 16 };
 }
 
-impl Ahead {
+/// Returns a variable.
+fn variable_at(variables: &[u16], at: usize) -> u16
+    requires { at < length variables.now }
+    ensures { slice_get variables.now at ≡ Some result }
+{
+    variables[at]
+}
+
+impl<'a> Ahead<'a> {
     /// Returns the number of its statement.
     pub fn statement(&self) -> u16
         ensures { result ≡ self.now.spot.statement }
     {
-        self.statement
+        self.number as u16
     }
 
-    /// Lends the iterations of the enclosing FORs, outermost first.
-    pub fn turns(&self) -> &[u32]
-        ensures { result.now ≡ self.now.spot.turns }
+    /// Whether these are the iterations of the enclosing FORs, outermost first. Allocates nothing.
+    pub fn is_in(&self, turns: &[u32]) -> bool
+        ensures { (result ≡ true) ↔ (self.now.spot.turns ≡ turns.now) }
     {
-        self.turns.as_slice()
+        are_turns_at(self.places, self.holder, turns)
+    }
+
+    /// Returns the iterations of the enclosing FORs, outermost first.
+    pub fn turns(&self, alloc: Global) -> Result<List<u32>, NoMemory>
+        ensures { IfOk result (λ turns. turns ≡ self.now.spot.turns) }
+    {
+        turns_at(alloc, self.places, self.holder)
     }
 
     /// Returns the number of the record of the IF or FOR that directly holds its statement.
     pub fn parent(&self) -> Option<u32>
         ensures { result ≡ self.now.parent }
     {
-        self.parent
+        parent_at(self.places, self.holder)
     }
 
-    /// Lends the variables that it reads.
-    pub fn reads(&self) -> &[VarRead]
-        ensures { result.now ≡ self.now.reads }
+    /// Returns how many variables it reads.
+    pub fn reads(&self) -> usize
+        ensures { result ≡ length self.now.reads }
     {
-        self.reads.as_slice()
+        self.variables.len()
     }
-}
 
-/// Returns variables with their definers.
-fn with_definers(
-    alloc: Global,
-    places: &[Place],
-    holder: Holder,
-    definers: &[Option<u32>],
-    variables: &[u16],
-) -> Result<List<VarRead>, NoMemory>
-    ensures { IfOk result (λ reads. reads ≡ map (λ x. record { slot = x; definer = option_or (loop_of x (site_in holder (site_of outside places.now)).loops) (definer_in definers.now x) }) variables.now) }
-{
-    let mut reads = List::with_room(alloc, variables.len())?;
-    for slot in variables {
-        let definer = definer_of(places, holder, definers, *slot);
-        reads.push(VarRead::of(*slot, definer))?;
+    /// Returns one of the variables that it reads. Allocates nothing.
+    pub fn read(&self, at: usize) -> VarRead
+        requires { at < length self.now.reads }
+        ensures { slice_get self.now.reads at ≡ Some result }
+    {
+        let slot = variable_at(self.variables, at);
+        let definer = definer_of(self.places, self.holder, self.definers, slot);
+        VarRead::of(slot, definer)
     }
-    Ok(reads)
 }
 
 /// Returns what is ahead of a call that continues at a place inside these, before a statement that reads these
 /// variables.
-fn ahead_at(
-    alloc: Global,
-    definers: &[Option<u32>],
-    places: &[Place],
+fn ahead_at<'a>(
+    definers: &'a [Option<u32>],
+    places: &'a [Place],
     place: Place,
-    variables: &[u16],
-) -> Result<Ahead, NoMemory>
+    variables: &'a [u16],
+) -> Ahead<'a>
     requires { place.number < 2 ^ 16 }
-    ensures { IfOk result (λ ahead. ahead ≡ ahead_at definers.now (site_in place.holder (site_of outside places.now)) place.number variables.now) }
+    ensures { result ≡ ahead_at definers.now (site_in place.holder (site_of outside places.now)) place.number variables.now }
 {
-    let turns = turns_at(alloc, places, place.holder)?;
-    let reads = with_definers(alloc, places, place.holder, definers, variables)?;
-    Ok(Ahead {
-        statement: place.number as u16,
-        turns,
-        parent: parent_at(places, place.holder),
-        reads,
-    })
+    Ahead {
+        places,
+        holder: place.holder,
+        number: place.number,
+        definers,
+        variables,
+    }
 }
 
 /// Returns the place, controller and definers of the record of a call's next statement.
-fn ahead_of(
-    alloc: Global,
-    graph: &Graph,
-    task: &Task,
-    position: Position<'_>,
-) -> Result<Ahead, NoMemory>
+fn ahead_of<'a>(graph: &'a Graph, task: &'a Task, position: Position<'a>) -> Ahead<'a>
     requires task { IsTask graph.now.procedure task.now }
     requires params { task.now.parameters ≡ length graph.now.procedure.params }
     requires live { task.now.ended ≡ false }
     requires short { size_of graph.now.procedure.body ≤ 1000 }
     requires goes_on { IsNextStep graph.now.procedure task.now position.place position.step.now position.turn }
-    ensures { IfOk result (λ ahead. ForeseesLeft graph.now.procedure task.now (Some ahead)) }
+    ensures { ForeseesLeft graph.now.procedure task.now (Some result) }
 {
     let places = outer(task.places.as_slice());
-    let ahead = ahead_at(
-        alloc,
+    ahead_at(
         task.definers.as_slice(),
         places,
         position.place,
         position.step.reads.as_slice(),
-    )?;
-    Ok(ahead)
+    )
 }
 
 /// Returns the place, controller and definers of the next record, or none if no statement is left.
-pub(crate) fn foresee(alloc: Global, graph: &Graph, task: &Task) -> Result<Option<Ahead>, NoMemory>
+pub(crate) fn foresee<'a>(graph: &'a Graph, task: &'a Task) -> Option<Ahead<'a>>
     requires nodes { IsGraph graph.now }
     requires task { IsTask graph.now.procedure task.now }
     requires params { task.now.parameters ≡ length graph.now.procedure.params }
     requires short { size_of graph.now.procedure.body ≤ 1000 }
-    ensures { IfOk result (λ ahead. ForeseesLeft graph.now.procedure task.now ahead) }
+    ensures { ForeseesLeft graph.now.procedure task.now result }
 {
     if task.ended {
-        return Ok(None);
+        return None;
     }
     let position = next_position(graph, task);
-    let ahead = ahead_of(alloc, graph, task, position)?;
-    Ok(Some(ahead))
+    Some(ahead_of(graph, task, position))
 }
 
 /// Begins the record of a call's next statement, and moves the call there: the place of the statement becomes the

@@ -1,14 +1,14 @@
 //! What is around the statement at a place: the record that holds it, the loops with their turns, and the records that
 //! last set its variables.
 
-ghost use Rattle.std.specs.Prelude.{◌≡◌, count_by, IfOk, OnOk};
+ghost use Rattle.std.specs.Prelude.{◌≡◌, ◌↔◌, [], true, count_by, IfOk, OnOk, MatchOption};
 ghost use Rattle.std.specs.Option.{option_or};
 ghost use Rattle.mv_recorded.specs.Reading.{loop_of};
 ghost use Rattle.mv_recorded.specs.Recorded.{Site, outside};
 ghost use Rattle.mv_exec.specs.Places.{is_loop, site_in, site_of};
 ghost use Rattle.mv_exec.specs.Tasks.{definer_in};
 
-use crate::places::{Holder, Place};
+use crate::places::{Holder, Place, innermost};
 use mv_values::list::List;
 use mv_values::memory::NoMemory;
 use std::alloc::Global;
@@ -140,6 +140,59 @@ pub(crate) fn turn_number(turn: usize) -> Result<u32, NoMemory>
         return Err(NoMemory);
     }
     Ok(turn as u32)
+}
+
+/// Returns the turns around a holder, given those inside it, or none if the last one isn't the holder's.
+fn turns_outside(holder: Holder, turns: &[u32]) -> Option<&[u32]>
+    ensures { MatchOption result ((site : Site) → (site_in holder site).turns ≡ turns.now → ⊥) (λ outer. (site : Site) → ((site_in holder site).turns ≡ turns.now) ↔ (site.turns ≡ outer.now)) }
+{
+    let Holder::Loop { turn, .. } = holder else {
+        return Some(turns);
+    };
+    match turns {
+        [] => None,
+        [outer @ .., last] => {
+            if *last as usize == turn {
+                Some(outer)
+            } else {
+                None
+            }
+        }
+    }
+}
+
+/// Whether there are no turns.
+fn is_empty(turns: &[u32]) -> bool
+    ensures { (result ≡ true) ↔ ([] ≡ turns.now) }
+{
+    match turns {
+        [] => true,
+        _ => false,
+    }
+}
+
+/// Whether these are the turns of the loops around the innermost place, from the outside in.
+fn are_turns(places: &[Place], turns: &[u32]) -> bool
+    ensures { (result ≡ true) ↔ ((site_of outside places.now).turns ≡ turns.now) }
+{
+    let Some((outer, last)) = innermost(places) else {
+        return is_empty(turns);
+    };
+    match turns_outside(last.holder, turns) {
+        Some(left) => are_turns(outer, left),
+        None => false,
+    }
+}
+
+/// Whether these are the turns of the loops around a place with this holder inside these places, from the outside in.
+#[tactic(auto, using(crate::proofs::Placing::turns_here, crate::proofs::Placing::turns_apart))]
+pub(crate) fn are_turns_at(places: &[Place], holder: Holder, turns: &[u32]) -> bool
+    ensures { (result ≡ true) ↔ ((site_in holder (site_of outside places.now)).turns ≡ turns.now) }
+{
+    match turns_outside(holder, turns) {
+        Some(left) => are_turns(places, left),
+        None => false,
+    }
 }
 
 /// Adds the turn of a holder if it is a loop.

@@ -45,16 +45,15 @@ impl Task {
     }
 }
 
-/// Returns the place, controller and definers of the next record, or none exactly if no statement is left. Fails with
-/// `NoMemory` if memory runs out.
-pub fn peek(alloc: Global, graph: &Graph, task: &Task) -> Result<Option<Ahead>, NoMemory>
+/// Returns the place, controller and definers of the next record, or none exactly if no statement is left. Allocates
+/// nothing.
+pub fn peek<'a>(graph: &'a Graph, task: &'a Task) -> Option<Ahead<'a>>
     requires sound { IsSound graph.now }
     requires running { IsRunning graph.now task.now }
-    ensures next { IfOk result (IsAhead graph.now task.now) }
-    ensures ended { IfOk result (λ ahead. (task.now.ended ≡ true) ↔ (ahead ≡ None)) }
+    ensures next { IsAhead graph.now task.now result }
+    ensures ended { (task.now.ended ≡ true) ↔ (result ≡ None) }
 {
-    let ahead = foresee(alloc, graph, task)?;
-    Ok(ahead)
+    foresee(graph, task)
 }
 
 /// Adds a record of the run before the repair as the record of the next statement. On `NoMemory` only the open statement

@@ -317,18 +317,29 @@ fn are_told(alloc: Global, records: &Records<'_>, want: &str) -> Result<(), Fail
     ensure(alloc, out.as_str() == want, out.as_str())
 }
 
+/// Returns the variables that a record ahead reads.
+fn reads_of(alloc: Global, ahead: &Ahead<'_>) -> Result<List<VarRead>, Fail> {
+    let mut reads = List::new(alloc);
+    for at in 0..ahead.reads() {
+        reads.push(ahead.read(at))?;
+    }
+    Ok(reads)
+}
+
 /// Checks that a record is where it was foreseen.
-fn is_foreseen(alloc: Global, record: &RecordRef<'_>, ahead: &Ahead) -> Result<(), Fail> {
+fn is_foreseen(alloc: Global, record: &RecordRef<'_>, ahead: &Ahead<'_>) -> Result<(), Fail> {
     let mut stands = String::new(alloc);
     tell_place_of(&mut stands, record)?;
     let mut foreseen = String::new(alloc);
     tell_place(
         &mut foreseen,
         ahead.statement(),
-        ahead.turns(),
+        ahead.turns(alloc)?.as_slice(),
         ahead.parent(),
-        ahead.reads(),
+        reads_of(alloc, ahead)?.as_slice(),
     )?;
+    let turns = record.turns();
+    ensure(alloc, ahead.is_in(turns), "other turns are ahead")?;
     ensure(
         alloc,
         stands.as_str() == foreseen.as_str(),
@@ -346,7 +357,7 @@ fn adopt_next(alloc: Global, graph: &Graph, task: &mut Task) -> Result<(), Fail>
     ensures running { IsRunning graph.now task.new }
     ensures rises { OnOk result (task.new.log.kept ≤ length task.new.log.records) }
 {
-    let Some(ahead) = peek(alloc, graph, task)? else {
+    let Some(ahead) = peek(graph, task) else {
         return Err("nothing is ahead".into());
     };
     let number = next_number(task)?;

@@ -15,7 +15,7 @@ returns c =
     let go = c.requires.goes_on.is in
     let places : c.outer-places.result.now ≡ go.outer = c.outer-places.ensures go.outer go.last (c.as_slice.ensures ∙ go.are) in
     subst (λ ahead. ForeseesLeft c.args.graph.now.procedure c.args.task.now (Some ahead))
-    (sym (c.in_ok-ahead.ensures
+    (sym (c.ahead_at.ensures
     ∙ (ap (λ ds. ahead_at ds (site_in c.args.position.place.holder (site_of outside c.outer-places.result.now)) c.args.position.place.number c.as_slice-3.result.now) c.as_slice-2.ensures
     ∙ (ap (λ ps. ahead_at c.args.task.now.definers (site_in c.args.position.place.holder (site_of outside ps)) c.args.position.place.number c.as_slice-3.result.now) places
     ∙ ap (ahead_at c.args.task.now.definers (site_in c.args.position.place.holder (site_of outside go.outer)) c.args.position.place.number) c.as_slice-3.ensures))))
