@@ -1,5 +1,5 @@
 -- Whether the next record of the old run stays.
-use Rattle.std.proofs.Common.{◌≡◌, ◌==◌, ℕ, suc, ◌+◌, Bool, true, false, not, List, [], ◌∷◌, ◌++◌, Option, Some, None, map, length, if◌then◌else◌, refl, sym, ap, subst, ◌∙◌, arith, append-nil, length-append}
+use Rattle.std.proofs.Common.{◌≡◌, ◌==◌, ◌↔◌, ℕ, suc, ◌+◌, Bool, true, false, not, List, [], ◌∷◌, ◌++◌, Option, Some, None, map, length, if◌then◌else◌, refl, sym, ap, subst, ◌∙◌, arith, append-nil, length-append}
 use Rattle.std.specs.Prelude.{◌&&◌, ◌||◌, slice_get}
 use Rattle.std.specs.List.{list_any}
 use Rattle.std.specs.Ordering.{is_lt, is_eq, ordering_reverse, nat_cmp}
@@ -69,6 +69,15 @@ in_own_place o = and_both (o.spot.statement == o.spot.statement) (is_path o.spot
   where
     and_both : (x y : Bool) → x ≡ true → y ≡ true → (x && y) ≡ true
     and_both x y e f = cc
+
+-- a test that tells whether two lists of numbers are equal
+pub as_path : (a b : Path) (t : Bool) → (t ≡ true) ↔ (a ≡ b) → t ≡ is_path a b
+as_path a b true h = sym (subst (λ c. is_path a c ≡ true) (h.0 refl) (path_self a))
+as_path a b false h = by (is_path a b) refl
+  where
+    by : (c : Bool) → is_path a b ≡ c → false ≡ c
+    by true e = h.1 (path_is a b e)
+    by false e = refl
 
 pub in_place_is : (o : Record) (spot : Spot) → is_in_place (Some o) spot ≡ true → o.spot ≡ spot
 in_place_is o spot h = by (o.spot.statement == spot.statement) refl (is_path spot.turns o.spot.turns) refl

@@ -83,3 +83,30 @@ long_apart kept (a ∷ as') (b ∷ bs) h = by (same_definer kept a.definer b.def
     by : (x : Bool) → false ≡ reads_by kept as' bs → false ≡ (x && reads_by kept as' bs)
     by true h = h
     by false h = refl
+
+-- one read more of both
+reads_after : (kept : List (Option ℕ)) (n : ℕ) (as' bs : List Read) (a b : Read) → slice_get as' n ≡ Some a → slice_get bs n ≡ Some b → same_definer kept a.definer b.definer ≡ true
+    → reads_by kept (drop n as') (drop n bs) ≡ reads_by kept (drop (suc n) as') (drop (suc n) bs)
+reads_after kept n [] bs a b e f h = cc
+reads_after kept n (x ∷ as') [] a b e f h = cc
+reads_after kept zero (x ∷ as') (y ∷ bs) a b e f h =
+    let at : x ≡ a = cc in
+    let bt : y ≡ b = cc in
+    ap (λ t. t && reads_by kept as' bs) (ap (λ (r : Read). same_definer kept r.definer y.definer) at ∙ (ap (λ (r : Read). same_definer kept a.definer r.definer) bt ∙ h))
+reads_after kept (suc n) (x ∷ as') (y ∷ bs) a b e f h = reads_after kept n as' bs a b e f h
+
+pub reads_next : (kept : List (Option ℕ)) (n : ℕ) (as' bs : List Read) (a b : Read) → slice_get as' n ≡ Some a → slice_get bs n ≡ Some b → same_definer kept a.definer b.definer ≡ true
+    → reads_by kept (drop n as') (drop n bs) ≡ reads_by kept (drop (n + 1) as') (drop (n + 1) bs)
+reads_next kept n as' bs a b e f h =
+    let one : suc n ≡ n + 1 = omega arith in
+    reads_after kept n as' bs a b e f h ∙ ap (λ m. reads_by kept (drop m as') (drop m bs)) one
+
+pub reads_apart : (kept : List (Option ℕ)) (n : ℕ) (as' bs : List Read) (a b : Read) → slice_get as' n ≡ Some a → slice_get bs n ≡ Some b → same_definer kept a.definer b.definer ≡ false
+    → false ≡ reads_by kept (drop n as') (drop n bs)
+reads_apart kept n [] bs a b e f h = cc
+reads_apart kept n (x ∷ as') [] a b e f h = cc
+reads_apart kept zero (x ∷ as') (y ∷ bs) a b e f h =
+    let at : x ≡ a = cc in
+    let bt : y ≡ b = cc in
+    sym (ap (λ t. t && reads_by kept as' bs) (ap (λ (r : Read). same_definer kept r.definer y.definer) at ∙ (ap (λ (r : Read). same_definer kept a.definer r.definer) bt ∙ h)))
+reads_apart kept (suc n) (x ∷ as') (y ∷ bs) a b e f h = reads_apart kept n as' bs a b e f h

@@ -5,7 +5,6 @@ ghost use Rattle.std.specs.Option.{option_and_then, option_copied};
 ghost use Rattle.std.specs.Ordering.{is_lt, nat_cmp};
 ghost use Rattle.std.specs.Cmp.Lexicographic.{slice_cmp};
 ghost use Rattle.mv_record.specs.Paths.{inside, nests_behind, paths};
-ghost use Rattle.mv_history.specs.Kept.{is_path};
 ghost use Rattle.mv_repair.specs.Walking.{path_behind};
 
 use mv_log::records::Records;
@@ -65,13 +64,6 @@ pub(crate) fn item<T>(items: &[T], at: usize) -> Option<&T>
     ensures { option_copied result ≡ slice_get items.now at }
 {
     items.get(at)
-}
-
-/// Whether two lists of numbers are equal.
-pub(crate) fn is_path(a: &[u32], b: &[u32]) -> bool
-    ensures { result ≡ is_path a.now b.now }
-{
-    a.cmp(b).is_eq()
 }
 
 /// Whether the first path is earlier in a program.

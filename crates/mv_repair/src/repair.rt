@@ -106,7 +106,7 @@ fn step<V: View>(
     ensures view { OnlyAsks (V.sight view.old) (V.sight view.new) result }
     ensures bounded { AskedAtMost 1 (different (writes_in task.old.log.records)) (V.sight view.old) (V.sight view.new) }
 {
-    let Some(ahead) = peek(alloc, graph, task)? else {
+    let Some(ahead) = peek(graph, task) else {
         unreachable!();
     };
     let is_there = old.pass(alloc, task, &ahead)?;

@@ -2,10 +2,11 @@
 
 ghost use Rattle.std.specs.Prelude.{◌≡◌, ◌<◌, ◌≤◌, ◌&&◌, ◌||◌, not, ℕ, List as Seq, Some, true, false, length, slice_get, IfOk, OnOk};
 ghost use Rattle.mv_record.specs.Paths.{paths};
+ghost use Rattle.mv_history.specs.Kept.{is_path};
 ghost use Rattle.mv_repair.specs.Walking.{noted, path_behind, is_before, is_in_place, is_kept_by, kept_as, next_stays, reads_by, same_definer, stays_at, is_touched, noted_next, next_passed, left_behind, added, renewed, AreKnownIfMany, HasCaughtUp, HasPassed, IsComeTo};
 
 use crate::keys::Keys;
-use crate::paths::{Path, is_earlier, is_path, item, path_at, path_of};
+use crate::paths::{Path, is_earlier, item, path_at, path_of};
 use crate::touch::{has_writes, is_touched, learn, record_at};
 use mv_exec::ahead::Ahead;
 use mv_exec::task::Task;
@@ -44,24 +45,32 @@ pub(crate) struct NewRun {
     pub(crate) known: usize,
 }
 
+/// Whether these are the iterations around the place ahead.
+fn is_in_turns(ahead: &Ahead<'_>, turns: &[u32]) -> bool
+    ensures { result ≡ is_path ahead.now.spot.turns turns.now }
+{
+    ahead.is_in(turns)
+}
+
 /// Whether a record is in the place ahead.
-fn is_in_place(record: &RecordRef<'_>, ahead: &Ahead) -> bool
+fn is_in_place(record: &RecordRef<'_>, ahead: &Ahead<'_>) -> bool
     ensures { result ≡ is_in_place (Some record.now) ahead.now.spot }
 {
-    record.statement() == ahead.statement() && is_path(ahead.turns(), record.turns())
+    record.statement() == ahead.statement() && is_in_turns(ahead, record.turns())
 }
 
 /// Returns the path of the record that is ahead of the new run.
-fn path_ahead(alloc: Global, task: &Task, ahead: &Ahead) -> Result<Path, NoMemory>
+fn path_ahead(alloc: Global, task: &Task, ahead: &Ahead<'_>) -> Result<Path, NoMemory>
     ensures { IfOk result (λ p. p ≡ path_behind task.now.log.records ahead.now.spot ahead.now.parent) }
 {
     let records = task.records();
+    let turns = ahead.turns(alloc)?;
     let path = path_of(
         alloc,
         &records,
         records.len(),
         ahead.statement(),
-        ahead.turns(),
+        turns.as_slice(),
         ahead.parent(),
     )?;
     Ok(path)
@@ -69,7 +78,7 @@ fn path_ahead(alloc: Global, task: &Task, ahead: &Ahead) -> Result<Path, NoMemor
 
 impl OldRun {
     /// Whether the next record is in the place ahead. `past` has the records of the old run.
-    fn is_at(&self, past: &Records<'_>, ahead: &Ahead) -> bool
+    fn is_at(&self, past: &Records<'_>, ahead: &Ahead<'_>) -> bool
         ensures { result ≡ is_in_place (slice_get past.now self.now.at) ahead.now.spot }
     {
         match record_at(past, self.at) {
@@ -135,7 +144,7 @@ impl OldRun {
 
     /// Passes the records with paths before that of the record ahead. The new run doesn't keep them. Works paths out only
     /// if the next record isn't in the place ahead. Returns whether the next record is there then.
-    fn come_to(&mut self, alloc: Global, task: &Task, ahead: &Ahead) -> Result<bool, NoMemory>
+    fn come_to(&mut self, alloc: Global, task: &Task, ahead: &Ahead<'_>) -> Result<bool, NoMemory>
         requires { self.old.known ≤ length self.old.others }
         ensures passed { OnOk result (HasPassed task.now.log.past self.old (path_behind task.now.log.records ahead.now.spot ahead.now.parent) self.new) }
         ensures stops { OnOk result (IsComeTo task.now.log.past self.new.at ahead.now.spot (path_behind task.now.log.records ahead.now.spot ahead.now.parent)) }
@@ -158,7 +167,7 @@ impl OldRun {
         &mut self,
         alloc: Global,
         task: &Task,
-        ahead: &Ahead,
+        ahead: &Ahead<'_>,
     ) -> Result<bool, NoMemory>
         requires { self.old.known ≤ length self.old.others }
         ensures passed { OnOk result (HasPassed task.now.log.past self.old (path_behind task.now.log.records ahead.now.spot ahead.now.parent) self.new) }
@@ -260,15 +269,33 @@ fn same_definer(kept: &[Option<u32>], old: Option<u32>, new: Option<u32>) -> boo
     }
 }
 
-/// Whether each variable has the same definer in both runs, which is kept, or in both its default.
-fn reads_stay(kept: &[Option<u32>], olds: &[VarRead], news: &[VarRead]) -> bool
-    ensures { result ≡ reads_by kept.now olds.now news.now }
+/// Returns one of the variables that a record reads.
+fn read_at(reads: &[VarRead], at: usize) -> VarRead
+    requires { at < length reads.now }
+    ensures { slice_get reads.now at ≡ Some result }
 {
-    if olds.len() != news.len() {
+    reads[at]
+}
+
+/// Whether a variable has the same definer in both runs, which is kept, or in both its default.
+fn read_stays(kept: &[Option<u32>], old: VarRead, new: VarRead) -> bool
+    ensures { result ≡ same_definer kept.now old.definer new.definer }
+{
+    same_definer(kept, old.definer(), new.definer())
+}
+
+/// Whether each variable has the same definer in both runs, which is kept, or in both its default.
+#[tactic(auto, using(crate::proofs::Lists::reads_next, crate::proofs::Lists::reads_apart))]
+fn reads_stay(kept: &[Option<u32>], olds: &[VarRead], ahead: &Ahead<'_>) -> bool
+    ensures { result ≡ reads_by kept.now olds.now ahead.now.reads }
+{
+    if olds.len() != ahead.reads() {
         return false;
     }
     for number in 0..olds.len() {
-        if !same_definer(kept, olds[number].definer(), news[number].definer()) {
+        let old = read_at(olds, number);
+        let new = ahead.read(number);
+        if !read_stays(kept, old, new) {
             return false;
         }
     }
@@ -300,11 +327,11 @@ fn is_touched_by_others(
 
 /// Whether the next record of the old run may stay as the record that is ahead of the new run, but for the writes that
 /// touch it.
-fn may_stay(record: &RecordRef<'_>, is_hit: bool, new: &NewRun, ahead: &Ahead) -> bool
+fn may_stay(record: &RecordRef<'_>, is_hit: bool, new: &NewRun, ahead: &Ahead<'_>) -> bool
     ensures { result ≡ (is_kept_by new.now.kept ahead.now.parent && (reads_by new.now.kept record.now.reads ahead.now.reads && not is_hit)) }
 {
     let kept = new.kept.as_slice();
-    is_kept(kept, ahead.parent()) && (reads_stay(kept, record.reads(), ahead.reads()) && !is_hit)
+    is_kept(kept, ahead.parent()) && (reads_stay(kept, record.reads(), ahead) && !is_hit)
 }
 
 /// Whether the next record of the old run stays as the record that is ahead of the new run, if they have the same path.
@@ -313,7 +340,7 @@ fn next_stays(
     task: &Task,
     old: &OldRun,
     new: &NewRun,
-    ahead: &Ahead,
+    ahead: &Ahead<'_>,
 ) -> Result<bool, NoMemory>
     requires old { AreKnownIfMany old.now.keys task.now.log.past old.now.others }
     requires new { AreKnownIfMany new.now.keys task.now.log.records new.now.others }
@@ -338,7 +365,7 @@ pub(crate) fn stays(
     task: &Task,
     old: &OldRun,
     new: &NewRun,
-    ahead: &Ahead,
+    ahead: &Ahead<'_>,
     is_there: bool,
 ) -> Result<bool, NoMemory>
     requires old { AreKnownIfMany old.now.keys task.now.log.past old.now.others }

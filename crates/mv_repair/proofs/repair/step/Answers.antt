@@ -1,4 +1,4 @@
-use Rattle.std.proofs.Common.{◌≡◌, ◌<◌, ◌∙◌, true, false, List, sym, subst, length, arith}
+use Rattle.std.proofs.Common.{◌≡◌, ◌<◌, ◌∙◌, true, false, List, Some, refl, sym, subst, length, arith}
 use Rattle.std.specs.Prelude.{slice_get}
 use Rattle.mv_record.specs.declared.record.Record.{Record}
 use Rattle.mv_exec.specs.Running.{HasRun}
@@ -10,8 +10,8 @@ use Rattle.mv_repair.proofs.repair.step.Goals as goal
 
 pub stays-requires-clause-old : goal.stays-requires-clause-old
 stays-requires-clause-old g c =
-    known_old c.args.graph.now (g.V.View.sight c.args.view.now).database c.args.task.now c.args.old.now c.pass.new.self c.args.new.now c.in_ok-ahead.field-0 c.in-Some.ahead
-    c.requires.on_way c.in_ok-ahead.ensures.next c.in-Some.is c.in_ok-is_there.ensures.passed c.in_ok-is_there.ensures.stops c.in_ok-is_there.ensures.all
+    known_old c.args.graph.now (g.V.View.sight c.args.view.now).database c.args.task.now c.args.old.now c.pass.new.self c.args.new.now (Some c.in-Some.ahead) c.in-Some.ahead
+    c.requires.on_way c.in-Some.ensures.next refl c.in_ok-is_there.ensures.passed c.in_ok-is_there.ensures.stops c.in_ok-is_there.ensures.all
 
 pub stays-requires-clause-new : goal.stays-requires-clause-new
 stays-requires-clause-new g c =
@@ -40,8 +40,8 @@ returns-then-keeps-clause-stepped g c =
     (kept_step graph now.database task c.args.old.now c.pass.new.self c.catch_up.new.self c.in-Some.ahead c.keep.new.task c.keep.new.old c.keep.new.new now
     (record {
       decided =
-          has_decided graph task c.args.old.now c.pass.new.self c.catch_up.new.self c.in_ok-ahead.field-0 c.in-Some.ahead c.in_ok-keeps.keeps true
-          c.in_ok-ahead.ensures.next c.in-Some.is c.in_ok-is_there.ensures.passed c.in_ok-is_there.ensures.stops c.in_ok-keeps.ensures c.if-keeps.true;
+          has_decided graph task c.args.old.now c.pass.new.self c.catch_up.new.self (Some c.in-Some.ahead) c.in-Some.ahead c.in_ok-keeps.keeps true
+          c.in-Some.ensures.next refl c.in_ok-is_there.ensures.passed c.in_ok-is_there.ensures.stops c.in_ok-keeps.ensures c.if-keeps.true;
       same = c.keep.ensures.call;
       kept = c.in_ok-keep.ensures.kept;
     })
@@ -60,8 +60,8 @@ returns-clause-stepped g c =
     (renewed_step graph before.database task c.args.old.now c.pass.new.self c.catch_up.new.self c.in-Some.ahead c.in_ok-is_there.is_there c.renew.new.task c.leave.new.self c.renew.new.new before after
     (record {
       decided =
-          has_decided graph task c.args.old.now c.pass.new.self c.catch_up.new.self c.in_ok-ahead.field-0 c.in-Some.ahead c.in_ok-keeps.keeps false
-          c.in_ok-ahead.ensures.next c.in-Some.is c.in_ok-is_there.ensures.passed c.in_ok-is_there.ensures.stops c.in_ok-keeps.ensures c.if-keeps.false;
+          has_decided graph task c.args.old.now c.pass.new.self c.catch_up.new.self (Some c.in-Some.ahead) c.in-Some.ahead c.in_ok-keeps.keeps false
+          c.in-Some.ensures.next refl c.in_ok-is_there.ensures.passed c.in_ok-is_there.ensures.stops c.in_ok-keeps.ensures c.if-keeps.false;
       met_is = c.in_ok-is_there.ensures.at;
       old_is = subst (λ (rs : List Record). c.leave.new.self ≡ left_behind c.in_ok-is_there.is_there rs c.pass.new.self) c.past.ensures c.in_ok-leave.ensures;
       same = c.renew.ensures.call;
