@@ -96,14 +96,14 @@ const OPTIONS: Options = Options {
 };
 
 /// Returns what a run needs of a script.
-fn prepared(alloc: Global, script: &str) -> Result<Prepared, Fail>
+pub(crate) fn prepared(alloc: Global, script: &str, options: Options) -> Result<Prepared, Fail>
     ensures sound { IfOk result (λ p. IsScript p.script) }
     ensures few { IfOk result (λ p. length p.script.calls ≤ most_calls) }
 {
     let Ok(program) = accept(alloc, script.as_bytes()) else {
         return Err("no program".into());
     };
-    Ok(prepare(alloc, program, OPTIONS)?)
+    Ok(prepare(alloc, program, options)?)
 }
 
 /// What a run leaves: its outcome, and the text of it.
@@ -115,7 +115,7 @@ pub(crate) struct Left {
 
 /// Runs the calls of a script one after another, without a gate.
 pub(crate) fn run_plainly(alloc: Global, script: &str) -> Result<Left, Fail> {
-    let Prepared { script, tables } = prepared(alloc, script)?;
+    let Prepared { script, tables } = prepared(alloc, script, OPTIONS)?;
     let outcome = run_in_turn(alloc, script)?;
     let text = render(alloc, &tables, &outcome)?;
     Ok(Left { outcome, text })
@@ -131,7 +131,7 @@ pub(crate) fn run_by<R: Threads + Wait + Sync, P: Pace>(
 ) -> Result<Left, Fail>
     requires { (0 < workers) × (workers ≤ 64) }
 {
-    let Prepared { script, tables } = prepared(alloc, script)?;
+    let Prepared { script, tables } = prepared(alloc, script, OPTIONS)?;
     let outcome = gate::run(rt, alloc, script, workers, pace)?;
     let text = render(alloc, &tables, &outcome)?;
     Ok(Left { outcome, text })
