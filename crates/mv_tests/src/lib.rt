@@ -16,8 +16,6 @@ mod journals;
 #[cfg(test)]
 mod loads;
 #[cfg(test)]
-mod machine;
-#[cfg(test)]
 mod orders;
 #[cfg(test)]
 mod passes;
