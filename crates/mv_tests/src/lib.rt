@@ -6,8 +6,6 @@ mod attempts;
 #[cfg(test)]
 mod commands;
 #[cfg(test)]
-mod copies;
-#[cfg(test)]
 mod crews;
 #[cfg(test)]
 mod faults;
