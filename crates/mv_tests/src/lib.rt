@@ -22,8 +22,6 @@ mod readers;
 #[cfg(test)]
 mod records;
 #[cfg(test)]
-mod refusals;
-#[cfg(test)]
 mod walks;
 #[cfg(test)]
 mod whole;
