@@ -10,15 +10,9 @@ mod crews;
 #[cfg(test)]
 mod faults;
 #[cfg(test)]
-mod journals;
-#[cfg(test)]
 mod loads;
 #[cfg(test)]
-mod orders;
-#[cfg(test)]
 mod passes;
-#[cfg(test)]
-mod readers;
 #[cfg(test)]
 mod records;
 #[cfg(test)]
