@@ -15,12 +15,11 @@ use std::alloc::Global;
 use std::test::Fail;
 
 /// A table of two marks.
-pub(crate) const MARKS: &str =
-    "CREATE TABLE m (k INT, d INT, e INT, PRIMARY KEY (k)) VALUES (1, 0, 0);
+const MARKS: &str = "CREATE TABLE m (k INT, d INT, e INT, PRIMARY KEY (k)) VALUES (1, 0, 0);
 ";
 
 /// Procedures that set a mark each. The second counts the rows that have both.
-pub(crate) const MARKING: &str = "CREATE PROCEDURE se () BEGIN UPDATE m SET e = 1 WHERE k = 1; END;
+const MARKING: &str = "CREATE PROCEDURE se () BEGIN UPDATE m SET e = 1 WHERE k = 1; END;
 CREATE PROCEDURE sd () DECLARE :n = 0; BEGIN
   UPDATE m SET d = 1 WHERE k = 1;
   SELECT COUNT(*) INTO :n FROM m WHERE d = 1 AND e = 1;

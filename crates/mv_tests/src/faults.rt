@@ -1,14 +1,9 @@
-//! The text of one call, over sources whose reads fail and sinks without room for it.
+//! The text of one call, over sources whose reads fail and sinks that fail or have no room for it.
 
-use crate::whole::{joined, runs};
+use crate::whole::{Edges, joined, runs_at};
 use mv_cases::accounts::ADD;
-use mv_cases::ensure::ensure;
-use mv_edge::memory_sink::MemorySink;
-use mv_edge::memory_source::MemorySource;
 use mv_edge::pace::NoPace;
 use mv_top::status::Status;
-use mv_top::top::top;
-use mv_values::list::List;
 use std::alloc::Global;
 use std::sync::Wait;
 use std::test::Fail;
@@ -40,41 +35,51 @@ fn front(count: usize) -> Result<&'static str, Fail> {
     Ok(str::from_utf8(&bytes[..n]).or(Err("no text"))?)
 }
 
-/// Checks that nothing is written by `run` to a sink whose first write fails.
-fn first_write_fails<R: Threads + Wait + Sync>(
+/// Reads and writes that fail, and what comes of it. The first read takes all, and the second finds the end.
+const EDGES: &[(Edges, (Status, &str))] = &[
+    ((&[0], &[], LENGTH), (Status::ReadFault, "")),
+    ((&[1], &[], LENGTH), (Status::ReadFault, "")),
+    ((&[], &[0], LENGTH), (Status::WriteFault, "")),
+    ((&[2], &[], LENGTH), (Status::Done, TEXT)),
+];
+
+fn run_ends<R: Threads + Wait + Sync>(
     rt: &R,
     alloc: Global,
     input: &[u8],
+    edges: Edges,
+    want: (Status, &str),
 ) -> Result<(), Fail> {
-    let mut bytes = List::new(alloc);
-    bytes.append(input)?;
-    let mut source = MemorySource::new(bytes, List::new(alloc));
-    let mut failing = List::new(alloc);
-    failing.push(0u64)?;
-    let mut sink = MemorySink::new(alloc, LENGTH, failing)?;
-    let mut words = Vec::new(alloc);
-    words.push(String::from_str(alloc, "run")?)?;
-    let status = top(rt, alloc, words.as_slice(), &mut source, &mut sink, &NoPace);
-    ensure(alloc, status == Status::WriteFault, "another status")?;
-    ensure(alloc, sink.written().is_empty(), "something is written")
+    runs_at(rt, alloc, &NoPace, &["run"], input, edges, want)
 }
 
 #[test]
 fn each_read_and_each_room(rt: HostRuntime) -> Result<(), Fail> {
     let input = joined(rt.alloc(), &[ADD, "CALL add(1, 5);"])?;
     let input = input.as_bytes();
-    // The first read takes all, and the second finds the end.
-    for read in 0..2u64 {
-        let want = (Status::ReadFault, "");
-        runs(&rt, rt.alloc(), &["run"], input, (&[read], LENGTH), want)?;
+    for (edges, want) in EDGES {
+        run_ends(&rt, rt.alloc(), input, *edges, *want)?;
     }
     for room in 0..LENGTH {
         let want = (Status::WriteFault, front(room)?);
-        runs(&rt, rt.alloc(), &["run"], input, (&[], room), want)?;
+        run_ends(&rt, rt.alloc(), input, (&[], &[], room), want)?;
     }
-    let want = (Status::Done, TEXT);
-    runs(&rt, rt.alloc(), &["run"], input, (&[2], LENGTH), want)?;
-    first_write_fails(&rt, rt.alloc(), input)?;
-    let want = (Status::WriteFault, "");
-    runs(&rt, rt.alloc(), &["runs"], input, (&[], 0), want)
+    Ok(())
+}
+
+/// Words, an input, the room for a line, and its front that is written.
+const LINES: &[(&[&str], &[u8], usize, &str)] = &[
+    (&["run"], b"x", 10, "refused 4 "),
+    (&[], b"", 5, "usage"),
+    (&["runs"], b"", 0, ""),
+];
+
+#[test]
+fn a_line_without_room(rt: HostRuntime) -> Result<(), Fail> {
+    for (words, input, room, front) in LINES {
+        let edges: Edges = (&[], &[], *room);
+        let want = (Status::WriteFault, *front);
+        runs_at(&rt, rt.alloc(), &NoPace, words, input, edges, want)?;
+    }
+    Ok(())
 }

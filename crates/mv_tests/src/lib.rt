@@ -4,13 +4,9 @@
 #[cfg(test)]
 mod attempts;
 #[cfg(test)]
-mod commands;
-#[cfg(test)]
 mod crews;
 #[cfg(test)]
 mod faults;
-#[cfg(test)]
-mod loads;
 #[cfg(test)]
 mod passes;
 #[cfg(test)]

@@ -3,7 +3,7 @@
 use mv_cases::ensure::ensure;
 use mv_edge::memory_sink::MemorySink;
 use mv_edge::memory_source::MemorySource;
-use mv_edge::pace::{NoPace, Pace};
+use mv_edge::pace::Pace;
 use mv_top::status::Status;
 use mv_top::top::top;
 use mv_values::list::List;
@@ -32,13 +32,22 @@ pub(crate) fn run_text(alloc: Global, parts: &[&str; 4]) -> Result<String, Fail>
     joined(alloc, &[front.as_str(), journal, tables, "end\n"])
 }
 
+/// The numbers of the reads that fail and of the writes that fail, and the room of the sink.
+pub(crate) type Edges = (&'static [u64], &'static [u64], usize);
+
+/// A source and a sink without faults, and enough room.
+pub(crate) const SOUND: Edges = (&[], &[], 1_000_000);
+
+fn listed<T: Copy>(alloc: Global, items: &[T]) -> Result<List<T>, NoMemory> {
+    let mut list = List::new(alloc);
+    list.append(items)?;
+    Ok(list)
+}
+
 /// Returns a source of these bytes. Its reads with these numbers fail.
 fn source(alloc: Global, input: &[u8], failing: &[u64]) -> Result<MemorySource, NoMemory> {
-    let mut bytes = List::new(alloc);
-    bytes.append(input)?;
-    let mut calls = List::new(alloc);
-    calls.append(failing)?;
-    Ok(MemorySource::new(bytes, calls))
+    let bytes = listed(alloc, input)?;
+    Ok(MemorySource::new(bytes, listed(alloc, failing)?))
 }
 
 fn strings(alloc: Global, words: &[&str]) -> Result<Vec<String>, Fail> {
@@ -47,11 +56,6 @@ fn strings(alloc: Global, words: &[&str]) -> Result<Vec<String>, Fail> {
         all.push(String::from_str(alloc, word)?)?;
     }
     Ok(all)
-}
-
-/// Returns a sink with this room.
-fn sink(alloc: Global, room: usize) -> Result<MemorySink, NoMemory> {
-    MemorySink::new(alloc, room, List::new(alloc))
 }
 
 /// Checks that this text was written to a sink.
@@ -63,81 +67,36 @@ fn wrote(alloc: Global, sink: &MemorySink, want: &str) -> Result<(), Fail> {
     Err(format!(in alloc; "{text} in place of {want}")?.into())
 }
 
-/// Checks that a run with these words on a source ends with this status, and writes this text to a sink with this room.
-fn runs_on<R: Threads + Wait + Sync>(
+/// Checks that a run with these words, a source and a sink ends with this status and writes this text.
+fn runs_on<R: Threads + Wait + Sync, P: Pace>(
     rt: &R,
     alloc: Global,
+    pace: &P,
     words: &[String],
     source: &mut MemorySource,
-    room: usize,
+    sink: &mut MemorySink,
     want: (Status, &str),
 ) -> Result<(), Fail> {
     let (status, text) = want;
-    let mut sink = sink(alloc, room)?;
-    let got = top(rt, alloc, words, source, &mut sink, &NoPace);
-    wrote(alloc, &sink, text)?;
+    let got = top(rt, alloc, words, source, sink, pace);
+    wrote(alloc, sink, text)?;
     ensure(alloc, got == status, "another status")
 }
 
-/// Checks that a run with these words on an input ends with this status and writes this text. The reads of the source
-/// with these numbers fail, and the sink has this room.
-pub(crate) fn runs<R: Threads + Wait + Sync>(
-    rt: &R,
-    alloc: Global,
-    words: &[&str],
-    input: &[u8],
-    edges: (&[u64], usize),
-    want: (Status, &str),
-) -> Result<(), Fail> {
-    let (failing, room) = edges;
-    let words = strings(alloc, words)?;
-    let mut source = source(alloc, input, failing)?;
-    runs_on(rt, alloc, words.as_slice(), &mut source, room, want)
-}
-
-/// Checks that a run with these words on an input gives this text, if its workers call this pace.
+/// Checks that a run with these words on an input ends with this status and writes this text, if its workers call this
+/// pace.
 pub(crate) fn runs_at<R: Threads + Wait + Sync, P: Pace>(
     rt: &R,
     alloc: Global,
     pace: &P,
     words: &[&str],
     input: &[u8],
-    want: &str,
+    edges: Edges,
+    want: (Status, &str),
 ) -> Result<(), Fail> {
+    let (reads, writes, room) = edges;
     let words = strings(alloc, words)?;
-    let mut source = source(alloc, input, &[])?;
-    let mut sink = sink(alloc, 1_000_000)?;
-    let got = top(rt, alloc, words.as_slice(), &mut source, &mut sink, pace);
-    wrote(alloc, &sink, want)?;
-    ensure(alloc, got == Status::Done, "another status")
-}
-
-/// A source without faults, and a sink with enough room.
-pub(crate) const SOUND: (&[u64], usize) = (&[], 1_000_000);
-
-/// Checks that a run with these words answers an input with this text, or refuses it with this line.
-pub(crate) fn tells<R: Threads + Wait + Sync>(
-    rt: &R,
-    alloc: Global,
-    words: &[&str],
-    input: &str,
-    want: &str,
-) -> Result<(), Fail> {
-    let status = if want.starts_with("refused ") {
-        Status::Refused
-    } else {
-        Status::Done
-    };
-    runs(rt, alloc, words, input.as_bytes(), SOUND, (status, want))
-}
-
-/// Checks that a command answers an input with this text, or refuses it with this line.
-pub(crate) fn answers<R: Threads + Wait + Sync>(
-    rt: &R,
-    alloc: Global,
-    command: &str,
-    input: &str,
-    want: &str,
-) -> Result<(), Fail> {
-    tells(rt, alloc, &[command], input, want)
+    let mut source = source(alloc, input, reads)?;
+    let mut sink = MemorySink::new(alloc, room, listed(alloc, writes)?)?;
+    runs_on(rt, alloc, pace, &words, &mut source, &mut sink, want)
 }
