@@ -13,11 +13,7 @@ mod collections;
 #[cfg(test)]
 mod edges;
 #[cfg(test)]
-mod graphs;
-#[cfg(test)]
 mod journals;
-#[cfg(test)]
-mod limits;
 #[cfg(test)]
 mod logs;
 #[cfg(test)]
@@ -28,10 +24,6 @@ mod parsing;
 mod prints;
 #[cfg(test)]
 mod readers;
-#[cfg(test)]
-mod reports;
-#[cfg(test)]
-mod scripts;
 #[cfg(test)]
 mod stores;
 #[cfg(test)]

@@ -1,4 +1,4 @@
-//! The tokens of short texts, and the faults of texts that have none.
+//! The tokens of short texts.
 
 use mv_lex::lexer::{LexFault, lex};
 use mv_lex::token::{Kind, Token};
@@ -158,27 +158,4 @@ fn tells_tokens(rt: HostRuntime) -> Result<(), LexFault> {
         assert!(rt; tokens.as_slice() == want);
     }
     Ok(())
-}
-
-const FAULTS: &[(&[u8], LexFault)] = &[
-    (
-        b"CREATE TABLE a (id INT, t TEXT(4), PRIMARY KEY (id)) VALUES (1, 'ab",
-        LexFault::BadToken { at: 64 },
-    ),
-    (&[128], LexFault::BadByte { at: 0 }),
-    (b"'a\x7f", LexFault::BadByte { at: 2 }),
-    (b"::", LexFault::BadToken { at: 0 }),
-    (b"a : b", LexFault::BadToken { at: 2 }),
-    (b"<<x", LexFault::BadToken { at: 0 }),
-    (b"'a''", LexFault::BadToken { at: 3 }),
-    (b"'a\n'", LexFault::BadToken { at: 0 }),
-    (b"1 | 2", LexFault::BadToken { at: 2 }),
-];
-
-#[test]
-fn tells_faults(rt: HostRuntime) {
-    for case in FAULTS {
-        let (bytes, want) = *case;
-        assert!(rt; lex(rt.alloc(), bytes).err() == Some(want));
-    }
 }

@@ -1,8 +1,6 @@
 //! Scripts of TPC-C. Their lengths and checksums are those of another generator of the same rules, in another language.
-//! Those of the prints are of another printer too.
 
-ghost use Rattle.mv_tpccgen.specs.Loads.{IsLoad};
-
+use crate::cases::ensure_at;
 use crate::parsing::read;
 use mv_cases::ensure::ensure;
 use mv_lex::lexer::lex;
@@ -11,7 +9,6 @@ use mv_print::print::print_script;
 use mv_tpccgen::load::Load;
 use mv_tpccgen::workload::workload;
 use mv_values::list::List;
-use mv_values::memory::NoMemory;
 use rand_core::{Rng, SeedableRng};
 use rand_xoshiro::SplitMix64;
 use std::alloc::Global;
@@ -26,11 +23,21 @@ fn checksum(text: &[u8]) -> u64 {
     sum
 }
 
-fn has_script(alloc: Global, load: &Load, len: usize, sum: u64) -> Result<bool, NoMemory>
-    requires { IsLoad load.now }
-{
-    let text = workload(alloc, load)?;
-    Ok(text.len() == len && checksum(text.as_slice()) == sum)
+/// The warehouses, the calls and the seed of a load.
+type Size = [u32; 3];
+
+/// Returns the script of a load.
+fn script_of(alloc: Global, size: Size) -> Result<List<u8>, Fail> {
+    let [warehouses, calls, seed] = size;
+    if 1 <= warehouses && warehouses <= 16 && calls <= 40000 {
+        let load = Load {
+            warehouses,
+            calls,
+            seed,
+        };
+        return Ok(workload(alloc, &load)?);
+    }
+    Err("no load".into())
 }
 
 #[test]
@@ -39,50 +46,22 @@ fn the_first_word_of_seed_0_is_that_of_splitmix(rt: HostRuntime) -> Result<(), F
     ensure(rt.alloc(), word == 16294208416658607535, "another word")
 }
 
-#[test]
-fn a_script_without_calls_is_as_wanted(rt: HostRuntime) -> Result<(), Fail> {
-    let load = Load {
-        warehouses: 1,
-        calls: 0,
-        seed: 1,
-    };
-    let holds = has_script(rt.alloc(), &load, 166098, 11195466886804463731)?;
-    ensure(rt.alloc(), holds, "another script")
-}
+/// Loads, with the length and the checksum of the script of each.
+const SCRIPTS: &[(Size, usize, u64)] = &[
+    ([1, 0, 1], 166098, 11195466886804463731),
+    ([1, 200, 1], 186083, 15529427947088743055),
+    ([2, 50, 0], 306356, 3231245174657665368),
+    ([16, 20, 4294967295], 2255567, 15295057820516949230),
+];
 
 #[test]
-fn a_script_for_one_warehouse_is_as_wanted(rt: HostRuntime) -> Result<(), Fail> {
-    let load = Load {
-        warehouses: 1,
-        calls: 200,
-        seed: 1,
-    };
-    let holds = has_script(rt.alloc(), &load, 186083, 15529427947088743055)?;
-    ensure(rt.alloc(), holds, "another script")
-}
-
-#[test]
-fn a_script_for_two_warehouses_is_as_wanted(rt: HostRuntime) -> Result<(), Fail> {
-    let load = Load {
-        warehouses: 2,
-        calls: 50,
-        seed: 0,
-    };
-    let holds = has_script(rt.alloc(), &load, 306356, 3231245174657665368)?;
-    ensure(rt.alloc(), holds, "another script")
-}
-
-#[test]
-fn a_script_for_most_warehouses_and_the_largest_seed_is_as_wanted(
-    rt: HostRuntime,
-) -> Result<(), Fail> {
-    let load = Load {
-        warehouses: 16,
-        calls: 20,
-        seed: 4294967295,
-    };
-    let holds = has_script(rt.alloc(), &load, 2255567, 15295057820516949230)?;
-    ensure(rt.alloc(), holds, "another script")
+fn scripts_are_as_wanted(rt: HostRuntime) -> Result<(), Fail> {
+    for (i, (size, len, sum)) in SCRIPTS.iter().enumerate() {
+        let text = script_of(rt.alloc(), *size)?;
+        let holds = text.len() == *len && checksum(text.as_slice()) == *sum;
+        ensure_at(rt.alloc(), holds, i)?;
+    }
+    Ok(())
 }
 
 /// Returns the print of a script.
@@ -129,40 +108,23 @@ fn have_same_tokens(alloc: Global, one: &[u8], other: &[u8]) -> Result<(), Fail>
     Ok(())
 }
 
-/// Checks the length and the checksum of the print of a load's script, that it has the tokens of the script, and that it
-/// is its own print.
-fn prints(alloc: Global, load: &Load, len: usize, sum: u64) -> Result<(), Fail>
-    requires { IsLoad load.now }
-{
-    let script = workload(alloc, load)?;
-    let print = print_of(alloc, script.as_slice())?;
-    let is_wanted = print.len() == len && checksum(print.as_slice()) == sum;
-    ensure(alloc, is_wanted, "another print")?;
-    have_same_tokens(alloc, script.as_slice(), print.as_slice())?;
+/// Checks that the print of a script has its tokens, and that it is its own print.
+fn prints(alloc: Global, script: &[u8]) -> Result<(), Fail> {
+    let print = print_of(alloc, script)?;
+    have_same_tokens(alloc, script, print.as_slice())?;
     let again = print_of(alloc, print.as_slice())?;
-    ensure(
-        alloc,
-        again.as_slice() == print.as_slice(),
-        "another print of the print",
-    )
+    let holds = again.as_slice() == print.as_slice();
+    ensure(alloc, holds, "another print of the print")
 }
 
-#[test]
-fn a_script_for_one_warehouse_is_printed(rt: HostRuntime) -> Result<(), Fail> {
-    let load = Load {
-        warehouses: 1,
-        calls: 200,
-        seed: 1,
-    };
-    prints(rt.alloc(), &load, 191868, 8230893351668217303)
-}
+/// Loads whose scripts are printed. The built program writes these prints.
+const PRINTED: &[Size] = &[[1, 200, 1], [2, 50, 0]];
 
 #[test]
-fn a_script_for_two_warehouses_is_printed(rt: HostRuntime) -> Result<(), Fail> {
-    let load = Load {
-        warehouses: 2,
-        calls: 50,
-        seed: 0,
-    };
-    prints(rt.alloc(), &load, 308026, 11272585219676520024)
+fn scripts_are_printed(rt: HostRuntime) -> Result<(), Fail> {
+    for size in PRINTED {
+        let script = script_of(rt.alloc(), *size)?;
+        prints(rt.alloc(), script.as_slice())?;
+    }
+    Ok(())
 }

@@ -40,7 +40,7 @@ fn are_printable(bytes: &[u8]) -> bool
 }
 
 /// Returns the text of these bytes if they are printable, and else the empty text.
-pub(crate) fn txt(alloc: Global, text: &str) -> Result<Txt, NoMemory> {
+fn txt(alloc: Global, text: &str) -> Result<Txt, NoMemory> {
     let bytes = text.as_bytes();
     if are_printable(bytes) {
         Txt::of(alloc, bytes)

@@ -7,9 +7,9 @@ ghost use Rattle.mv_record.specs.Admitting.{Admitted};
 ghost use Rattle.mv_view.specs.Viewing.{with_row_call};
 
 use crate::cases::ensure_at;
-use crate::reports::accounts;
 use crate::values::row;
 use mv_cases::ensure::ensure;
+use mv_record::applying::put_row;
 use mv_store::store::Store;
 use mv_store::view::StoreView;
 use mv_table::scan::Direction;
@@ -17,7 +17,8 @@ use mv_values::list::List;
 use mv_values::memory::NoMemory;
 use mv_values::op::Op;
 use mv_values::pred::{Pred, Test};
-use mv_values::rows::{Database, Keyed};
+use mv_values::rows::{Database, Keyed, Rows};
+use mv_values::txt::Txt;
 use mv_values::value::{Key, Row, Value};
 use mv_view::key_set::KeySet;
 use mv_view::plain::Plain;
@@ -25,9 +26,23 @@ use mv_view::view::View;
 use std::alloc::Global;
 use std::test::Fail;
 
+/// The numbers and the balances of the accounts.
+const ACCOUNTS: &[(i64, i64)] = &[(0, 0), (1, 100), (2, 100), (3, 100), (4, 100)];
+
+fn accounts(alloc: Global) -> Result<Rows, NoMemory> {
+    let mut rows = Rows::new(alloc);
+    for (id, balance) in ACCOUNTS {
+        let key = row(alloc, &[*id])?;
+        let mut account = row(alloc, &[*id, *balance])?;
+        account.push(Value::Text(Txt::new(alloc)))?;
+        put_row(alloc, &mut rows, &key, Some(account))?;
+    }
+    Ok(rows)
+}
+
 fn database(alloc: Global) -> Result<Database, NoMemory> {
     let mut tables = List::new(alloc);
-    tables.push(accounts(alloc, 100)?)?;
+    tables.push(accounts(alloc)?)?;
     Ok(tables)
 }
 
