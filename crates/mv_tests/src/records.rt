@@ -16,7 +16,7 @@ use mv_exec::ahead::Ahead;
 use mv_exec::running::{adopt, peek};
 use mv_exec::step::Stepped;
 use mv_exec::task::Task;
-use mv_graph::graph::Graph;
+use mv_graph::graph::{Edges, Graph};
 use mv_log::record_ref::RecordRef;
 use mv_log::records::Records;
 use mv_log::var_read::VarRead;
@@ -43,6 +43,13 @@ const BACK: &str = "
 END;
 CALL p(ROWS ((9, 1), (4, 2)));
 ";
+
+/// What a statement has to do with another that isn't there.
+const NO_EDGES: Edges = Edges {
+    control: false,
+    variable: false,
+    table: false,
+};
 
 /// Statements, and the records that they leave. A record has the number of its statement with the turns around it, the
 /// record that holds it, each variable that it reads with the record that set it, how many predicates it has, what it
@@ -464,6 +471,12 @@ fn accepted(alloc: Global, script: &str) -> Result<Program, Fail>
     Ok(accept(alloc, script.as_bytes()).or(Err("refused"))?)
 }
 
+/// Whether a graph has an edge from a statement before the first one, or to one after the last.
+fn has_edges_outside(graph: &Graph) -> bool {
+    let last = graph.nodes.len().min(1000) as u16;
+    graph.edge(0, 1) != NO_EDGES || graph.edge(last, last.saturating_add(1)) != NO_EDGES
+}
+
 fn check_only(alloc: Global, program: &Program, graphs: &[Graph], want: &str) -> Result<(), Fail>
     requires sound { All IsSound graphs.now }
     requires databases { All (λ graph. IsDatabaseOf graph.tables program.now.opening) graphs.now }
@@ -472,6 +485,7 @@ fn check_only(alloc: Global, program: &Program, graphs: &[Graph], want: &str) ->
     let ([graph], [call]) = (graphs, calls) else {
         return Err("no call".into());
     };
+    ensure(alloc, !has_edges_outside(graph), "an edge to no statement")?;
     if call.arguments.len() != graph.procedure.params.len() {
         return Err("another number of arguments".into());
     }
