@@ -1,4 +1,4 @@
-//! Tests of whole scripts. They go through all crates, by public calls alone. The crate has nothing else.
+//! Tests of whole runs that no text shows. They go through all crates, by public calls alone. The crate has nothing else.
 #![tactic(auto)]
 
 #[cfg(test)]
@@ -7,11 +7,5 @@ mod attempts;
 mod crews;
 #[cfg(test)]
 mod faults;
-#[cfg(test)]
-mod passes;
-#[cfg(test)]
-mod records;
-#[cfg(test)]
-mod walks;
 #[cfg(test)]
 mod whole;

@@ -98,5 +98,13 @@ pub(crate) fn runs_at<R: Threads + Wait + Sync, P: Pace>(
     let words = strings(alloc, words)?;
     let mut source = source(alloc, input, reads)?;
     let mut sink = MemorySink::new(alloc, room, listed(alloc, writes)?)?;
-    runs_on(rt, alloc, pace, &words, &mut source, &mut sink, want)
+    runs_on(
+        rt,
+        alloc,
+        pace,
+        words.as_slice(),
+        &mut source,
+        &mut sink,
+        want,
+    )
 }

@@ -21,9 +21,13 @@ mod own_writes;
 #[cfg(test)]
 mod parsing;
 #[cfg(test)]
+mod passes;
+#[cfg(test)]
 mod prints;
 #[cfg(test)]
 mod readers;
+#[cfg(test)]
+mod records;
 #[cfg(test)]
 mod stores;
 #[cfg(test)]
@@ -36,3 +40,5 @@ mod tpcc;
 mod values;
 #[cfg(test)]
 mod views;
+#[cfg(test)]
+mod walks;
