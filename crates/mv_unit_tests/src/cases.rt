@@ -18,11 +18,3 @@ pub(crate) fn between(alloc: Global, front: &str, text: &str, back: &str) -> Res
     all.push_str(back)?;
     Ok(all)
 }
-
-/// Adds a text this many times at the end of another.
-pub(crate) fn repeat(text: &mut String, part: &str, count: u32) -> Result<(), Fail> {
-    for _ in 0..count {
-        text.push_str(part)?;
-    }
-    Ok(())
-}

@@ -16,15 +16,10 @@ use std::alloc::Global;
 use std::test::Fail;
 
 /// A row of two numbers.
-#[derive(Clone, Copy)]
-struct Numbers {
-    first: i64,
-    second: i64,
-}
+type Numbers = [i64; 2];
 
 type Plain = Option<Numbers>;
 
-#[derive(Clone, Copy)]
 enum Change {
     Insert(Numbers),
     Set(u8, i64),
@@ -32,38 +27,35 @@ enum Change {
 }
 
 fn with_column(row: Numbers, column: u8, number: i64) -> Numbers {
-    let Numbers { first, second } = row;
+    let [first, second] = row;
     if column == 0 {
-        Numbers {
-            first: number,
-            second,
-        }
+        [number, second]
     } else {
-        Numbers {
-            first,
-            second: number,
-        }
+        [first, number]
     }
 }
 
-fn changed(change: Change, was: Plain) -> Plain {
+fn changed(change: &Change, was: Plain) -> Plain {
     match change {
-        Change::Insert(row) => Some(row),
+        Change::Insert(row) => Some(*row),
         Change::Set(column, number) => match was {
-            Some(row) => Some(with_column(row, column, number)),
+            Some(row) => Some(with_column(row, *column, *number)),
             None => None,
         },
         Change::Delete => None,
     }
 }
 
-fn patch_of(alloc: Global, change: Change) -> Result<Patch, NoMemory> {
+fn patch_of(alloc: Global, change: &Change) -> Result<Patch, NoMemory> {
     match change {
-        Change::Insert(numbers) => Ok(Patch::Insert(row(alloc, &[numbers.first, numbers.second])?)),
+        Change::Insert(numbers) => Ok(Patch::Insert(row(alloc, numbers)?)),
         Change::Set(column, number) => {
-            let value = Value::Int(number);
+            let value = Value::Int(*number);
             let mut items = List::new(alloc);
-            items.push(Assign { column, value })?;
+            items.push(Assign {
+                column: *column,
+                value,
+            })?;
             Ok(Patch::Set(items))
         }
         Change::Delete => Ok(Patch::Delete),
@@ -92,10 +84,7 @@ fn any_change(random: &mut SplitMix64) -> Change {
     let number = byte(random) as i64;
     match byte(random) % 6 {
         0 => Change::Delete,
-        1 => Change::Insert(Numbers {
-            first: number,
-            second: 0,
-        }),
+        1 => Change::Insert([number, 0]),
         2 | 3 => Change::Set(0, number),
         _ => Change::Set(1, number),
     }
@@ -109,7 +98,7 @@ fn newest(rows: &[Plain]) -> Plain {
 }
 
 fn put(alloc: Global, history: &mut History, call: u32, change: Change) -> Result<(), Fail> {
-    history.chain.put(call, patch_of(alloc, change)?)?;
+    history.chain.put(call, patch_of(alloc, &change)?)?;
     history.own.push((call, change))?;
     Ok(())
 }
@@ -118,7 +107,7 @@ fn stamp(history: &mut History, call: u32) -> Result<(), Fail> {
     let mut row = newest(history.rows.as_slice());
     for (of, change) in history.own.as_slice() {
         if *of == call {
-            row = changed(*change, row);
+            row = changed(change, row);
         }
     }
     let n = number(history.rows.len());
@@ -151,9 +140,7 @@ fn step(alloc: Global, history: &mut History, random: &mut SplitMix64) -> Result
 
 fn has_numbers(row: &Row, numbers: Numbers) -> bool {
     match row.as_slice() {
-        [Value::Int(first), Value::Int(second)] => {
-            *first == numbers.first && *second == numbers.second
-        }
+        [Value::Int(first), Value::Int(second)] => { *first == numbers[0] && *second == numbers[1] }
         _ => false,
     }
 }
@@ -190,10 +177,7 @@ fn reads_all(alloc: Global, history: &History) -> Result<bool, NoMemory> {
 fn goes_right(alloc: Global, seed: u64) -> Result<bool, Fail> {
     let mut random = SplitMix64::seed_from_u64(seed);
     let mut rows = Vec::new(alloc);
-    rows.push(Some(Numbers {
-        first: 1,
-        second: 2,
-    }))?;
+    rows.push(Some([1, 2]))?;
     let mut history = History {
         chain: Chain::new(alloc, Some(row(alloc, &[1, 2])?)),
         rows,

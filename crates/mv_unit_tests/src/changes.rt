@@ -49,27 +49,26 @@ fn database(alloc: Global, keys: &[i64]) -> Result<Database, NoMemory>
 }
 
 /// A write: of the second column, of a whole row, or a delete.
-#[derive(Clone, Copy)]
 enum Kind {
     Set(i64),
     Insert(i64),
     Delete,
 }
 
-fn patch(alloc: Global, n: i64, kind: Kind) -> Result<Patch, NoMemory> {
+fn patch(alloc: Global, n: i64, kind: &Kind) -> Result<Patch, NoMemory> {
     match kind {
         Kind::Set(number) => {
-            let value = Value::Int(number);
+            let value = Value::Int(*number);
             let mut items = List::new(alloc);
             items.push(Assign { column: 1, value })?;
             Ok(Patch::Set(items))
         }
-        Kind::Insert(number) => Ok(Patch::Insert(row(alloc, &[n, number, 0])?)),
+        Kind::Insert(number) => Ok(Patch::Insert(row(alloc, &[n, *number, 0])?)),
         Kind::Delete => Ok(Patch::Delete),
     }
 }
 
-fn write(alloc: Global, table: u8, n: i64, kind: Kind) -> Result<Write, NoMemory> {
+fn write(alloc: Global, table: u8, n: i64, kind: &Kind) -> Result<Write, NoMemory> {
     let key = row(alloc, &[n])?;
     let patch = patch(alloc, n, kind)?;
     Ok(Write { table, key, patch })
@@ -123,7 +122,7 @@ fn told(change: &Change) -> Told {
 /// Writes a record into the log with these writes alone.
 fn writing(alloc: Global, log: &mut Log) -> Result<(), NoMemory> {
     for (table, n, kind) in WRITTEN {
-        log.push_write(write(alloc, *table, *n, *kind)?)?;
+        log.push_write(write(alloc, *table, *n, kind)?)?;
     }
     log.close(1, None)
 }
@@ -254,7 +253,7 @@ const CASES: &[Case] = &[
 
 /// Returns the writes of a call whose first record wrote key 1.
 fn own(alloc: Global) -> Result<Undo, NoMemory> {
-    let write = write(alloc, 0, 1, Kind::Set(1))?;
+    let write = write(alloc, 0, 1, &Kind::Set(1))?;
     let mut undo = Undo::new(alloc);
     undo.push(0, write)?;
     Ok(undo)

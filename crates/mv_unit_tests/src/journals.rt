@@ -10,23 +10,17 @@ use mv_values::memory::NoMemory;
 use std::alloc::Global;
 use std::test::Fail;
 
-/// How a journal is read: the text of its events, or the number of the first bad line.
-#[derive(Drop)]
-enum Read {
-    Events(List<u8>),
-    Bad(u32),
-}
-
-fn read_and_written(alloc: Global, bytes: &[u8]) -> Result<Read, NoMemory>
+/// Returns the text of the events of a journal, or the number of its first bad line.
+fn read_and_written(alloc: Global, bytes: &[u8]) -> Result<Result<List<u8>, u32>, NoMemory>
     requires { length bytes.now < 2 ^ 32 }
 {
     match read_journal(alloc, bytes) {
         Ok(events) => {
             let mut text = List::new(alloc);
             write_journal(&events, &mut text)?;
-            Ok(Read::Events(text))
+            Ok(Ok(text))
         }
-        Err(LineFault::Line { n }) => Ok(Read::Bad(n)),
+        Err(LineFault::Line { n }) => Ok(Err(n)),
         Err(LineFault::NoMemory) => Err(NoMemory),
     }
 }
@@ -58,8 +52,8 @@ fn is_read_as(alloc: Global, bytes: &[u8], want: Result<&[u8], u32>) -> Result<b
         return Err("a long journal".into());
     }
     match (read_and_written(alloc, bytes)?, want) {
-        (Read::Events(text), Ok(want)) => Ok(text.as_slice() == want),
-        (Read::Bad(n), Err(want)) => Ok(n == want),
+        (Ok(text), Ok(want)) => Ok(text.as_slice() == want),
+        (Err(n), Err(want)) => Ok(n == want),
         _ => Ok(false),
     }
 }

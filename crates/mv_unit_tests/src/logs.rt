@@ -18,7 +18,6 @@ use std::alloc::Global;
 use std::test::Fail;
 
 /// What is done to a log.
-#[derive(Clone, Copy)]
 enum Step {
     Turn(u32),
     Read(u16, Option<u32>),
@@ -158,29 +157,29 @@ fn adopt(log: &mut Log, old: u32, statement: u16, parent: Option<u32>) -> Result
     Ok(log.adopt(old, statement, parent)?)
 }
 
-fn push(alloc: Global, log: &mut Log, step: Step) -> Result<(), Fail> {
+fn push(alloc: Global, log: &mut Log, step: &Step) -> Result<(), Fail> {
     match step {
-        Step::Turn(turn) => Ok(log.push_turn(turn)?),
-        Step::Read(slot, definer) => Ok(log.push_read(VarRead::of(slot, definer))?),
+        Step::Turn(turn) => Ok(log.push_turn(*turn)?),
+        Step::Read(slot, definer) => Ok(log.push_read(VarRead::of(*slot, *definer))?),
         Step::Set(slot, number) => Ok(log.push_set(Slot {
-            slot,
-            value: Value::Int(number),
+            slot: *slot,
+            value: Value::Int(*number),
         })?),
-        Step::Ask(table, number) => ask(log, table, number),
-        Step::Row(number) => Ok(log.push_row(row(alloc, &[number])?)?),
-        Step::Write(number) => delete(alloc, log, number),
+        Step::Ask(table, number) => ask(log, *table, *number),
+        Step::Row(number) => Ok(log.push_row(row(alloc, &[*number])?)?),
+        Step::Write(number) => delete(alloc, log, *number),
         _ => Ok(()),
     }
 }
 
-fn take_step(alloc: Global, log: &mut Log, step: Step) -> Result<(), Fail> {
+fn take_step(alloc: Global, log: &mut Log, step: &Step) -> Result<(), Fail> {
     match step {
-        Step::Close(statement, parent) => Ok(log.close(statement, parent)?),
-        Step::Print(statement) => print_line(alloc, log, statement),
-        Step::End(statement) => end_call(log, statement),
-        Step::Adopt(old, statement, parent) => adopt(log, old, statement, parent),
+        Step::Close(statement, parent) => Ok(log.close(*statement, *parent)?),
+        Step::Print(statement) => print_line(alloc, log, *statement),
+        Step::End(statement) => end_call(log, *statement),
+        Step::Adopt(old, statement, parent) => adopt(log, *old, *statement, *parent),
         Step::Truncate(len) => {
-            log.truncate(len);
+            log.truncate(*len);
             Ok(())
         }
         Step::Clear => {
@@ -201,7 +200,7 @@ fn take_step(alloc: Global, log: &mut Log, step: Step) -> Result<(), Fail> {
 
 fn take_steps(alloc: Global, log: &mut Log, list: &[Step]) -> Result<(), Fail> {
     for it in list {
-        take_step(alloc, log, *it)?;
+        take_step(alloc, log, it)?;
     }
     Ok(())
 }

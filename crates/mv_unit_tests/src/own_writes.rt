@@ -123,7 +123,6 @@ fn writes_of_later_records_are_dropped(rt: HostRuntime) -> Result<(), Fail> {
 }
 
 /// What a write does: insert a row with these values after its key, set a column, or delete the row.
-#[derive(Clone, Copy)]
 enum Kind {
     Insert(i64, i64),
     Set(u8, i64),
@@ -174,13 +173,16 @@ const SEEN: &[Numbers] = &[
     ],
 ];
 
-fn patch_of(alloc: Global, n: i64, kind: Kind) -> Result<Patch, NoMemory> {
+fn patch_of(alloc: Global, n: i64, kind: &Kind) -> Result<Patch, NoMemory> {
     match kind {
-        Kind::Insert(first, second) => Ok(Patch::Insert(row(alloc, &[n, first, second])?)),
+        Kind::Insert(first, second) => Ok(Patch::Insert(row(alloc, &[n, *first, *second])?)),
         Kind::Set(column, number) => {
-            let value = Value::Int(number);
+            let value = Value::Int(*number);
             let mut items = List::new(alloc);
-            items.push(Assign { column, value })?;
+            items.push(Assign {
+                column: *column,
+                value,
+            })?;
             Ok(Patch::Set(items))
         }
         Kind::Delete => Ok(Patch::Delete),
@@ -196,7 +198,7 @@ fn push_from(alloc: Global, undo: &mut Undo, from: usize) -> Result<(), Fail> {
         let write = Write {
             table: 0,
             key: row(alloc, &[*n])?,
-            patch: patch_of(alloc, *n, *kind)?,
+            patch: patch_of(alloc, *n, kind)?,
         };
         push_write(undo, *number, write)?;
     }
@@ -293,7 +295,7 @@ fn push_numbers(alloc: Global, undo: &mut Undo, from: u32, to: u32) -> Result<()
         let write = Write {
             table: 0,
             key: row(alloc, &[1])?,
-            patch: patch_of(alloc, 1, Kind::Insert(number as i64, 0))?,
+            patch: patch_of(alloc, 1, &Kind::Insert(number as i64, 0))?,
         };
         push_write(undo, number as usize, write)?;
     }
