@@ -20,6 +20,7 @@ type Numbers = [i64; 2];
 
 type Plain = Option<Numbers>;
 
+#[derive(Clone, Copy)]
 enum Change {
     Insert(Numbers),
     Set(u8, i64),

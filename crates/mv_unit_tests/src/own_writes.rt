@@ -295,7 +295,7 @@ fn push_numbers(alloc: Global, undo: &mut Undo, from: u32, to: u32) -> Result<()
         let write = Write {
             table: 0,
             key: row(alloc, &[1])?,
-            patch: patch_of(alloc, 1, &Kind::Insert(number as i64, 0))?,
+            patch: Patch::Insert(row(alloc, &[1, number as i64, 0])?),
         };
         push_write(undo, number as usize, write)?;
     }
