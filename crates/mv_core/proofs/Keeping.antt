@@ -21,7 +21,7 @@ use Rattle.mv_core.specs.declared.book.Begun.{Begun}
 use Rattle.mv_core.specs.declared.book.Book.TheInside.{Inside}
 use Rattle.mv_core.specs.contracts.book.Book.{the_view}
 use Rattle.mv_core.specs.Rooms.{Filled}
-use Rattle.mv_script.specs.Scripts.{work_of}
+use Rattle.mv_script.specs.Scripts.{IsScript, work_of}
 use Rattle.mv_core.specs.Calls.{WithinRounds, turn_of, turns_in, live_of, IsLive, IsLiveCall, numbered, last_number, closed, counted, uncounted, due_number, committed, with_own, AreRounds, IsReply, TellsBy, TellsCall, IsFresh}
 use Rattle.mv_core.specs.Books.{Booked, IsBookKept, IsSame, work_in, kept_rounds, Made, HasBegun, HasRoom, HasRounds, IsSettled, BeginsRound, IsMissing, IsOwnBy, round_event, commit_event}
 use Rattle.mv_core.proofs.Numbers.{turns_numbered, turns_closed, last_numbered, table_stays, rounds_stay, last_of_end, closes, settled, settles, rounds_end, rounds_begun}
@@ -62,7 +62,7 @@ pub kept_event : (s : Script) (course new : Course) (ps qs : List Progress) (jou
     → ((c : ℕ) (p : Progress) → slice_get qs c ≡ Some p → TellsCall (work_of s) new.order new.answered c p)
     → IsBookKept s new qs longer
 kept_event s course new ps qs journal longer e k free is adds tells = record {
-  few = k.few;
+  script = k.script;
   allowed = subst (λ (es : List Event). AllAllowed (work_of s) beginning es) (sym adds) (allowed_more (work_of s) beginning journal e k.allowed (subst (λ (x : Course). refusal (work_of s) x e ≡ None) k.reaches free));
   reaches = is ∙ (ap (λ x. after (work_of s) x e) k.reaches ∙ (sym (reach_more (work_of s) beginning journal e) ∙ ap (reach (work_of s) beginning) (sym adds)));
   tells = tells;
@@ -129,7 +129,7 @@ kept_same s order orders low answered answers c ps journal same p q k o a j at n
     subst (λ (x : List ℕ). IsBookKept s (the_course x low answers (map live_of (slice_set ps c q))) (slice_set ps c q) same) (sym o)
     (subst (λ (x : List ℕ). IsBookKept s (the_course order low x (map live_of (slice_set ps c q))) (slice_set ps c q) same) (sym a)
     (subst (λ (x : List Event). IsBookKept s (the_course order low answered (map live_of (slice_set ps c q))) (slice_set ps c q) x) (sym j) (record {
-      few = k.few;
+      script = k.script;
       allowed = k.allowed;
       reaches = ap (the_course order low answered) (same_calls ps c p q at new) ∙ k.reaches;
       tells = λ d x there. by d x (get_set ps c d q x there);
@@ -209,11 +209,14 @@ kept_answer s order low answered answers c ps journal longer p q reply k free mo
 abbrev pub IsInside : Inside → Type 0
 IsInside i = IsBookKept i.script (the_course i.order.items i.low i.answered.items (map live_of i.calls.items)) i.calls.items i.journal.items
 
+pub script_seen : (i : Inside) (old : Booked) → the_view i ≡ old → IsInside i → IsScript old.script
+script_seen i old is k = subst (λ (b : Booked). IsScript b.script) is k.script
+
 pub few_inside : (i : Inside) → IsInside i → length i.order.items < 2 ^ 32
 few_inside i k =
     let f : Facts (work_of i.script) (length i.journal.items) (the_course i.order.items i.low i.answered.items (map live_of i.calls.items)) = facts i.script _ i.calls.items i.journal.items k in
     let le : done_in (map live_of i.calls.items) ≤ length (map live_of i.calls.items) = done_within _ in
-    omega (arith, le, k.few, f.count, f.done)
+    omega (arith, le, k.script.1.few, f.count, f.done)
 
 -- a live call, as it is kept
 pub record IsProgressAt (ps : List Progress) (c : ℕ) (l : Live) (p : Progress) : Type 0 where
@@ -266,7 +269,7 @@ number_fits i old c is k live =
     let h = at_call i old c live.0 is live.1 in
     let f : Facts (work_of i.script) (length i.journal.items) (the_course i.order.items i.low i.answered.items (map live_of i.calls.items)) = facts i.script _ i.calls.items i.journal.items k in
     let lt : done_in (map live_of i.calls.items) < length (map live_of i.calls.items) = done_below _ c (live_of h.0) (live_here i.calls.items c h.0 h.1.at) (ap is_some h.1.going) in
-    omega (arith, lt, k.few, f.count, f.done)
+    omega (arith, lt, k.script.1.few, f.count, f.done)
 
 pub steps_fit : (i : Inside) (c : ℕ) (p : Progress) → IsInside i → slice_get i.calls.items c ≡ Some p → p.steps ≤ length i.journal.items
 steps_fit i c p k at = let f = facts i.script _ i.calls.items i.journal.items k in (f.each c (live_of p) (live_here i.calls.items c p at)).steps

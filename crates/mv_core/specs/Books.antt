@@ -1,6 +1,6 @@
 -- Defines the contents of a book, and how events change it. The law of journals says which events are allowed. This
 -- project's own.
-use Rattle.std.specs.Prelude.{◌≡◌, ◌⊎◌, ◌<◌, ◌≤◌, ◌+◌, ◌^◌, ℕ, max, true, false, List, [], ◌∷◌, ◌++◌, Option, Some, None, Result, Ok, Err, length, slice_get, IsSome}
+use Rattle.std.specs.Prelude.{◌≡◌, ◌⊎◌, ◌<◌, ◌≤◌, ◌+◌, ℕ, max, true, false, List, [], ◌∷◌, ◌++◌, Option, Some, None, Result, Ok, Err, length, slice_get, IsSome}
 use Rattle.std.specs.Option.{ForSome, option_map}
 use Rattle.mv_values.specs.declared.memory.NoMemory.{NoMemory}
 use Rattle.mv_values.specs.Tables.{Tables}
@@ -27,7 +27,7 @@ use Rattle.mv_core.specs.declared.book.Begun.{Begun}
 use Rattle.mv_core.specs.declared.book.Check.{Check}
 use Rattle.mv_core.specs.declared.book.Check.TheVariants.{Free, Hit, Stale}
 use Rattle.mv_core.specs.Rooms.{Filled}
-use Rattle.mv_script.specs.Scripts.{work_of}
+use Rattle.mv_script.specs.Scripts.{IsScript, work_of}
 use Rattle.mv_core.specs.Lives.{live_numbers}
 use Rattle.mv_core.specs.Calls.{IsLive, IsLiveCall, AreRounds, TellsCall, turns_in, last_number, due_number}
 
@@ -57,9 +57,10 @@ rounds_at b c = option_map kept_rounds (slice_get b.rounds c)
 abbrev pub IsSettled : Booked → ℕ → Type 0
 IsSettled b c = ForSome (rounds_at b c) (λ rs. IsSome (last_number rs))
 
--- no event of the journal is refused, the course is what they come to, and each call has its rounds and its reply
+-- the script is of one piece, no event of the journal is refused, the course is what they come to, and each call has its
+-- rounds and its reply
 pub record IsBookKept (s : Script) (course : Course) (calls : List Progress) (journal : List Event) : Type 0 where
-  pub few : length s.calls < 2 ^ 32
+  pub script : IsScript s
   pub allowed : AllAllowed (work_of s) beginning journal
   pub reaches : course ≡ course_of (work_of s) journal
   pub tells : (c : ℕ) (p : Progress) → slice_get calls c ≡ Some p → TellsCall (work_of s) course.order course.answered c p

@@ -1,6 +1,6 @@
 //! The history of a run: its events, and their outcome so far.
 
-ghost use Rattle.std.specs.Prelude.{◌≡◌, ◌<◌, ◌≤◌, ◌+◌, ◌++◌, ◌∷◌, ◌^◌, ◌≢◌, ◌↔◌, [], None, Some, length, map, IsTrue, IfOk, IfErr, IfSome, IfNone, OnOk};
+ghost use Rattle.std.specs.Prelude.{◌≡◌, ◌<◌, ◌≤◌, ◌+◌, ◌++◌, ◌∷◌, ◌≢◌, ◌↔◌, [], None, Some, length, map, IsTrue, IfOk, IfErr, IfSome, IfNone, OnOk};
 ghost use Rattle.std.specs.Option.{option_copied};
 ghost use Rattle.mv_values.specs.Counts.{first_numbers};
 ghost use Rattle.mv_lawful.specs.Work.{since};
@@ -100,7 +100,7 @@ impl Model for Book {
 impl Book {
     /// Returns a history without events. It allocates no memory.
     pub fn new(alloc: Global, script: SharedScript) -> Book
-        requires { length script.calls < 2 ^ 32 }
+        requires { IsScript script }
         ensures script { result.script ≡ script }
         ensures course { result.course ≡ beginning }
         ensures journal { result.journal ≡ [] }
@@ -449,7 +449,6 @@ impl Book {
     /// its statements at that start. Returns `Free` exactly if the law of journals allows its commit. It allocates no
     /// memory. It tries each predicate of the records on the key of each change of the predicate's table.
     pub fn check(&self, call: u32, task: &Task) -> Check
-        requires script { IsScript self.now.script }
         requires live { IsLiveCall self.now.course call }
         requires kind { IsNoReader self.now call }
         requires records { AreRecordsOf self.now call task.now.log.records }

@@ -8,9 +8,6 @@ pub finish_task-requires-clause-shows : goal.finish_task-requires-clause-shows
 finish_task-requires-clause-shows g c =
     c.requires.shows (fresh_now c.args.book.now c.args.call c.start-start.result c.low-low.result c.start-start.ensures.value c.low-low.ensures (λ lt. let le = c.if-start-low.false in omega (arith, lt, le)))
 
-pub check-requires-clause-script : goal.check-requires-clause-script
-check-requires-clause-script g c = c.requires.call.script
-
 pub check-requires-clause-writes : goal.check-requires-clause-writes
 check-requires-clause-writes g c =
     task_writes c.args.book.now.script c.args.book.now.course.order c.args.call c.requires.call.live.0 c.finish_task.new.running c.requires.call.script c.requires.call.number

@@ -1,6 +1,7 @@
 use Rattle.std.proofs.Common.{arith, ◌≡◌, sym, ◌∙◌}
 use Rattle.mv_core.specs.Books.{work_in}
 use Rattle.mv_core.proofs.Admitting.{recent_admitted}
+use Rattle.mv_core.proofs.Keeping.{script_seen}
 use Rattle.mv_core.proofs.Recents.{recent_seen, recent_needed, low_seen, answers_free, answers_hit, answers_stale}
 use Rattle.mv_core.proofs.book.Book.check.Goals as goal
 
@@ -23,8 +24,9 @@ returns-in-Some c l live =
     let low = low_seen c.self.inside c.args.self.now c.self.view_is in
     let not = c.if-start-self.false in
     let kept = recent_seen c.self.inside c.args.self.now c.self.view_is c.self.invariant.recent in
+    let script = script_seen c.self.inside c.args.self.now c.self.view_is c.self.invariant.kept in
     let admitted =
-    recent_admitted c.args.self.now.script c.args.self.now.course c.args.call c.start-start.result l.start c.self.inside.recent c.records.result c.requires.script kept start
+    recent_admitted c.args.self.now.script c.args.self.now.course c.args.call c.start-start.result l.start c.self.inside.recent c.records.result script kept start
     (recent_needed (work_in c.args.self.now) c.args.self.now.course c.args.call l c.self.inside.recent kept live (omega (arith, start, low, not))) (c.records.ensures ∙ c.requires.records l live) in
     answers_hit (work_in c.args.self.now) c.args.self.now.course c.args.call c.start-start.result l c.self.inside.recent c.records.result c.in-Some.hit c.requires.kind live
     kept start (omega (arith, start, low, not)) (c.records.ensures ∙ c.requires.records l live) (sym (c.in-Some.ensures admitted))
@@ -35,8 +37,9 @@ returns-in-None c l live =
     let low = low_seen c.self.inside c.args.self.now c.self.view_is in
     let not = c.if-start-self.false in
     let kept = recent_seen c.self.inside c.args.self.now c.self.view_is c.self.invariant.recent in
+    let script = script_seen c.self.inside c.args.self.now c.self.view_is c.self.invariant.kept in
     let admitted =
-    recent_admitted c.args.self.now.script c.args.self.now.course c.args.call c.start-start.result l.start c.self.inside.recent c.records.result c.requires.script kept start
+    recent_admitted c.args.self.now.script c.args.self.now.course c.args.call c.start-start.result l.start c.self.inside.recent c.records.result script kept start
     (recent_needed (work_in c.args.self.now) c.args.self.now.course c.args.call l c.self.inside.recent kept live (omega (arith, start, low, not))) (c.records.ensures ∙ c.requires.records l live) in
     answers_free (work_in c.args.self.now) c.args.self.now.course c.args.call c.start-start.result l c.self.inside.recent c.records.result c.requires.kind live
     kept start (omega (arith, start, low, not)) (c.records.ensures ∙ c.requires.records l live) (sym (c.in-None.ensures admitted))

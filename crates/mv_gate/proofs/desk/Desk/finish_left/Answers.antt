@@ -18,9 +18,6 @@ answer_left-requires-clause-kind g c = sym c.is_read_only.ensures ∙ c.if-is_re
 pub check-requires-clause-kind : goal.check-requires-clause-kind
 check-requires-clause-kind g c = subst (λ (b : Booked). IsNoReader b c.args.call) (sym c.self.view_is) (sym c.is_read_only.ensures ∙ c.if-is_read_only.false)
 
-pub check-requires-clause-script : goal.check-requires-clause-script
-check-requires-clause-script g c = subst IsScript (sym c.self.invariant.script) c.self.invariant.sound
-
 pub check-requires-clause-live : goal.check-requires-clause-live
 check-requires-clause-live g c = (subst (λ (b : Booked). IsWhole b c.args.call c.args.task) (sym c.self.view_is) c.requires.whole).live
 
