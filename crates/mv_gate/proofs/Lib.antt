@@ -12,6 +12,6 @@ mod Bringing
 mod Committing
 mod Ending
 mod Serializing
-mod Crossing
+pub mod Crossing
 mod Copying
 mod Leaving
