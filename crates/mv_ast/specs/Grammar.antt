@@ -35,7 +35,7 @@ use Rattle.mv_ast.specs.declared.tree.Stmt.TheVariants.{Assign, Branch, Insert, 
 use Rattle.mv_ast.specs.declared.tree.TwoOp.{TwoOp}
 use Rattle.mv_ast.specs.declared.tree.TwoOp.TheVariants.{Add, Sub, Mul, Div, Rem, Join, And, Or, Left, Contains}
 use Rattle.mv_ast.specs.declared.tree.VarDef.{VarDef}
-use Rattle.mv_ast.specs.Trees.{lit_row_of, col_def_of, table_of, param_of, var_def_of, procedure_of, lit_rows_of, created, copy_of, call_of, journal_of, script_of, leaf, prefixed, paired, paired_by, called, all_prefixed, column_named, variable_or_field, parenthesized, with_op, compared, with_comparison, cond_of, sort_of, select_of, total_of, selected, for_plain_of, for_distinct_of, for_rows_of, looped, set_item_of}
+use Rattle.mv_ast.specs.Trees.{lit_row_of, row_col_of, col_def_of, table_of, param_of, var_def_of, procedure_of, lit_rows_of, created, copy_of, call_of, journal_of, script_of, leaf, prefixed, paired, paired_by, called, all_prefixed, column_named, variable_or_field, parenthesized, with_op, compared, with_comparison, cond_of, sort_of, select_of, total_of, selected, for_plain_of, for_distinct_of, for_rows_of, looped, set_item_of}
 use Rattle.mv_ast.specs.Parts.{Part, give, one, both, either, left, expression, statement, Inner, Is, Begins}
 use Rattle.mv_ast.specs.Texts.{spelling, lower, number, unquoted, first_line, last_line}
 
@@ -124,9 +124,13 @@ module _ (bytes : List ℕ) where
   unfoldable pub column_type : Part ColType
   column_type = either (one word.Int ▸ give column.Int) (one word.Text ▸ in_parens (give text_column ⊛ one word.Number))
 
-  -- coldef = name type
+  -- rowcol = name type
+  unfoldable pub row_col : Part ColDef
+  row_col = give row_col_of ⊛ name ⊛ column_type
+
+  -- coldef = name type [ REFERENCES name ]
   unfoldable pub col_def : Part ColDef
-  col_def = give col_def_of ⊛ name ⊛ column_type
+  col_def = give col_def_of ⊛ name ⊛ column_type ⊛ optional (one word.References ▸ name)
 
   -- table = TABLE name ( coldef { , coldef } , PRIMARY KEY ( name { , name } ) ) [ VALUES litrow { , litrow } ] ;
   -- coldef , { coldef , }
@@ -140,9 +144,9 @@ module _ (bytes : List ℕ) where
   table = give table_of ◂ one word.Table ⊛ name ◂ one word.Open ⊛ columns ◂ one word.Primary ◂ one word.Key ⊛ in_parens (commas name) ◂ one word.Close
       ⊛ opening_rows ◂ one word.Semicolon
 
-  -- param = Variable type | Variable ROWS ( coldef { , coldef } )
+  -- param = Variable type | Variable ROWS ( rowcol { , rowcol } )
   unfoldable pub param_kind : Part ParamKind
-  param_kind = either (one word.Rows ▸ (give parameter.Many ⊛ in_parens (commas col_def))) (give parameter.One ⊛ column_type)
+  param_kind = either (one word.Rows ▸ (give parameter.Many ⊛ in_parens (commas row_col))) (give parameter.One ⊛ column_type)
 
   unfoldable pub param : Part Param
   param = give param_of ⊛ variable ⊛ param_kind

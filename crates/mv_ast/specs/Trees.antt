@@ -33,8 +33,11 @@ use Rattle.mv_ast.specs.declared.tree.VarDef.{VarDef}
 abbrev pub lit_row_of : ℕ → List Lit → LitRow
 lit_row_of token values = record { token = token; values = values }
 
-abbrev pub col_def_of : Name → ColType → ColDef
-col_def_of n k = record { name = n; kind = k }
+abbrev pub row_col_of : Name → ColType → ColDef
+row_col_of n k = record { name = n; kind = k; refers = None }
+
+abbrev pub col_def_of : Name → ColType → Option Name → ColDef
+col_def_of n k parent = record { name = n; kind = k; refers = parent }
 
 abbrev pub table_of : Name → List ColDef → List Name → List LitRow → ItemKind
 table_of n columns key rows = item.Table (record { name = n; columns = columns; key = key; rows = rows })

@@ -57,10 +57,12 @@ pub struct TableDef {
     pub rows: List<LitRow>,
 }
 
+/// A column of a table or of a ROWS parameter. Its parent table is the one after REFERENCES, which no parameter has.
 #[derive(Drop)]
 pub struct ColDef {
     pub name: Name,
     pub kind: ColType,
+    pub refers: Option<Name>,
 }
 
 /// A literal. The first token of a negative number is its `-`.
