@@ -107,6 +107,10 @@ pub first_param : (bytes : List ℕ) → first (rule.param bytes) ≡ word.Varia
 unfolding rule.param rule.variable
 first_param bytes = refl
 
+pub first_row_col : (bytes : List ℕ) → first (rule.row_col bytes) ≡ word.Name ∷ []
+unfolding rule.row_col rule.name
+first_row_col bytes = refl
+
 pub first_col_def : (bytes : List ℕ) → first (rule.col_def bytes) ≡ word.Name ∷ []
 unfolding rule.col_def rule.name
 first_col_def bytes = refl

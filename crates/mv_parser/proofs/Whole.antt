@@ -17,7 +17,7 @@ use Rattle.mv_parser.proofs.Again.{expression_tail, tail, is_clear, InnerHeads, 
 
 -- all rules, opened at once
 all_rules : Unit {0}
-unfolding rule.name rule.variable rule.literal rule.lit_row rule.column_type rule.col_def rule.columns rule.opening_rows rule.table rule.param_kind rule.param rule.declaration rule.read_only rule.procedure rule.block rule.lit_rows rule.arg rule.create rule.copy rule.call rule.journal rule.an_item rule.script rule.op rule.variable_expr rule.in_parentheses rule.left_call rule.contains_call rule.text_of_call rule.prim rule.fac rule.term_op rule.term rule.sum_op rule.sum rule.comp rule.neg rule.conj rule.expr rule.cond rule.conds rule.direction rule.sort rule.sorts rule.assign rule.select_columns rule.counted rule.aggregate rule.total rule.select rule.loop_body rule.for_plain rule.for_distinct rule.for_rows rule.for_each rule.otherwise rule.branch rule.insert rule.set_item rule.update rule.delete rule.print rule.rollback rule.stmt
+unfolding rule.name rule.variable rule.literal rule.lit_row rule.column_type rule.row_col rule.col_def rule.columns rule.opening_rows rule.table rule.param_kind rule.param rule.declaration rule.read_only rule.procedure rule.block rule.lit_rows rule.arg rule.create rule.copy rule.call rule.journal rule.an_item rule.script rule.op rule.variable_expr rule.in_parentheses rule.left_call rule.contains_call rule.text_of_call rule.prim rule.fac rule.term_op rule.term rule.sum_op rule.sum rule.comp rule.neg rule.conj rule.expr rule.cond rule.conds rule.direction rule.sort rule.sorts rule.assign rule.select_columns rule.counted rule.aggregate rule.total rule.select rule.loop_body rule.for_plain rule.for_distinct rule.for_rows rule.for_each rule.otherwise rule.branch rule.insert rule.set_item rule.update rule.delete rule.print rule.rollback rule.stmt
 all_rules = tt
 
 abbrev are_within : List Terminal → List Terminal → Bool

@@ -3,7 +3,7 @@
 ghost use Rattle.std.specs.Prelude.{◌≡◌, ℕ, drop, IsTrue, min, length};
 ghost use Rattle.mv_ast.specs.Parts.{give, one};
 ghost use Rattle.mv_ast.specs.declared.lexeme.Terminal.TheVariants as word;
-ghost use Rattle.mv_ast.specs.Grammar.{commas, or_none, in_parens, name, literal, lit_row, lit_rows, col_def, column_type, opening_rows, number_of};
+ghost use Rattle.mv_ast.specs.Grammar.{◌▸◌, commas, optional, or_none, in_parens, name, literal, lit_row, lit_rows, row_col, col_def, column_type, opening_rows, number_of};
 ghost use Rattle.mv_parser.specs.Fitting.{fits};
 ghost use Rattle.mv_parser.specs.Reading.{inside, read};
 ghost use Rattle.mv_parser.specs.Answers.{ReadsPart};
@@ -42,10 +42,10 @@ impl Parse for LitRow {
 }
 
 impl Parse for ColDef {
-    ghost reading = { λ bytes depth ts. read (inside bytes depth) (col_def bytes) ts };
+    ghost reading = { λ bytes depth ts. read (inside bytes depth) (row_col bytes) ts };
 
     fn parse(reader: &Reader, at: usize) -> Result<(ColDef, usize), Failure> {
-        reader.col_def(at)
+        reader.row_col(at)
     }
 }
 
@@ -118,14 +118,42 @@ impl Reader<'_> {
         self.separated(at, Terminal::Comma)
     }
 
-    /// Parses a column: its name and its type.
+    /// Parses a column of a ROWS parameter: its name and its type.
+    #[tactic(auto, unfolding(mv_ast::specs::Grammar::row_col))]
+    fn row_col(&self, at: usize) -> Result<(ColDef, usize), Failure>
+        ensures { ReadsPart self.now at row_col result }
+    {
+        let (name, at) = self.name(at)?;
+        let (kind, at) = self.column_type(at)?;
+        let column = ColDef {
+            name,
+            kind,
+            refers: None,
+        };
+        Ok((column, at))
+    }
+
+    /// Parses a column of a table: its name, its type, and its parent table if it has one.
     #[tactic(auto, unfolding(mv_ast::specs::Grammar::col_def))]
     pub(crate) fn col_def(&self, at: usize) -> Result<(ColDef, usize), Failure>
         ensures { ReadsPart self.now at col_def result }
     {
         let (name, at) = self.name(at)?;
         let (kind, at) = self.column_type(at)?;
-        Ok((ColDef { name, kind }, at))
+        let (refers, at) = self.reference(at)?;
+        Ok((ColDef { name, kind, refers }, at))
+    }
+
+    /// Parses REFERENCES and a parent table, if they are there.
+    fn reference(&self, at: usize) -> Result<(Option<Name>, usize), Failure>
+        ensures { ReadsPart self.now at (λ bytes. optional (one word.References ▸ name bytes)) result }
+    {
+        if !self.has(at, Terminal::References) {
+            return Ok((None, at));
+        }
+        let (_, at) = self.one(at, Terminal::References)?;
+        let (parent, at) = self.name(at)?;
+        Ok((Some(parent), at))
     }
 
     /// Parses the type of a column.
