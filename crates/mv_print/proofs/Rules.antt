@@ -1,5 +1,6 @@
 -- Names, literals and the clauses of statements, as they are printed and read again.
-use Rattle.std.proofs.Common.{◌≡◌, ℕ, zero, suc, ◌-◌, ◌≤◌, min, Bool, true, false, nat_lt, List, [], ◌∷◌, ◌++◌, map, refl, sym, ap, subst, ◌∙◌, arith, inr}
+use Rattle.std.proofs.Common.{◌≡◌, ℕ, zero, suc, ◌-◌, ◌≤◌, min, Bool, true, false, nat_lt, List, [], ◌∷◌, ◌++◌, Option, None, map, refl, sym, ap, subst, ◌∙◌, append-nil, arith, inr}
+use Rattle.std.specs.Option.{option_map}
 use Rattle.std.specs.Prelude.{pos, negsuc, ◌-ℤ◌}
 use Rattle.std.proofs.lemmas.Bool.{lt-ltb}
 use Rattle.std.proofs.lemmas.Bool.Decides.{nat_tests}
@@ -27,7 +28,7 @@ use Rattle.mv_ast.specs.Limits.{is_size, is_size_of}
 use Rattle.mv_ast.specs.Parts.{Part, give, one, expression}
 use Rattle.mv_ast.specs.Grammar as rule
 use Rattle.mv_ast.specs.Grammar.{inner, in_parens, ◌⊛◌, ◌▸◌, number_of, text_of, negative_of, positive_of, quoted_of, text_column}
-use Rattle.mv_print.specs.Printing.{Piece, key, name_piece, name_pieces, variable_pieces, number_piece, text_piece, value_pieces, literal_pieces, row_pieces, type_pieces, column_pieces, whole_expr, expr_pieces, cond_pieces, conds_pieces, direction_pieces, sort_pieces, sorts_pieces, agg_pieces, set_pieces, op_word, listed}
+use Rattle.mv_print.specs.Printing.{Piece, key, name_piece, name_pieces, variable_pieces, number_piece, text_piece, value_pieces, literal_pieces, row_pieces, type_pieces, reference_pieces, column_pieces, whole_expr, expr_pieces, cond_pieces, conds_pieces, direction_pieces, sort_pieces, sorts_pieces, agg_pieces, set_pieces, op_word, listed}
 use Rattle.mv_print.specs.Same.{placeless_name, placeless_expr, placeless_literal, placeless_row, placeless_column, placeless_cond, placeless_sort, placeless_set, placeless_agg}
 use Rattle.mv_print.proofs.Light.{kinds, Light, light_none, light_joined, light_plain, light_drop, light_within}
 use Rattle.mv_print.proofs.Building.{Fits, AllGood, both_read, one_read, prints_skip, marks, light_both, light_nothing, gives_for, turns_deeper, Prints, Turns, Gives, gives_give, gives_one, gives_both, gives_next, gives_either, prints_give, prints_one, prints_next, prints_behind, prints_inl, prints_inr, prints_for, turns_give, turns_next, turns_either, turns_as}
@@ -36,7 +37,7 @@ use Rattle.mv_print.proofs.Meaning.{Good, meant_text}
 use Rattle.mv_print.proofs.Tokens.{prints_token, prints_name, prints_variable, number_read, text_read}
 use Rattle.mv_print.proofs.Levels.{prints_inside, Printable}
 use Rattle.mv_print.proofs.Expressions.{found_name, found_variable, found_op, plain_op, found_inside, found_sum}
-use Rattle.mv_print.proofs.Turning.{plain_key, skip_close, place_open, skip, behind_key, behind_keys, turns_parens, turns_separated, turns_commas, turns_found}
+use Rattle.mv_print.proofs.Turning.{plain_key, skip_close, place_open, skip, behind_key, behind_keys, turns_parens, turns_separated, turns_commas, turns_optional, turns_found}
 
 -- functions at what is the same
 pub same2 : {A B C : Type 0} (f : A → B → C) {a x : A} {b y : B} → a ≡ x → b ≡ y → f a b ≡ f x y
@@ -232,10 +233,19 @@ module _ (bytes text : List ℕ) (d : ℕ) where
   unfolding rule.column_type
   rule_type = turns_either (behind_key (plain_key word.Int) (turns_give refl refl)) turns_size
 
+  rule_reference : Rule (rule.optional (one word.References ▸ rule.name bytes)) (rule.optional (one word.References ▸ rule.name text)) reference_pieces (option_map placeless_name)
+  rule_reference = turns_optional (behind_key (plain_key word.References) (turns_as (λ n ps h. ap (λ r. key word.References ∷ r) h) (λ v w h. h) rule_name)) refl
+
+  -- a column of a ROWS parameter
+  pub rule_row_column : Rule (rule.row_col bytes) (rule.row_col text) column_pieces placeless_column
+  unfolding rule.row_col
+  rule_row_column = turns_next rule_type (turns_next rule_name (turns_give (λ n k. ap (λ r. name_piece n ∷ r) (sym (append-nil (type_pieces k))))
+      (λ n m h k l i. same2 (λ (r : Name) (s : ColType). (let x : ColDef = record { name = r; kind = s; refers = None } in x)) h i)))
+
   pub rule_column : Rule (rule.col_def bytes) (rule.col_def text) column_pieces placeless_column
   unfolding rule.col_def
-  rule_column = turns_next rule_type (turns_next rule_name
-      (turns_give (λ n k. refl) (λ n m h k l i. same2 (λ (r : Name) (s : ColType). (let x : ColDef = record { name = r; kind = s } in x)) h i)))
+  rule_column = turns_next rule_reference (turns_next rule_type (turns_next rule_name (turns_give (λ n k o. refl)
+      (λ n m h k l i o p j. same3 (λ (r : Name) (s : ColType) (t : Option Name). (let x : ColDef = record { name = r; kind = s; refers = t } in x)) h i j))))
 
   pub rule_op : Rule (rule.op bytes) (rule.op text) (λ o. key (op_word o) ∷ []) (λ o. o)
   rule_op = turns_found {H = λ o. Unit {0}}

@@ -41,7 +41,7 @@ use Rattle.mv_print.proofs.Building.{marks, light_both, light_nothing, turns_the
 use Rattle.mv_print.proofs.Sounding.{sound_key}
 use Rattle.mv_print.proofs.Meaning.{Meant, Good, meant, closed_bytes, open_bytes, bare_bytes}
 use Rattle.mv_print.proofs.Turning.{plain_key, skip_open, skip_close, skip_end_line, skip, skip_end, behind_key, behind_keys, place_key, turns_parens, turns_many, turns_commas}
-use Rattle.mv_print.proofs.Rules.{Rule, same2, same3, same4, same5, rule_name, rule_variable, rule_literal, rule_row, rule_type, rule_column}
+use Rattle.mv_print.proofs.Rules.{Rule, same2, same3, same4, same5, rule_name, rule_variable, rule_literal, rule_row, rule_type, rule_row_column, rule_column}
 use Rattle.mv_print.proofs.Sentences.{way_inside}
 
 regroup_table : (cs ns rows : List Piece) (a b c e : Piece) → (((((cs ++ a ∷ []) ++ b ∷ []) ++ ns) ++ c ∷ []) ++ rows) ++ e ∷ [] ≡ cs ++ a ∷ b ∷ (ns ++ c ∷ (rows ++ e ∷ []))
@@ -199,7 +199,7 @@ module _ (bytes text : List ℕ) (d : ℕ) where
   way_param_kind : Way (rule.param_kind bytes) (rule.param_kind text) param_kind_pieces placeless_param_kind
   unfolding rule.param_kind
   way_param_kind =
-      turns_either (behind_key (plain_key word.Rows) (turns_next {fq = λ cs. key word.Open ∷ (listed column_pieces cs ++ key word.Close ∷ [])} (turns_parens (turns_commas (rule_column bytes text d) (λ c cs. refl)))
+      turns_either (behind_key (plain_key word.Rows) (turns_next {fq = λ cs. key word.Open ∷ (listed column_pieces cs ++ key word.Close ∷ [])} (turns_parens (turns_commas (rule_row_column bytes text d) (λ c cs. refl)))
       (turns_give (λ cs. refl) (λ cs es h. ap parameter.Many h))))
       (turns_next (rule_type bytes text d) (turns_give (λ k. refl) (λ k j h. ap parameter.One h)))
 

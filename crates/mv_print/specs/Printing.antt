@@ -192,8 +192,12 @@ abbrev pub type_pieces : ColType → List Piece
 type_pieces column.Int = key word.Int ∷ []
 type_pieces (column.Text n) = key word.Text ∷ key word.Open ∷ number_piece n ∷ key word.Close ∷ []
 
+abbrev pub reference_pieces : Option Name → List Piece
+reference_pieces None = []
+reference_pieces (Some parent) = key word.References ∷ name_piece parent ∷ []
+
 abbrev pub column_pieces : ColDef → List Piece
-column_pieces c = name_piece c.name ∷ type_pieces c.kind
+column_pieces c = name_piece c.name ∷ (type_pieces c.kind ++ reference_pieces c.refers)
 
 -- Expressions. The level of an operator is its precedence: OR 0, AND 1, NOT 2, comparisons 3, sums 4, terms 5, a sign
 -- 6, and all else 7. An operand that binds looser than its operator allows is printed in parentheses.

@@ -92,7 +92,7 @@ abbrev pub placeless_row : LitRow → LitRow
 placeless_row r = record { token = 0; values = map placeless_literal r.values }
 
 abbrev pub placeless_column : ColDef → ColDef
-placeless_column c = record { name = placeless_name c.name; kind = c.kind }
+placeless_column c = record { name = placeless_name c.name; kind = c.kind; refers = option_map placeless_name c.refers }
 
 abbrev pub placeless_param_kind : ParamKind → ParamKind
 placeless_param_kind (parameter.One k) = parameter.One k

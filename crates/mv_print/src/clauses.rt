@@ -1,7 +1,7 @@
 //! Prints the parts of statements and of items.
 
 ghost use Rattle.std.specs.Prelude.{◌≡◌, ◌∷◌, [], List as Seq, OnOk};
-ghost use Rattle.mv_print.specs.Printing.{Piece, written, name_pieces, literal_pieces, row_pieces, type_pieces, column_pieces, whole_expr, cond_pieces, conds_pieces, direction_pieces, sort_pieces, sorts_pieces, offset_pieces, agg_pieces, distinct_pieces, set_pieces, name_piece, key};
+ghost use Rattle.mv_print.specs.Printing.{Piece, written, name_pieces, literal_pieces, row_pieces, type_pieces, reference_pieces, column_pieces, whole_expr, cond_pieces, conds_pieces, direction_pieces, sort_pieces, sorts_pieces, offset_pieces, agg_pieces, distinct_pieces, set_pieces, name_piece, key};
 
 use crate::expr::{op_word, write_expr};
 use crate::listed::{Printed, write_listed, write_separated};
@@ -55,13 +55,28 @@ pub(crate) fn write_type(kind: ColType, text: &mut List<u8>) -> Result<(), NoMem
     }
 }
 
+/// Adds REFERENCES and the parent table, if there is one.
 #[tactic(auto, unfolding(crate::specs::Printing::written))]
+fn write_reference(parent: &Option<Name>, text: &mut List<u8>) -> Result<(), NoMemory>
+    ensures { OnOk result (text.new ≡ written text.old (reference_pieces parent.now)) }
+{
+    match parent {
+        None => Ok(()),
+        Some(table) => {
+            write_key(Terminal::References, text)?;
+            write_name(table, text)
+        }
+    }
+}
+
+#[tactic(auto, using(crate::proofs::Writing::written_joined), unfolding(crate::specs::Printing::written))]
 impl Printed for ColDef {
     ghost pieces = { column_pieces };
 
     fn write(&self, text: &mut List<u8>) -> Result<(), NoMemory> {
         write_name(&self.name, text)?;
-        write_type(self.kind, text)
+        write_type(self.kind, text)?;
+        write_reference(&self.refers, text)
     }
 }
 
