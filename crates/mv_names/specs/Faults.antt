@@ -25,7 +25,8 @@ use Rattle.mv_names.specs.declared.parts.Parts.{Parts}
 use Rattle.mv_names.specs.First.{unknown, wrong, when}
 use Rattle.mv_names.specs.Named.{Text, is_named, first_named}
 use Rattle.mv_names.specs.Items.{parts_of, lates}
-use Rattle.mv_names.specs.Scope.{scope_of, found}
+use Rattle.mv_names.specs.Scope.{type_in, column_type, scope_of, found}
+use Rattle.mv_names.specs.Typing.{clash}
 use Rattle.mv_names.specs.Writes.{writes}
 use Rattle.mv_names.specs.Statements.{doubles, table_named, missing_table, statements}
 
@@ -65,8 +66,29 @@ missing_key columns n = when (not (is_named (λ (c : ColDef). c.name.text) colum
 abbrev pub key_doubles : List Name → List Fault
 key_doubles key = doubles (λ (n : Name). n) [] key
 
-abbrev pub table : TableDef → List Fault
-table t = column_doubles t.columns ++ flat_map (missing_key t.columns) t.key ++ key_doubles t.key ++ rows t.columns t.rows
+-- A value of this type can be the key of a table with these columns and key columns: there is one key column, and it
+-- isn't of the other type. The lengths of texts may differ.
+abbrev pub can_be_key : ColType → List ColDef → List Name → Bool
+can_be_key kind columns [] = false
+can_be_key kind columns (k ∷ []) = not (clash (type_in kind) (column_type columns k.text))
+can_be_key kind columns (k ∷ l ∷ ks) = false
+
+-- the parent table is there, and a value of this type can be its key
+abbrev pub parent : ColType → Name → Option TableDef → List Fault
+parent kind n None = unknown n.token ∷ []
+parent kind n (Some t) = when (not (can_be_key kind t.columns t.key)) (wrong n.token)
+
+abbrev pub reference : List TableDef → ColType → Option Name → List Fault
+reference tables kind None = []
+reference tables kind (Some n) = parent kind n (table_named tables n.text)
+
+-- the column's REFERENCES, if it has it
+abbrev pub column_reference : List TableDef → ColDef → List Fault
+column_reference tables c = reference tables c.kind c.refers
+
+abbrev pub table : List TableDef → TableDef → List Fault
+table tables t =
+    column_doubles t.columns ++ flat_map (column_reference tables) t.columns ++ flat_map (missing_key t.columns) t.key ++ key_doubles t.key ++ rows t.columns t.rows
 
 -- Procedures
 
@@ -143,7 +165,7 @@ procedure_doubles procedures = doubles (λ (q : ProcDef). q.name) [] procedures
 
 abbrev pub parts_faults : Parts → List Fault
 parts_faults p =
-    table_doubles p.tables ++ procedure_doubles p.procedures ++ flat_map table p.tables ++ flat_map (procedure p.tables) p.procedures
+    table_doubles p.tables ++ procedure_doubles p.procedures ++ flat_map (table p.tables) p.tables ++ flat_map (procedure p.tables) p.procedures
     ++ flat_map (copy p.tables) p.copies ++ flat_map (call p.procedures) p.calls
 
 -- all faults of names and types

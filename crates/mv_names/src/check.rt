@@ -71,13 +71,14 @@ pub fn check_order(items: &[Item], faults: &mut List<Fault>) -> Result<(), NoMem
 
 fn check_tables(
     alloc: Global,
+    index: &Index<'_, Table<'_>>,
     tables: &[Table<'_>],
     faults: &mut List<Fault>,
 ) -> Result<(), NoMemory>
-    ensures { OnOk result (faults.new ≡ faults.old ++ flat_map meant.table tables.now) }
+    ensures { OnOk result (faults.new ≡ faults.old ++ flat_map (meant.table index.now) tables.now) }
 {
     for table in tables {
-        check_table_def(alloc, table, faults)?;
+        check_table_def(alloc, index, table, faults)?;
     }
     Ok(())
 }
@@ -153,10 +154,10 @@ pub fn check_parts(alloc: Global, parts: &Parts, faults: &mut List<Fault>) -> Re
     check_table_names(alloc, tables, faults)?;
     check_procedure_names(alloc, procedures, faults)?;
     let tables = with_columns(alloc, tables)?;
-    check_tables(alloc, tables.as_slice(), faults)?;
-    let tables = Index::of(alloc, tables.as_slice())?;
-    check_procedures(alloc, &tables, procedures, faults)?;
-    check_copies(&tables, parts.copies.as_slice(), faults)?;
+    let index = Index::of(alloc, tables.as_slice())?;
+    check_tables(alloc, &index, tables.as_slice(), faults)?;
+    check_procedures(alloc, &index, procedures, faults)?;
+    check_copies(&index, parts.copies.as_slice(), faults)?;
     check_calls(alloc, procedures, parts.calls.as_slice(), faults)?;
     Ok(())
 }

@@ -36,7 +36,7 @@ pub(crate) fn value_kind(value: &Value) -> ValueType
 }
 
 /// Whether two types exclude each other.
-fn do_clash(place: ValueType, kind: ValueType) -> bool
+pub(crate) fn do_clash(place: ValueType, kind: ValueType) -> bool
     ensures { result ≡ clash place kind }
 {
     match (place, kind) {

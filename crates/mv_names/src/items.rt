@@ -2,12 +2,13 @@
 
 ghost use Rattle.std.specs.Prelude.{◌≡◌, ◌∷◌, ◌++◌, [], map, codes, length, OnOk, IfOk};
 ghost use Rattle.std.specs.List.{flat_map};
-ghost use Rattle.mv_names.specs.Scope.{parameter, variable, binding_of, declared_field, scope_of};
+ghost use Rattle.std.specs.Option.{option_copied};
+ghost use Rattle.mv_names.specs.Scope.{parameter, variable, binding_of, column_type, declared_field, scope_of};
 ghost use Rattle.mv_names.specs.Faults as meant;
 ghost use Rattle.mv_names.specs.Faults.{fits, begins, arg_token, arguments_token};
 
 use crate::bodies::check_statements;
-use crate::exprs::{column_kind, value_kind};
+use crate::exprs::{column_kind, do_clash, value_kind};
 use crate::fault::{Fault, add_if};
 use crate::index::Index;
 use crate::labels::{Taken, check_doubles};
@@ -130,16 +131,80 @@ fn check_key_names(alloc: Global, key: &[Name], faults: &mut List<Fault>) -> Res
     Ok(())
 }
 
+/// Returns the type of a column, or `Unknown` if it doesn't exist.
+fn type_of_key(columns: &Index<'_, ColDef>, name: &Name) -> ValueType
+    ensures { result ≡ column_type columns.now name.now.text }
+{
+    match columns.find(&name.text) {
+        None => ValueType::Unknown,
+        Some(column) => column_kind(column.kind),
+    }
+}
+
+/// Whether a value of this type can be the key of a table: the key is one column, and it isn't of the other type.
+fn can_be_key(kind: ColType, table: &Table<'_>) -> bool
+    ensures { result ≡ meant.can_be_key kind table.now.columns table.now.key }
+{
+    match table.definition().key.as_slice() {
+        [key] => !do_clash(column_kind(kind), type_of_key(table.columns(), key)),
+        _ => false,
+    }
+}
+
+/// Reports a parent table that doesn't exist, or whose key no value of this type can be.
+fn check_parent(
+    kind: ColType,
+    name: &Name,
+    table: Option<&Table<'_>>,
+    faults: &mut List<Fault>,
+) -> Result<(), NoMemory>
+    ensures { OnOk result (faults.new ≡ faults.old ++ meant.parent kind name.now (option_copied table.entry)) }
+{
+    match table {
+        None => faults.push(Fault::unknown(name.token)),
+        Some(table) => add_if(faults, !can_be_key(kind, table), Fault::wrong(name.token)),
+    }
+}
+
+/// Checks the REFERENCES of a column, if it has it.
+fn check_reference(
+    tables: &Index<'_, Table<'_>>,
+    column: &ColDef,
+    faults: &mut List<Fault>,
+) -> Result<(), NoMemory>
+    ensures { OnOk result (faults.new ≡ faults.old ++ meant.column_reference tables.now column.now) }
+{
+    match &column.refers {
+        None => Ok(()),
+        Some(name) => check_parent(column.kind, name, tables.find(&name.text), faults),
+    }
+}
+
+fn check_references(
+    tables: &Index<'_, Table<'_>>,
+    columns: &[ColDef],
+    faults: &mut List<Fault>,
+) -> Result<(), NoMemory>
+    ensures { OnOk result (faults.new ≡ faults.old ++ flat_map (meant.column_reference tables.now) columns.now) }
+{
+    for column in columns {
+        check_reference(tables, column, faults)?;
+    }
+    Ok(())
+}
+
 pub(crate) fn check_table_def(
     alloc: Global,
+    tables: &Index<'_, Table<'_>>,
     table: &Table<'_>,
     faults: &mut List<Fault>,
 ) -> Result<(), NoMemory>
-    ensures { OnOk result (faults.new ≡ faults.old ++ meant.table table.now) }
+    ensures { OnOk result (faults.new ≡ faults.old ++ meant.table tables.now table.now) }
 {
     let definition = table.definition();
     let columns = definition.columns.as_slice();
     check_column_names(alloc, columns, faults)?;
+    check_references(tables, columns, faults)?;
     check_key(table.columns(), definition.key.as_slice(), faults)?;
     check_key_names(alloc, definition.key.as_slice(), faults)?;
     check_rows(columns, definition.rows.as_slice(), faults)
