@@ -1,5 +1,5 @@
 -- Well-formed programs: all numbers refer to existing things, types agree, and limits hold. This project's own.
-use Rattle.std.specs.Prelude.{◌≡◌, ◌≢◌, ◌<◌, ◌≤◌, ⊤, true, false, List, [], ◌∷◌, ◌++◌, length, map, Some, slice_get, All, AllPairs}
+use Rattle.std.specs.Prelude.{◌≡◌, ◌≢◌, ◌<◌, ◌≤◌, ⊤, ℕ, true, false, List, [], ◌∷◌, ◌++◌, length, map, Option, Some, None, slice_get, All, AllPairs}
 use Rattle.std.specs.List.{AllZip}
 use Rattle.mv_values.specs.declared.schema.ColType.{ColType}
 use Rattle.mv_values.specs.declared.schema.ColType.TheVariants as column
@@ -44,6 +44,21 @@ pub record IsTable (t : TableInfo) : Type 0 where
   pub some : 0 < length t.key
   pub within : All (λ c. c < length t.columns) t.key
   pub once : AllPairs (λ c d. c ≢ d) t.key
+
+-- the key is one column of this type, INT or TEXT of any length
+abbrev pub IsKeyOf : ColType → TableInfo → Type 0
+IsKeyOf type t = (k : ℕ) × (c : Column) × (t.key ≡ k ∷ []) × (slice_get t.columns k ≡ Some c) × (kind_of_column c.kind ≡ kind_of_column type)
+
+abbrev pub Refers : List TableInfo → ColType → Option ℕ → Type 0
+Refers tables type None = ⊤
+Refers tables type (Some parent) = (t : TableInfo) × (slice_get tables parent ≡ Some t) × IsKeyOf type t
+
+-- the parent of a column with REFERENCES is a table whose key is one column of the column's type
+abbrev pub HasParent : List TableInfo → Column → Type 0
+HasParent tables column = Refers tables column.kind column.refers
+
+abbrev pub HaveParents : List TableInfo → Type 0
+HaveParents tables = All (λ (t : TableInfo). All (HasParent tables) t.columns) tables
 
 abbrev pub RowsFit : TableInfo → List (List Value) → Type 0
 RowsFit t all = All (IsRow (types_of t)) all
@@ -96,6 +111,7 @@ IsCall procedures c = (p : ProcInfo) × (slice_get procedures c.procedure ≡ So
 pub record FitsText (r : Resolved) : Type 0 where
   pub few : length r.tables ≤ 64
   pub tables : All IsTable r.tables
+  pub parents : HaveParents r.tables
   pub rows : AllZip RowsFit r.tables r.rows
   pub procedures : All (IsProcedure r.tables) r.procedures
   pub copies : All (λ (c : CopyInfo). c.table < length r.tables) r.copies

@@ -270,7 +270,7 @@ fresh_own : (vs : List Var) (n : ℕ) → length vs ≡ n → Fresh (slice_get v
 fresh_own vs n e m le = slice_get_past vs m (omega arith)
 
 pub procedure_is : (tables : List TableDef) (p : ProcDef) → length tables ≤ 64 → All (λ (t : TableDef). length t.columns ≤ 32) tables → faults.procedure tables p ≡ [] → procedure_passes p ≡ []
-    → IsProcedure (map table_of tables) (procedure_of tables p)
+    → IsProcedure (map (table_of tables) tables) (procedure_of tables p)
 procedure_is tables p few_tables narrow h k =
     let a = faults.name_doubles (found.name ∷ []) p in
     let b = flat_map (λ (q : Param). faults.param_columns q.kind) p.params in

@@ -75,12 +75,12 @@ module _ (infos : List TableInfo) (scope : List Entry) (slots : List Slot) (vars
       let hb : a ++ b ≡ [] = nothing_left (a ++ b) c hc in
       let P : List Kind → Type 0 = λ ks. AllZip (Takes vars ks) (map (column_number own) columns) (numbers_of slots to) × All (IsTest vars ks) (conds_of slots own conds) × All (IsSort ks) (sorts_of own sorts) in (
         (
-          table_of t,
-          here.0,
-          subst P (same_kinds t) (
-            targets_take scope slots vars own m here.1 columns to (one_length columns to (wrong (names.names_token to table.token)) (nothing_right a b hb)) (nothing_left a b hb) (nothing_right (a ++ b) c hc),
-            tests_of scope slots vars own m here.1 conds (nothing_right ((a ++ b) ++ c) d hd),
-            sorts_are own here.1 sorts (nothing_right (((a ++ b) ++ c) ++ d) e he),
+          table_of here.0 t,
+          here.1,
+          subst P (same_kinds here.0 t) (
+            targets_take scope slots vars own m here.2 columns to (one_length columns to (wrong (names.names_token to table.token)) (nothing_right a b hb)) (nothing_left a b hb) (nothing_right (a ++ b) c hc),
+            tests_of scope slots vars own m here.2 conds (nothing_right ((a ++ b) ++ c) d hd),
+            sorts_are own here.2 sorts (nothing_right (((a ++ b) ++ c) ++ d) e he),
           ),
         ),
         offset_is scope slots vars m offset (nothing_right ((((a ++ b) ++ c) ++ d) ++ e) f h),
@@ -95,13 +95,13 @@ module _ (infos : List TableInfo) (scope : List Entry) (slots : List Slot) (vars
       let b = names.target scope (names.agg_type (Some own) agg) to in
       let c = names.where_faults scope (Some own) conds in
       let hb : a ++ b ≡ [] = nothing_left (a ++ b) c h in
-      let k = total_is own agg here.1 (nothing_left a b hb) in
+      let k = total_is own agg here.2 (nothing_left a b hb) in
       let P : List Kind → Type 0 = λ ks. ((k : Kind) × IsTotal ks (agg_of own agg) k × (vars (number_of slots to) ≡ Some (declared k))) × All (IsTest vars ks) (conds_of slots own conds) in (
-        table_of t,
-        here.0,
-        subst P (same_kinds t) (
+        table_of here.0 t,
+        here.1,
+        subst P (same_kinds here.0 t) (
           (k.0, k.2, taking scope slots vars m k.0 (names.agg_type (Some own) agg) to k.1 (nothing_right a b hb)),
-          tests_of scope slots vars own m here.1 conds (nothing_right (a ++ b) c h),
+          tests_of scope slots vars own m here.2 conds (nothing_right (a ++ b) c h),
         ),
       )
 
@@ -111,9 +111,9 @@ module _ (infos : List TableInfo) (scope : List Entry) (slots : List Slot) (vars
   insert_well (Some t) at table values here h =
       let a = when (not (length values == length t.columns)) (wrong (names.values_token values table.token)) in
       let b = names.values_faults scope t.columns values in (
-        table_of t,
-        here.0,
-        subst (λ ks. AllZip (IsOfKind vars) ks (plains slots values)) (same_kinds t)
+        table_of here.0 t,
+        here.1,
+        subst (λ ks. AllZip (IsOfKind vars) ks (plains slots values)) (same_kinds here.0 t)
             (values_are scope slots vars m t.columns values (one_length values t.columns (wrong (names.values_token values table.token)) (nothing_left a b h)) (nothing_right a b h)),
       )
 
@@ -126,12 +126,12 @@ module _ (infos : List TableInfo) (scope : List Entry) (slots : List Slot) (vars
       let b = flat_map (names.item_faults scope (Some t)) items in
       let c = names.where_faults scope (Some own) conds in
       let hb : a ++ b ≡ [] = nothing_left (a ++ b) c h in (
-        table_of t,
-        here.0,
+        table_of here.0 t,
+        here.1,
         (
-          items_are scope slots vars t m here.1 items (nothing_right a b hb),
-          items_once scope slots t here.1 items (nothing_right a b hb) (nothing_left a b hb),
-          subst (λ ks. All (IsTest vars ks) (conds_of slots own conds)) (same_kinds t) (tests_of scope slots vars own m here.1 conds (nothing_right (a ++ b) c h)),
+          items_are scope slots vars here.0 t m here.2 items (nothing_right a b hb),
+          items_once scope slots t here.2 items (nothing_right a b hb) (nothing_left a b hb),
+          subst (λ ks. All (IsTest vars ks) (conds_of slots own conds)) (same_kinds here.0 t) (tests_of scope slots vars own m here.2 conds (nothing_right (a ++ b) c h)),
         ),
       )
 
@@ -139,7 +139,7 @@ module _ (infos : List TableInfo) (scope : List Entry) (slots : List Slot) (vars
       → well.delete infos at (conds_of slots (columns_in o) conds) vars
   delete_well None at table conds here h = cc
   delete_well (Some t) at table conds here h =
-      (table_of t, here.0, subst (λ ks. All (IsTest vars ks) (conds_of slots t.columns conds)) (same_kinds t) (tests_of scope slots vars t.columns m here.1 conds h))
+      (table_of here.0 t, here.1, subst (λ ks. All (IsTest vars ks) (conds_of slots t.columns conds)) (same_kinds here.0 t) (tests_of scope slots vars t.columns m here.2 conds h))
 
 -- what is claimed of a statement and of statements that are built, where the first loop has this number
 pub record Done (infos : List TableInfo) (vars : Vars) (n loops : ℕ) (s : RStmt) : Type 0 where
@@ -197,7 +197,7 @@ module _ (infos : List TableInfo) (faults : Faults) (passes : List Passed) (bs :
       let hb : a ++ b ≡ [] = nothing_left (a ++ b) c hc in
       let is : small n ≡ n = small_is n (omega arith) in
       let fresh_here : Fresh vars (small n) = subst (Fresh vars) (sym is) fresh in
-      let own_columns = chosen own here.1 columns (nothing_right a b hb) in
+      let own_columns = chosen own here.2 columns (nothing_right a b hb) in
       let most : length own_columns.types ≤ 32 = (let narrow = few limit.Columns 32 name_token columns k in omega (arith, own_columns.count)) in
       let inside = matches_within scope slots vars e s own_columns.types m fresh_here refl (own_columns.fields, most) in
       let behind : Fresh (with_turn vars (small n) own_columns.types) (n + 1) = subst (λ j. Fresh (with_turn vars (small n) own_columns.types) (j + 1)) is (fresh_behind vars (small n) own_columns.types fresh_here) in
@@ -210,11 +210,11 @@ module _ (infos : List TableInfo) (faults : Faults) (passes : List Passed) (bs :
       × ((ts : List Kind) × (map (slice_get ks) numbers ≡ map Some ts) × all_well (IsWell infos) stmts (with_turn vars (small n) ts)) in
       done infos vars n (1 + loops_in bs) (open'.ForSelect (small n) distinct numbers at cs ss stmts) (variant.ForSelect (small n) distinct numbers at cs ss stmts)
       (rolls-ForSelect (small n) distinct numbers at cs ss stmts) (
-        table_of t,
-        here.0,
-        subst P (same_kinds t) (
-          tests_of scope slots vars own m here.1 conds (nothing_right (a ++ b) c hc),
-          sorts_are own here.1 sorts (nothing_right ((a ++ b) ++ c) d hd),
+        table_of here.0 t,
+        here.1,
+        subst P (same_kinds here.0 t) (
+          tests_of scope slots vars own m here.2 conds (nothing_right (a ++ b) c hc),
+          sorts_are own here.2 sorts (nothing_right ((a ++ b) ++ c) d hd),
           fresh_here (small n) (omega arith),
           (own_columns.types, own_columns.places, body.allowed),
         ),
@@ -262,11 +262,11 @@ branch_done infos fy fn py pn ys ns cy cn test scope slots vars n m fresh le h p
 
 module _ (tables : List TableDef) (few_tables : length tables ≤ 64) (narrow : All (λ (t : TableDef). length t.columns ≤ 32) tables) where
   abbrev Known : Type 0
-  Known = (s : Stmt) × Claim (map table_of tables) (statement_faults tables s) (statement_passes s) (built tables s)
+  Known = (s : Stmt) × Claim (map (table_of tables) tables) (statement_faults tables s) (statement_passes s) (built tables s)
 
   -- statements one after another
   all_claim : (ys : List Known) → let ss = map (λ p. p.0) ys in
-      AllClaim (map table_of tables) (names.all_faults (map (statement_faults tables) ss)) (together (map statement_passes ss)) (map (built tables) ss)
+      AllClaim (map (table_of tables) tables) (names.all_faults (map (statement_faults tables) ss)) (together (map statement_passes ss)) (map (built tables) ss)
   all_claim [] scope slots vars n m fresh le h k = record { allowed = tt; counts = tt; count = refl }
   all_claim (p ∷ ps) scope slots vars n m fresh le h k =
       let ss = map (λ p. p.0) ps in
@@ -285,67 +285,67 @@ module _ (tables : List TableDef) (few_tables : length tables ≤ 64) (narrow : 
 
   -- one without loops
   without_rows : (vars : Vars) (n : ℕ) (d : open'.RStmt-F RStmt) (s : RStmt) → roll-RStmt d ≡ s → rows_step (map-RStmt RStmt (List ℕ) rows_in d) ≡ []
-      → stmt_step (map table_of tables) RStmt (λ y. y) (IsWell (map table_of tables)) d vars → Done (map table_of tables) vars n 0 s
+      → stmt_step (map (table_of tables) tables) RStmt (λ y. y) (IsWell (map (table_of tables) tables)) d vars → Done (map (table_of tables) tables) vars n 0 s
   without_rows vars n d s e none allowed =
-      done (map table_of tables) vars n 0 d s e allowed (subst (CountsFrom n) (sym none) tt) (ap length none)
+      done (map (table_of tables) tables) vars n 0 d s e allowed (subst (CountsFrom n) (sym none) tt) (ap length none)
 
-  here : (n : Name) → There (map table_of tables) (table_named tables n.text) (small (table_place tables n))
+  here : (n : Name) → There (map (table_of tables) tables) (table_named tables n.text) (small (table_place tables n))
   here n = there tables n few_tables narrow
 
   step_claim : (y : tree.Stmt-F Known) → let d = map-Stmt Known Stmt (λ p. p.0) y in
-      Claim (map table_of tables) (names.stmt_step tables (map-Stmt Stmt Faults (statement_faults tables) d)) (statement_step (map-Stmt Stmt (List Passed) statement_passes d))
+      Claim (map (table_of tables) tables) (names.stmt_step tables (map-Stmt Stmt Faults (statement_faults tables) d)) (statement_step (map-Stmt Stmt (List Passed) statement_passes d))
       (build.stmt_step tables (map-Stmt Stmt Built (built tables) d))
   step_claim (tree.Assign token to right) scope slots vars n m fresh le h k =
-      without_rows vars n (open'.Assign _ _) _ (rolls-Assign _ _) refl (assign_well (map table_of tables) scope slots vars m to right h)
+      without_rows vars n (open'.Assign _ _) _ (rolls-Assign _ _) refl (assign_well (map (table_of tables) tables) scope slots vars m to right h)
   step_claim (tree.Select token columns to table conds sorts offset) scope slots vars n m fresh le h k =
       without_rows vars n (open'.Select _ _ _ _ _ _) _ (rolls-Select _ _ _ _ _ _) refl
-      (select_well (map table_of tables) scope slots vars m (table_named tables table.text) (small (table_place tables table)) columns to table conds sorts offset (here table) h)
+      (select_well (map (table_of tables) tables) scope slots vars m (table_named tables table.text) (small (table_place tables table)) columns to table conds sorts offset (here table) h)
   step_claim (tree.Total token agg to table conds) scope slots vars n m fresh le h k =
       without_rows vars n (open'.Total _ _ _ _) _ (rolls-Total _ _ _ _) refl
-      (total_well (map table_of tables) scope slots vars m (table_named tables table.text) (small (table_place tables table)) agg to table conds (here table) h)
+      (total_well (map (table_of tables) tables) scope slots vars m (table_named tables table.text) (small (table_place tables table)) agg to table conds (here table) h)
   step_claim (tree.ForSelect token turn distinct columns table conds sorts body) scope slots vars n m fresh le h k =
       let ss = map (λ p. p.0) body in
       let a = too_many limit.Columns 32 name_token columns in
       let b = too_many limit.Columns 32 sort_token sorts ++ together (map statement_passes ss) in
-      for_select_done (map table_of tables) (names.all_faults (map (statement_faults tables) ss)) (together (map statement_passes ss)) (map (built tables) ss) (all_claim body)
+      for_select_done (map (table_of tables) tables) (names.all_faults (map (statement_faults tables) ss)) (together (map statement_passes ss)) (map (built tables) ss) (all_claim body)
       (table_named tables table.text) (small (table_place tables table)) turn distinct columns table conds sorts (here table) scope slots vars n m fresh le h
       (nothing_left a b k) (nothing_right (too_many limit.Columns 32 sort_token sorts) (together (map statement_passes ss)) (nothing_right a b k))
   step_claim (tree.ForRows token turn rows body) scope slots vars n m fresh le h k =
       let ss = map (λ p. p.0) body in
-      for_rows_done (map table_of tables) (names.all_faults (map (statement_faults tables) ss)) (together (map statement_passes ss)) (map (built tables) ss) (all_claim body)
+      for_rows_done (map (table_of tables) tables) (names.all_faults (map (statement_faults tables) ss)) (together (map statement_passes ss)) (map (built tables) ss) (all_claim body)
       turn rows scope slots vars n m fresh le h k
   step_claim (tree.Branch token test ys ns) scope slots vars n m fresh le h k =
       let ss = map (λ p. p.0) ys in
       let ts = map (λ p. p.0) ns in
-      branch_done (map table_of tables) (names.all_faults (map (statement_faults tables) ss)) (names.all_faults (map (statement_faults tables) ts)) (together (map statement_passes ss))
+      branch_done (map (table_of tables) tables) (names.all_faults (map (statement_faults tables) ss)) (names.all_faults (map (statement_faults tables) ts)) (together (map statement_passes ss))
       (together (map statement_passes ts)) (map (built tables) ss) (map (built tables) ts) (all_claim ys) (all_claim ns) test scope slots vars n m fresh le h k
   step_claim (tree.Insert token table values) scope slots vars n m fresh le h k =
       without_rows vars n (open'.Insert _ _) _ (rolls-Insert _ _) refl
-      (insert_well (map table_of tables) scope slots vars m (table_named tables table.text) (small (table_place tables table)) table values (here table) h)
+      (insert_well (map (table_of tables) tables) scope slots vars m (table_named tables table.text) (small (table_place tables table)) table values (here table) h)
   step_claim (tree.Update token table items conds) scope slots vars n m fresh le h k =
       without_rows vars n (open'.Update _ _ _) _ (rolls-Update _ _ _) refl
-      (update_well (map table_of tables) scope slots vars m (table_named tables table.text) (small (table_place tables table)) table items conds (here table) h)
+      (update_well (map (table_of tables) tables) scope slots vars m (table_named tables table.text) (small (table_place tables table)) table items conds (here table) h)
   step_claim (tree.Delete token table conds) scope slots vars n m fresh le h k =
       without_rows vars n (open'.Delete _ _) _ (rolls-Delete _ _) refl
-      (delete_well (map table_of tables) scope slots vars m (table_named tables table.text) (small (table_place tables table)) table conds (here table) h)
+      (delete_well (map (table_of tables) tables) scope slots vars m (table_named tables table.text) (small (table_place tables table)) table conds (here table) h)
   step_claim (tree.Print token values) scope slots vars n m fresh le h k =
       without_rows vars n (open'.Print _) _ (rolls-Print _) refl (printed scope slots vars m values h)
   step_claim (tree.Rollback token reason) scope slots vars n m fresh le h k = without_rows vars n (open'.Rollback reason) _ (rolls-Rollback reason) refl tt
 
   rolled : (x : tree.Stmt-F Stmt) (y : tree.Stmt-F Known) → map-Stmt Known Stmt (λ p. p.0) y ≡ x
-      → Claim (map table_of tables) (statement_faults tables (roll-Stmt x)) (statement_passes (roll-Stmt x)) (built tables (roll-Stmt x))
+      → Claim (map (table_of tables) tables) (statement_faults tables (roll-Stmt x)) (statement_passes (roll-Stmt x)) (built tables (roll-Stmt x))
   rolled x y is =
       let d = map-Stmt Known Stmt (λ p. p.0) y in
-      subst (λ z. Claim (map table_of tables) (statement_faults tables (roll-Stmt z)) (statement_passes (roll-Stmt z)) (built tables (roll-Stmt z))) is
-      (subst₃ (Claim (map table_of tables)) (sym (fold-roll-Stmt Faults (names.stmt_step tables) d)) (sym (fold-roll-Stmt (List Passed) statement_step d))
+      subst (λ z. Claim (map (table_of tables) tables) (statement_faults tables (roll-Stmt z)) (statement_passes (roll-Stmt z)) (built tables (roll-Stmt z))) is
+      (subst₃ (Claim (map (table_of tables) tables)) (sym (fold-roll-Stmt Faults (names.stmt_step tables) d)) (sym (fold-roll-Stmt (List Passed) statement_step d))
       (sym (fold-roll-Stmt Built (build.stmt_step tables) d)) (step_claim y))
 
-  pub stmt_claim : (s : Stmt) → Claim (map table_of tables) (statement_faults tables s) (statement_passes s) (built tables s)
-  stmt_claim = ind-Stmt (λ s. Claim (map table_of tables) (statement_faults tables s) (statement_passes s) (built tables s)) rolled
+  pub stmt_claim : (s : Stmt) → Claim (map (table_of tables) tables) (statement_faults tables s) (statement_passes s) (built tables s)
+  stmt_claim = ind-Stmt (λ s. Claim (map (table_of tables) tables) (statement_faults tables s) (statement_passes s) (built tables s)) rolled
 
   -- the statements of a procedure
-  pub stmts_claim : (ss : List Stmt) → AllClaim (map table_of tables) (names.statements tables ss) (together (map statement_passes ss)) (map (built tables) ss)
-  stmts_claim ss = subst (λ ts. AllClaim (map table_of tables) (names.statements tables ts) (together (map statement_passes ts)) (map (built tables) ts)) (map_map (λ p. p.0) claimed ss ∙ map-id ss) (all_claim (map claimed ss))
+  pub stmts_claim : (ss : List Stmt) → AllClaim (map (table_of tables) tables) (names.statements tables ss) (together (map statement_passes ss)) (map (built tables) ss)
+  stmts_claim ss = subst (λ ts. AllClaim (map (table_of tables) tables) (names.statements tables ts) (together (map statement_passes ts)) (map (built tables) ts)) (map_map (λ p. p.0) claimed ss ∙ map-id ss) (all_claim (map claimed ss))
     where
       claimed : Stmt → Known
       claimed s = (s, stmt_claim s)

@@ -28,8 +28,8 @@ use Rattle.mv_resolve.proofs.Exprs.{expr_claim, in_its_place}
 use Rattle.mv_resolve.proofs.Doubles.{all_apart}
 use Rattle.mv_resolve.proofs.Parts.{same_kind}
 
-pub same_kinds : (t : TableDef) → kinds_in t.columns ≡ kinds_of (table_of t)
-same_kinds t = sym (map_map _ described t.columns)
+pub same_kinds : (all : List TableDef) (t : TableDef) → kinds_in t.columns ≡ kinds_of (table_of all t)
+same_kinds all t = sym (map_map _ (described all) t.columns)
 
 -- what holds of each holds of the first of a name
 pub first_holds : {A : Type 0} (P : A → Type 0) (name : A → Text) (xs : List A) (n : Text) (x : A) → All P xs → first_named name xs n ≡ Some x → P x
@@ -37,23 +37,24 @@ first_holds P name xs n x all is =
     let at : slice_get xs (place_named name xs n) ≡ Some x = place_found name xs n x is in
     subst P (get_or_from_slice_get xs (place_named name xs n) x x at) (all (place_named name xs n) x (slice_get_within xs (place_named name xs n) x at))
 
--- the table of a name stands at its number
+-- the table of a name stands at its number, among all of these
 abbrev pub There : List TableInfo → Option TableDef → ℕ → Type 0
 There infos None at = Unit {0}
-There infos (Some t) at = (slice_get infos at ≡ Some (table_of t)) × (length t.columns ≤ 32)
+There infos (Some t) at = (all : List TableDef) × (slice_get infos at ≡ Some (table_of all t)) × (length t.columns ≤ 32)
 
 there_by : (tables : List TableDef) (n : Name) (o : Option TableDef) → length tables ≤ 64 → All (λ (t : TableDef). length t.columns ≤ 32) tables → table_named tables n.text ≡ o
-    → There (map table_of tables) o (small (table_place tables n))
+    → There (map (table_of tables) tables) o (small (table_place tables n))
 there_by tables n None few all is = tt
 there_by tables n (Some t) few all is =
     let at : slice_get tables (table_place tables n) ≡ Some t = place_found (λ (d : TableDef). d.name.text) tables n.text t is in
     let lt : table_place tables n < length tables = slice_get_within tables (table_place tables n) t at in (
-      rw (small_is (table_place tables n) (omega arith)) (get_map table_of tables (table_place tables n) t at),
+      tables,
+      rw (small_is (table_place tables n) (omega arith)) (get_map (table_of tables) tables (table_place tables n) t at),
       first_holds (λ (d : TableDef). length d.columns ≤ 32) (λ (d : TableDef). d.name.text) tables n.text t all is,
     )
 
 pub there : (tables : List TableDef) (n : Name) → length tables ≤ 64 → All (λ (t : TableDef). length t.columns ≤ 32) tables
-    → There (map table_of tables) (table_named tables n.text) (small (table_place tables n))
+    → There (map (table_of tables) tables) (table_named tables n.text) (small (table_place tables n))
 there tables n few all = there_by tables n (table_named tables n.text) few all refl
 
 -- a column that is no fault is there
@@ -104,9 +105,9 @@ no_key columns (k ∷ ks) c y few is h found =
     (contains_cases (tiny (place_named column_name columns k.text)) (map (λ (n : Name). tiny (place_named column_name columns n.text)) ks) (column_number columns c) found)
 
 -- an item of SET
-item_of : (scope : List Entry) (slots : List Slot) (vars : Vars) (t : TableDef) → Matches scope slots vars → length t.columns ≤ 32 → (i : SetItem)
-    → names.item_faults scope (Some t) i ≡ [] → IsItem vars (table_of t) (record { column = column_number t.columns i.column; right = expr_of i.right slots t.columns })
-item_of scope slots vars t m few i h =
+item_of : (scope : List Entry) (slots : List Slot) (vars : Vars) (all : List TableDef) (t : TableDef) → Matches scope slots vars → length t.columns ≤ 32 → (i : SetItem)
+    → names.item_faults scope (Some t) i ≡ [] → IsItem vars (table_of all t) (record { column = column_number t.columns i.column; right = expr_of i.right slots t.columns })
+item_of scope slots vars all t m few i h =
     let own = t.columns in
     let place = type_among (Some own) i.column.text in
     let a = column_faults (Some own) i.column in
@@ -120,19 +121,19 @@ item_of scope slots vars t m few i h =
     let r = expr_claim i.right scope slots vars own m few (nothing_left j.faults (misfit place j.token j.type) hj) in
     let same : r.0 ≡ c.0 = same_kind c.0 r.0 (subst (λ p. clash p (known r.0) ≡ false) c.1 (in_its_place place j r.0 r.1 hj)) in
     let right : HasType vars (kinds_in own) (expr_of i.right slots own) c.0 = subst (HasType vars (kinds_in own) (expr_of i.right slots own)) same r.2 in
-    let free : Contains (table_of t).key (column_number own i.column) → ⊥ =
+    let free : Contains (table_of all t).key (column_number own i.column) → ⊥ =
     no_key own t.key i.column d.0 few d.1 (not_when (is_named (λ (k : Name). k.text) t.key i.column.text) (key_set i.column.token) (nothing_right a b hab)) in (
       c.0,
-      subst (λ ks. slice_get ks (column_number own i.column) ≡ Some c.0) (same_kinds t) c.2,
+      subst (λ ks. slice_get ks (column_number own i.column) ≡ Some c.0) (same_kinds all t) c.2,
       free,
-      subst (λ ks. HasType vars ks (expr_of i.right slots own) c.0) (same_kinds t) right,
+      subst (λ ks. HasType vars ks (expr_of i.right slots own) c.0) (same_kinds all t) right,
     )
 
-pub items_are : (scope : List Entry) (slots : List Slot) (vars : Vars) (t : TableDef) → Matches scope slots vars → length t.columns ≤ 32 → (is : List SetItem)
-    → flat_map (names.item_faults scope (Some t)) is ≡ [] → All (IsItem vars (table_of t)) (items_of slots t.columns is)
-items_are scope slots vars t m few is h =
+pub items_are : (scope : List Entry) (slots : List Slot) (vars : Vars) (all : List TableDef) (t : TableDef) → Matches scope slots vars → length t.columns ≤ 32 → (is : List SetItem)
+    → flat_map (names.item_faults scope (Some t)) is ≡ [] → All (IsItem vars (table_of all t)) (items_of slots t.columns is)
+items_are scope slots vars all t m few is h =
     all_mapped (names.item_faults scope (Some t)) (λ (i : SetItem). record { column = column_number t.columns i.column; right = expr_of i.right slots t.columns })
-    (IsItem vars (table_of t)) (item_of scope slots vars t m few) is h
+    (IsItem vars (table_of all t)) (item_of scope slots vars all t m few) is h
 
 -- each sets another column
 module _ (columns : List ColDef) (few : length columns ≤ 32) where

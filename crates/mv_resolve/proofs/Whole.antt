@@ -8,6 +8,7 @@ use Rattle.std.proofs.lemmas.Bool.{not-false}
 use Rattle.mv_values.specs.declared.schema.ColType.{ColType}
 use Rattle.mv_values.specs.declared.schema.ColType.TheVariants as column
 use Rattle.mv_values.specs.declared.schema.Column.{Column}
+use Rattle.mv_values.specs.declared.schema.TableInfo.{TableInfo}
 use Rattle.mv_values.specs.declared.value.Value.{Value}
 use Rattle.mv_values.specs.declared.value.Value.TheVariants as value
 use Rattle.mv_ast.specs.declared.limit.Which.TheVariants as limit
@@ -34,13 +35,16 @@ use Rattle.mv_ast.proofs.Limited.{few, tables_kept, procedures_kept, items_kept}
 use Rattle.mv_names.specs.First.{wrong, unknown}
 use Rattle.mv_names.specs.Named.{Text, same_text, first_named, place_named, is_named}
 use Rattle.mv_names.specs.Items.{table_in, procedure_in, parts_of, lates}
+use Rattle.mv_names.specs.Scope.{type_in, type_of_column}
+use Rattle.mv_names.specs.Typing.{clash}
 use Rattle.mv_names.specs.Statements.{doubles, table_named, missing_table}
 use Rattle.mv_names.specs.Faults as faults
-use Rattle.mv_resolve.specs.Building.{tiny, column_name, described, table_of, table_place, row_of, rows_of, param_of, procedure_of, copy_of, argument_of, call_of, resolved_of}
-use Rattle.mv_catalog.specs.Text.{IsOf, IsRow, IsTable, RowsFit, Suits, IsCall, IsProcedure, FitsText}
-use Rattle.mv_resolve.proofs.Lists.{nothing_left, nothing_right, not_when, all_mapped, each_of, get_map, place_found, small_is}
+use Rattle.mv_resolve.specs.Building.{tiny, column_name, parent_number, described, table_of, table_place, row_of, rows_of, param_of, procedure_of, copy_of, argument_of, call_of, resolved_of}
+use Rattle.mv_catalog.specs.Types.{kind_of_column}
+use Rattle.mv_catalog.specs.Text.{IsOf, IsRow, IsTable, IsKeyOf, Refers, HasParent, HaveParents, RowsFit, Suits, IsCall, IsProcedure, FitsText}
+use Rattle.mv_resolve.proofs.Lists.{nothing_left, nothing_right, not_when, all_mapped, each_of, get_map, place_found, small_is, tiny_is}
 use Rattle.mv_catalog.proofs.Maps.{map_map}
-use Rattle.mv_resolve.proofs.Tables.{place_apart}
+use Rattle.mv_resolve.proofs.Tables.{first_holds, place_apart}
 use Rattle.mv_resolve.proofs.Doubles.{all_apart}
 use Rattle.mv_resolve.proofs.Procs.{procedure_is}
 
@@ -105,10 +109,10 @@ module _ (columns : List ColDef) (most : length columns ≤ 32) where
   abbrev place : Name → ℕ
   place n = tiny (place_named column_name columns n.text)
 
-  key_within : (n : Name) → faults.missing_key columns n ≡ [] → place n < length (map described columns)
-  key_within n h =
+  key_within : (all : List TableDef) (n : Name) → faults.missing_key columns n ≡ [] → place n < length (map (described all) columns)
+  key_within all n h =
       let lt = named_within column_name columns n.text (key_named columns n h) in
-      omega (arith, length-map columns described)
+      omega (arith, length-map columns (described all))
 
   apart : (n k : Name) → is_named column_name columns n.text ≡ true → is_named column_name columns k.text ≡ true → same_text n.text k.text ≡ false → place n ≢ place k
   apart n k hn hk other e =
@@ -127,67 +131,135 @@ table_most t h =
     few limit.Columns 32 column_token t.columns
     (nothing_left (too_many limit.Columns 32 column_token t.columns) (too_many limit.Key 8 name_token t.key ++ together (map row_passes t.rows)) h)
 
-table_is : (t : TableDef) → 0 < length t.key → length t.columns ≤ 32 → faults.table t ≡ [] → IsTable (table_of t)
-table_is t some most h =
-    let a = faults.column_doubles t.columns in
+table_is : (all : List TableDef) (t : TableDef) → 0 < length t.key → length t.columns ≤ 32 → faults.table all t ≡ [] → IsTable (table_of all t)
+table_is all t some most h =
+    let a = faults.column_doubles t.columns ++ flat_map (faults.column_reference all) t.columns in
     let b = flat_map (faults.missing_key t.columns) t.key in
     let c = faults.key_doubles t.key in
     let d = faults.rows t.columns t.rows in
     let hc : (a ++ b) ++ c ≡ [] = nothing_left ((a ++ b) ++ c) d h in
     let hb : b ≡ [] = nothing_right a b (nothing_left (a ++ b) c hc) in
-    let key = all_mapped (faults.missing_key t.columns) (λ (n : Name). tiny (place_named column_name t.columns n.text)) (λ c. c < length (map described t.columns)) (key_within t.columns most) t.key hb in
-    let count : length (table_of t).key ≡ length t.key = length-map t.key (λ (n : Name). tiny (place_named column_name t.columns n.text)) in
+    let key = all_mapped (faults.missing_key t.columns) (λ (n : Name). tiny (place_named column_name t.columns n.text)) (λ c. c < length (map (described all) t.columns)) (key_within t.columns most all) t.key hb in
+    let count : length (table_of all t).key ≡ length t.key = length-map t.key (λ (n : Name). tiny (place_named column_name t.columns n.text)) in
     record {
       wide = (let first = key 0 0 (omega (arith, count)) in omega arith);
-      narrow = omega (arith, most, length-map t.columns described);
+      narrow = omega (arith, most, length-map t.columns (described all));
       some = omega (arith, count);
       within = key;
       once = once t.columns most t.key hb (nothing_right (a ++ b) c hc);
     }
 
-table_rows : (t : TableDef) → faults.table t ≡ [] → RowsFit (table_of t) (rows_of t.rows)
-table_rows t h =
-    let a = faults.column_doubles t.columns in
+table_rows : (all : List TableDef) (t : TableDef) → faults.table all t ≡ [] → RowsFit (table_of all t) (rows_of t.rows)
+table_rows all t h =
+    let a = faults.column_doubles t.columns ++ flat_map (faults.column_reference all) t.columns in
     let b = flat_map (faults.missing_key t.columns) t.key in
     let c = faults.key_doubles t.key in
     let d = faults.rows t.columns t.rows in
-    subst (λ types. All (IsRow types) (rows_of t.rows)) (sym (map_map (λ (c : Column). c.kind) described t.columns)) (rows_are t.columns t.rows (nothing_right ((a ++ b) ++ c) d h))
+    subst (λ types. All (IsRow types) (rows_of t.rows)) (sym (map_map (λ (c : Column). c.kind) (described all) t.columns)) (rows_are t.columns t.rows (nothing_right ((a ++ b) ++ c) d h))
 
-tables_are : (ts : List TableDef) → All (λ (t : TableDef). 0 < length t.key) ts → All (λ (t : TableDef). length t.columns ≤ 32) ts → flat_map faults.table ts ≡ [] → All IsTable (map table_of ts)
-tables_are [] some most h = All-nil IsTable
-tables_are (t ∷ ts) some most h =
-    let a = faults.table t in
-    let b = flat_map faults.table ts in
-    All-cons IsTable (table_of t) (map table_of ts) (table_is t (some 0 t (omega arith)) (most 0 t (omega arith)) (nothing_left a b h))
-    (tables_are ts (All-tail (λ (t : TableDef). 0 < length t.key) t ts some) (All-tail (λ (t : TableDef). length t.columns ≤ 32) t ts most) (nothing_right a b h))
+tables_are : (all ts : List TableDef) → All (λ (t : TableDef). 0 < length t.key) ts → All (λ (t : TableDef). length t.columns ≤ 32) ts → flat_map (faults.table all) ts ≡ []
+    → All IsTable (map (table_of all) ts)
+tables_are all [] some most h = All-nil IsTable
+tables_are all (t ∷ ts) some most h =
+    let a = faults.table all t in
+    let b = flat_map (faults.table all) ts in
+    All-cons IsTable (table_of all t) (map (table_of all) ts) (table_is all t (some 0 t (omega arith)) (most 0 t (omega arith)) (nothing_left a b h))
+    (tables_are all ts (All-tail (λ (t : TableDef). 0 < length t.key) t ts some) (All-tail (λ (t : TableDef). length t.columns ≤ 32) t ts most) (nothing_right a b h))
 
-all_rows : (ts : List TableDef) → flat_map faults.table ts ≡ [] → AllZip RowsFit (map table_of ts) (map (λ (t : TableDef). rows_of t.rows) ts)
-all_rows [] h = tt
-all_rows (t ∷ ts) h =
-    let a = faults.table t in
-    let b = flat_map faults.table ts in
-    (table_rows t (nothing_left a b h), all_rows ts (nothing_right a b h))
+all_rows : (all ts : List TableDef) → flat_map (faults.table all) ts ≡ [] → AllZip RowsFit (map (table_of all) ts) (map (λ (t : TableDef). rows_of t.rows) ts)
+all_rows all [] h = tt
+all_rows all (t ∷ ts) h =
+    let a = faults.table all t in
+    let b = flat_map (faults.table all) ts in
+    (table_rows all t (nothing_left a b h), all_rows all ts (nothing_right a b h))
+
+-- Parents
+
+same_kind : (type other : ColType) → not (clash (type_in type) (type_in other)) ≡ true → kind_of_column other ≡ kind_of_column type
+same_kind column.Int column.Int h = refl
+same_kind column.Int (column.Text n) h = cc
+same_kind (column.Text m) column.Int h = cc
+same_kind (column.Text m) (column.Text n) h = refl
+
+-- a key of one column, which is there and of the type
+key_is : (all : List TableDef) (type : ColType) (columns : List ColDef) (key : List Name) (t : TableInfo) → length columns ≤ 32 → faults.can_be_key type columns key ≡ true
+    → flat_map (faults.missing_key columns) key ≡ [] → t.columns ≡ map (described all) columns → t.key ≡ map (λ (n : Name). tiny (place_named column_name columns n.text)) key → IsKeyOf type t
+key_is all type columns [] t few can none is keyed = cc
+key_is all type columns (k ∷ []) t few can none is keyed =
+    let at = place_named column_name columns k.text in
+    let found = named_found column_name columns k.text (key_named columns k (nothing_left (faults.missing_key columns k) [] none)) in
+    let there : slice_get columns at ≡ Some found.0 = place_found column_name columns k.text found.0 found.1 in
+    let within : at < length columns = slice_get_within columns at found.0 there in
+    let got : slice_get (map (described all) columns) (tiny at) ≡ Some (described all found.0) = rw (tiny_is at (omega arith)) (get_map (described all) columns at found.0 there) in (
+      tiny at,
+      described all found.0,
+      keyed,
+      subst (λ cs. slice_get cs (tiny at) ≡ Some (described all found.0)) (sym is) got,
+      same_kind type found.0.kind (subst (λ o. not (clash (type_in type) (type_of_column o)) ≡ true) found.1 can),
+    )
+key_is all type columns (k ∷ l ∷ ks) t few can none is keyed = cc
+
+-- what each of the parts makes nothing of
+each_none : {A B : Type 0} (f : A → List B) (xs : List A) → flat_map f xs ≡ [] → All (λ x. f x ≡ []) xs
+each_none f [] h = All-nil (λ x. f x ≡ [])
+each_none f (x ∷ xs) h = All-cons (λ x. f x ≡ []) x xs (nothing_left (f x) (flat_map f xs) h) (each_none f xs (nothing_right (f x) (flat_map f xs) h))
+
+module _ (all : List TableDef) (few_tables : length all ≤ 64) (narrow : All (λ (t : TableDef). length t.columns ≤ 32) all) (none : flat_map (faults.table all) all ≡ []) where
+  keys_there : (t : TableDef) → faults.table all t ≡ [] → flat_map (faults.missing_key t.columns) t.key ≡ []
+  keys_there t h =
+      let a = faults.column_doubles t.columns ++ flat_map (faults.column_reference all) t.columns in
+      let b = flat_map (faults.missing_key t.columns) t.key in
+      let c = faults.key_doubles t.key in
+      let d = faults.rows t.columns t.rows in
+      nothing_right a b (nothing_left (a ++ b) c (nothing_left ((a ++ b) ++ c) d h))
+
+  parent_is : (type : ColType) (n : Name) (o : Option TableDef) → table_named all n.text ≡ o → faults.parent type n o ≡ [] → Refers (map (table_of all) all) type (Some (tiny (table_place all n)))
+  parent_is type n None is h = cc
+  parent_is type n (Some t) is h =
+      let at : slice_get all (table_place all n) ≡ Some t = place_found (λ (d : TableDef). d.name.text) all n.text t is in
+      let lt : table_place all n < length all = slice_get_within all (table_place all n) t at in
+      let most : length t.columns ≤ 32 = first_holds (λ (d : TableDef). length d.columns ≤ 32) (λ (d : TableDef). d.name.text) all n.text t narrow is in
+      let own : faults.table all t ≡ [] = first_holds (λ (d : TableDef). faults.table all d ≡ []) (λ (d : TableDef). d.name.text) all n.text t (each_none (faults.table all) all none) is in
+      let can : faults.can_be_key type t.columns t.key ≡ true = not-false (faults.can_be_key type t.columns t.key) (not_when (not (faults.can_be_key type t.columns t.key)) (wrong n.token) h) in
+      (table_of all t, rw (tiny_is (table_place all n) (omega arith)) (get_map (table_of all) all (table_place all n) t at), key_is all type t.columns t.key (table_of all t) most can (keys_there t own) refl refl)
+
+  refers_to : (type : ColType) (o : Option Name) → faults.reference all type o ≡ [] → Refers (map (table_of all) all) type (parent_number all o)
+  refers_to type None h = tt
+  refers_to type (Some n) h = parent_is type n (table_named all n.text) refl h
+
+  own_parents : (t : TableDef) → faults.table all t ≡ [] → All (HasParent (map (table_of all) all)) (map (described all) t.columns)
+  own_parents t h =
+      let r = flat_map (faults.column_reference all) t.columns in
+      let a = faults.column_doubles t.columns in
+      let b = flat_map (faults.missing_key t.columns) t.key in
+      let c = faults.key_doubles t.key in
+      let d = faults.rows t.columns t.rows in
+      all_mapped (faults.column_reference all) (described all) (HasParent (map (table_of all) all)) (λ c e. refers_to c.kind c.refers e) t.columns
+      (nothing_right a r (nothing_left (a ++ r) b (nothing_left ((a ++ r) ++ b) c (nothing_left (((a ++ r) ++ b) ++ c) d h))))
+
+  parents_are : HaveParents (map (table_of all) all)
+  parents_are = all_mapped (faults.table all) (table_of all) (λ (t : TableInfo). All (HasParent (map (table_of all) all)) t.columns) own_parents all none
 
 -- Procedures
 
 procedures_are : (tables : List TableDef) → length tables ≤ 64 → All (λ (t : TableDef). length t.columns ≤ 32) tables → (ps : List ProcDef) → flat_map (faults.procedure tables) ps ≡ []
-    → All (λ (p : ProcDef). procedure_passes p ≡ []) ps → All (IsProcedure (map table_of tables)) (map (procedure_of tables) ps)
-procedures_are tables few_tables narrow [] h k = All-nil (IsProcedure (map table_of tables))
+    → All (λ (p : ProcDef). procedure_passes p ≡ []) ps → All (IsProcedure (map (table_of tables) tables)) (map (procedure_of tables) ps)
+procedures_are tables few_tables narrow [] h k = All-nil (IsProcedure (map (table_of tables) tables))
 procedures_are tables few_tables narrow (p ∷ ps) h k =
     let a = faults.procedure tables p in
     let b = flat_map (faults.procedure tables) ps in
-    All-cons (IsProcedure (map table_of tables)) (procedure_of tables p) (map (procedure_of tables) ps) (procedure_is tables p few_tables narrow (nothing_left a b h) (k 0 p (omega arith)))
+    All-cons (IsProcedure (map (table_of tables) tables)) (procedure_of tables p) (map (procedure_of tables) ps) (procedure_is tables p few_tables narrow (nothing_left a b h) (k 0 p (omega arith)))
     (procedures_are tables few_tables narrow ps (nothing_right a b h) (All-tail (λ (p : ProcDef). procedure_passes p ≡ []) p ps k))
 
 -- Copies and calls
 
 copy_by : (tables : List TableDef) (c : CopyDef) (o : Option TableDef) → length tables ≤ 64 → table_named tables c.table.text ≡ o → missing_table c.table.token o ≡ []
-    → tiny (table_place tables c.table) < length (map table_of tables)
+    → tiny (table_place tables c.table) < length (map (table_of tables) tables)
 copy_by tables c None few_tables is h = cc
 copy_by tables c (Some t) few_tables is h =
     let at : slice_get tables (table_place tables c.table) ≡ Some t = place_found (λ (d : TableDef). d.name.text) tables c.table.text t is in
     let lt : table_place tables c.table < length tables = slice_get_within tables (table_place tables c.table) t at in
-    omega (arith, length-map tables table_of)
+    omega (arith, length-map tables (table_of tables))
 
 argument_suits : (k : ParamKind) (a : Arg) → faults.argument k a ≡ [] → Suits (param_of k) (argument_of a)
 argument_suits (param.One type) (arg.One l) h = literal_of type l h
@@ -273,7 +345,7 @@ fits_text script h k keys =
     let p = parts_of script.items in
     let a = faults.table_doubles p.tables in
     let b = faults.procedure_doubles p.procedures in
-    let c = flat_map faults.table p.tables in
+    let c = flat_map (faults.table p.tables) p.tables in
     let d = flat_map (faults.procedure p.tables) p.procedures in
     let e = flat_map (faults.copy p.tables) p.copies in
     let f = flat_map (faults.call p.procedures) p.calls in
@@ -287,11 +359,12 @@ fits_text script h k keys =
     let narrow : All (λ (t : TableDef). length t.columns ≤ 32) p.tables = kept_all table_in (λ (t : TableDef). length t.columns ≤ 32) (λ k. item_passes k ≡ []) kept_table script.items kept in
     let named : All (λ (t : TableDef). 0 < length t.key) p.tables = kept_all table_in (λ (t : TableDef). 0 < length t.key) NamesKey keyed_table script.items keys in
     record {
-      few = omega (arith, few_tables, length-map p.tables table_of);
-      tables = tables_are p.tables named narrow hc;
-      rows = all_rows p.tables hc;
+      few = omega (arith, few_tables, length-map p.tables (table_of p.tables));
+      tables = tables_are p.tables p.tables named narrow hc;
+      parents = parents_are p.tables few_tables narrow hc;
+      rows = all_rows p.tables p.tables hc;
       procedures = procedures_are p.tables few_tables narrow p.procedures (nothing_right ((a ++ b) ++ c) d hd) (kept_all procedure_in (λ (p : ProcDef). procedure_passes p ≡ []) (λ k. item_passes k ≡ []) kept_procedure script.items kept);
-      copies = all_mapped (faults.copy p.tables) (copy_of p.tables) (λ c. c.table < length (map table_of p.tables))
+      copies = all_mapped (faults.copy p.tables) (copy_of p.tables) (λ c. c.table < length (map (table_of p.tables) p.tables))
           (λ c none. copy_by p.tables c (table_named p.tables c.table.text) few_tables refl none) p.copies (nothing_right (((a ++ b) ++ c) ++ d) e he);
       calls = all_mapped (faults.call p.procedures) (call_of p.procedures) (IsCall (map (procedure_of p.tables) p.procedures))
           (λ c none. call_by p.tables p.procedures c (faults.procedure_named p.procedures c.name) few_procedures refl none) p.calls (nothing_right ((((a ++ b) ++ c) ++ d) ++ e) f all);

@@ -261,14 +261,19 @@ statements_of tables ss slots n = build_all (map (built tables) ss) slots n
 
 -- Items
 
-abbrev pub described : ColDef → Column
-described c = record { name = c.name.text; kind = c.kind }
+-- the number of a column's parent table, if it has REFERENCES
+abbrev pub parent_number : List TableDef → Option Name → Option ℕ
+parent_number tables None = None
+parent_number tables (Some n) = Some (tiny (table_place tables n))
+
+abbrev pub described : List TableDef → ColDef → Column
+described tables c = record { name = c.name.text; kind = c.kind; refers = parent_number tables c.refers }
 
 -- a table; its key columns are given by their indexes
-abbrev pub table_of : TableDef → TableInfo
-table_of t = record {
+abbrev pub table_of : List TableDef → TableDef → TableInfo
+table_of tables t = record {
   name = t.name.text;
-  columns = map described t.columns;
+  columns = map (described tables) t.columns;
   key = map (λ (n : Name). tiny (place_named column_name t.columns n.text)) t.key;
 }
 
@@ -315,7 +320,7 @@ journal_of (Some s) = Some (copy_info 0 s)
 
 abbrev pub resolved_parts : Parts → Resolved
 resolved_parts p = record {
-  tables = map table_of p.tables;
+  tables = map (table_of p.tables) p.tables;
   rows = map (λ (t : TableDef). rows_of t.rows) p.tables;
   procedures = map (procedure_of p.tables) p.procedures;
   copies = map (copy_of p.tables) p.copies;

@@ -7,7 +7,7 @@ ghost use Rattle.mv_ast.specs.declared.tree.TableDef.{TableDef as TableValue};
 ghost use Rattle.mv_ast.specs.declared.tree.Param.{Param as ParamValue};
 ghost use Rattle.mv_ast.specs.declared.tree.VarDef.{VarDef as VarValue};
 ghost use Rattle.mv_ast.specs.declared.tree.ColDef.{ColDef as ColValue};
-ghost use Rattle.mv_resolve.specs.Building.{tiny, column_name, described, table_of, row_of, rows_of, param_of, procedure_of, copy_info, copy_of, argument_of, call_of, journal_of, resolved_parts};
+ghost use Rattle.mv_resolve.specs.Building.{tiny, column_name, parent_number, described, table_of, row_of, rows_of, param_of, procedure_of, copy_info, copy_of, argument_of, call_of, journal_of, resolved_parts};
 
 use crate::build_names::{number_of_found, push_copy, slots, small_number, sum, tiny_number};
 use crate::build_statements::statements;
@@ -28,14 +28,29 @@ use std::alloc::Global;
 
 // Tables
 
-fn described_columns(alloc: Global, columns: &[ColDef]) -> Result<List<Column>, NoMemory>
-    ensures { IfOk result (λ all. all ≡ map described columns.now) }
+/// Returns the number of a column's parent table, if it has REFERENCES.
+fn number_of_parent(tables: &Index<'_, Table<'_>>, parent: &Option<Name>) -> Option<u8>
+    ensures { result ≡ parent_number tables.now parent.now }
+{
+    match parent {
+        None => None,
+        Some(name) => Some(tiny_number(tables.place(&name.text))),
+    }
+}
+
+fn described_columns(
+    alloc: Global,
+    tables: &Index<'_, Table<'_>>,
+    columns: &[ColDef],
+) -> Result<List<Column>, NoMemory>
+    ensures { IfOk result (λ all. all ≡ map (described tables.now) columns.now) }
 {
     let mut all = List::new(alloc);
     for column in columns {
         all.push(Column {
             name: column.name.text.copy(alloc)?,
             kind: column.kind,
+            refers: number_of_parent(tables, &column.refers),
         })?;
     }
     Ok(all)
@@ -56,23 +71,31 @@ fn key_places(
     Ok(all)
 }
 
-fn table_info(alloc: Global, table: &Table<'_>) -> Result<TableInfo, NoMemory>
-    ensures { IfOk result (λ t. t ≡ table_of table.now) }
+fn table_info(
+    alloc: Global,
+    tables: &Index<'_, Table<'_>>,
+    table: &Table<'_>,
+) -> Result<TableInfo, NoMemory>
+    ensures { IfOk result (λ t. t ≡ table_of tables.now table.now) }
 {
     let definition = table.definition();
     Ok(TableInfo {
         name: definition.name.text.copy(alloc)?,
-        columns: described_columns(alloc, definition.columns.as_slice())?,
+        columns: described_columns(alloc, tables, definition.columns.as_slice())?,
         key: key_places(alloc, table.columns(), definition.key.as_slice())?,
     })
 }
 
-fn table_infos(alloc: Global, tables: &[Table<'_>]) -> Result<List<TableInfo>, NoMemory>
-    ensures { IfOk result (λ all. all ≡ map table_of tables.now) }
+fn table_infos(
+    alloc: Global,
+    index: &Index<'_, Table<'_>>,
+    tables: &[Table<'_>],
+) -> Result<List<TableInfo>, NoMemory>
+    ensures { IfOk result (λ all. all ≡ map (table_of index.now) tables.now) }
 {
     let mut all = List::new(alloc);
     for table in tables {
-        all.push(table_info(alloc, table)?)?;
+        all.push(table_info(alloc, index, table)?)?;
     }
     Ok(all)
 }
@@ -297,7 +320,7 @@ pub fn built(alloc: Global, parts: &Parts) -> Result<Resolved, NoMemory>
     let tables = with_columns(alloc, parts.tables.as_slice())?;
     let index = Index::of(alloc, tables.as_slice())?;
     Ok(Resolved {
-        tables: table_infos(alloc, tables.as_slice())?,
+        tables: table_infos(alloc, &index, tables.as_slice())?,
         rows: rows_of_tables(alloc, parts.tables.as_slice())?,
         procedures: procedures(alloc, &index, definitions)?,
         copies: copies(alloc, &index, parts.copies.as_slice())?,
