@@ -10,3 +10,5 @@ pub mod FirstRows
 pub mod Few
 pub mod Printing
 pub mod Lines
+pub mod Making
+pub mod Holding

@@ -2,7 +2,7 @@
 use Rattle.std.proofs.Common.{◌≡◌, ℕ, zero, suc, ◌==◌, Bool, true, false, cond, List, [], ◌∷◌, Result, Ok, Err, slice_set, pos, refl, sym, ap, subst, ◌∙◌}
 use Rattle.std.proofs.lemmas.List.{get_or-set_other}
 use Rattle.std.proofs.lemmas.List.Elements.{All-cons, All-head, All-tail, All-filter}
-use Rattle.std.specs.Prelude.{not}
+use Rattle.std.specs.Prelude.{not, if◌then◌else◌}
 use Rattle.std.specs.List.{list_any}
 use Rattle.std.specs.declared.cmp.Ordering.{Ordering}
 use Rattle.std.specs.declared.cmp.Ordering.TheVariants.{Less, Equal, Greater}
@@ -12,7 +12,6 @@ use Rattle.mv_values.specs.declared.value.Value.{Value}
 use Rattle.mv_values.specs.declared.value.Value.TheVariants.{Int}
 use Rattle.mv_values.specs.declared.pred.Test.{Test}
 use Rattle.mv_values.specs.declared.rows.Keyed.{Keyed}
-use Rattle.mv_values.specs.declared.schema.Column.{Column}
 use Rattle.mv_values.specs.declared.schema.TableInfo.{TableInfo}
 use Rattle.mv_values.specs.declared.calls.End.{End}
 use Rattle.mv_values.specs.Columns.{column_of, columns_of}
@@ -25,8 +24,11 @@ use Rattle.mv_alone.specs.declared.state.Env.{Env}
 use Rattle.mv_alone.specs.declared.state.State.{State}
 use Rattle.mv_alone.specs.Outcome.{then_do}
 use Rattle.mv_alone.specs.Value.{value_of}
-use Rattle.mv_alone.specs.Rows.{fit, tests_of, is_some_row}
-use Rattle.mv_alone.specs.Changes.{with_column, set_row, updated, without, put_row_by, put_row, new_row, keyed}
+use Rattle.mv_alone.specs.Rows.{tests_of, is_some_row}
+use Rattle.mv_alone.specs.References.{fit_in, has_parents, has_children}
+use Rattle.mv_values.specs.References.{references, references_to}
+use Rattle.mv_values.specs.declared.calls.End.TheVariants.{MissingParent, HasChildren}
+use Rattle.mv_alone.specs.Changes.{with_column, set_row_by, updated, without, put_row_by, put_row, new_row, keyed}
 use Rattle.mv_alone.specs.Alone.{matching_in, with_rows, insert, update, delete}
 use Rattle.mv_alone.specs.Own.{StandUnder}
 
@@ -60,18 +62,18 @@ column_keeps keys c v row = by (list_any (λ k. k == c) keys) refl
     by false e = columns_set row c v keys e
 
 -- the items of SET leave the key columns
-pub set_row_keeps : (columns : List Column) (keys : List ℕ) (env : Env) (was : List Value) (items : List RSetItem) (row made : List Value) → set_row columns keys env was items row ≡ Ok made → columns_of made keys ≡ columns_of row keys
-set_row_keeps columns keys env was [] row made h = let same : row ≡ made = cc in ap (λ r. columns_of r keys) (sym same)
-set_row_keeps columns keys env was (i ∷ is) row made h = by (value_of i.right env was) h (λ w. set_row_keeps columns keys env was is (with_column keys i.column w row) made)
+pub set_row_keeps : (fits : ℕ → Value → Result Value End) (keys : List ℕ) (env : Env) (was : List Value) (items : List RSetItem) (row made : List Value) → set_row_by fits keys env was items row ≡ Ok made → columns_of made keys ≡ columns_of row keys
+set_row_keeps fits keys env was [] row made h = let same : row ≡ made = cc in ap (λ r. columns_of r keys) (sym same)
+set_row_keeps fits keys env was (i ∷ is) row made h = by (value_of i.right env was) h (λ w. set_row_keeps fits keys env was is (with_column keys i.column w row) made)
   where
-    fitting : (r : Result Value End) → then_do r (λ w. set_row columns keys env was is (with_column keys i.column w row)) ≡ Ok made
-        → ((w : Value) → set_row columns keys env was is (with_column keys i.column w row) ≡ Ok made → columns_of made keys ≡ columns_of (with_column keys i.column w row) keys) → columns_of made keys ≡ columns_of row keys
+    fitting : (r : Result Value End) → then_do r (λ w. set_row_by fits keys env was is (with_column keys i.column w row)) ≡ Ok made
+        → ((w : Value) → set_row_by fits keys env was is (with_column keys i.column w row) ≡ Ok made → columns_of made keys ≡ columns_of (with_column keys i.column w row) keys) → columns_of made keys ≡ columns_of row keys
     fitting (Ok w) h later = later w h ∙ column_keeps keys i.column w row
     fitting (Err e) h later = cc
 
-    by : (r : Result Value End) → then_do r (λ v. then_do (fit columns i.column v) (λ w. set_row columns keys env was is (with_column keys i.column w row))) ≡ Ok made
-        → ((w : Value) → set_row columns keys env was is (with_column keys i.column w row) ≡ Ok made → columns_of made keys ≡ columns_of (with_column keys i.column w row) keys) → columns_of made keys ≡ columns_of row keys
-    by (Ok v) h later = fitting (fit columns i.column v) h later
+    by : (r : Result Value End) → then_do r (λ v. then_do (fits i.column v) (λ w. set_row_by fits keys env was is (with_column keys i.column w row))) ≡ Ok made
+        → ((w : Value) → set_row_by fits keys env was is (with_column keys i.column w row) ≡ Ok made → columns_of made keys ≡ columns_of (with_column keys i.column w row) keys) → columns_of made keys ≡ columns_of row keys
+    by (Ok v) h later = fitting (fits i.column v) h later
     by (Err e) h later = cc
 
 pub updated_stand : (new : New) (keys : List ℕ) (tests : List Test) → ((row made : List Value) → new row ≡ Ok made → columns_of made keys ≡ columns_of row keys)
@@ -121,25 +123,39 @@ rows_stand infos t rows found st next h k is =
     let same : with_rows t rows found st ≡ next = cc in
     subst (λ (s : State). KeysStand infos s.tables) same (stand_set infos st.tables t rows h k)
 
+-- a test passed where it goes on
+pub unless : (b : Bool) (e : End) (st next : State) → ◌≡◌ {A = Result State End} (if b then Err e else Ok st) (Ok next) → ◌≡◌ {A = Result State End} (Ok st) (Ok next)
+unless true e st next h = cc
+unless false e st next h = h
+
+pub whenever : (b : Bool) (e : End) (st next : State) → ◌≡◌ {A = Result State End} (if b then Ok st else Err e) (Ok next) → ◌≡◌ {A = Result State End} (Ok st) (Ok next)
+whenever true e st next h = h
+whenever false e st next h = cc
+
 pub update_keeps : (infos : List TableInfo) (t : ℕ) (items : List RSetItem) (conds : List RCond) (st next : State) → KeysStand infos st.tables → update infos t items conds st ≡ Ok next → KeysStand infos next.tables
 update_keeps infos t items conds st next h is =
-    let new : New = λ row. set_row (columns_at infos t) (key_columns infos t) st.env row items row in
+    let new : New = λ row. set_row_by (fit_in infos t st.tables) (key_columns infos t) st.env row items row in
     let go : List Test → Result State End = λ tests. then_do (updated new tests (rows_at st.tables t)) (λ rows. Ok (with_rows t rows (is_some_row (matching_in t tests st)) st)) in
     let checked = goes_to (tests_of (key_columns infos t) conds st.env) go next is in
     let made = goes_to (updated new checked.0 (rows_at st.tables t)) (λ rows. Ok (with_rows t rows (is_some_row (matching_in t checked.0 st)) st)) next checked.2 in
     rows_stand infos t made.0 (is_some_row (matching_in t checked.0 st)) st next h
-    (updated_stand new (key_columns infos t) checked.0 (λ row made is. set_row_keeps (columns_at infos t) (key_columns infos t) st.env row items row made is) (rows_at st.tables t) made.0 (h t) made.1) made.2
+    (updated_stand new (key_columns infos t) checked.0 (λ row made is. set_row_keeps (fit_in infos t st.tables) (key_columns infos t) st.env row items row made is) (rows_at st.tables t) made.0 (h t) made.1) made.2
 
 pub delete_keeps : (infos : List TableInfo) (t : ℕ) (conds : List RCond) (st next : State) → KeysStand infos st.tables → delete infos t conds st ≡ Ok next → KeysStand infos next.tables
 delete_keeps infos t conds st next h is =
-    let checked = goes_to (tests_of (key_columns infos t) conds st.env) (λ tests. Ok (with_rows t (without tests (rows_at st.tables t)) (is_some_row (matching_in t tests st)) st)) next is in
+    let go : List Test → Result State End = λ tests.
+    if has_children (references_to infos t) t tests st.tables (matching_in t tests st) then Err HasChildren else Ok (with_rows t (without tests (rows_at st.tables t)) (is_some_row (matching_in t tests st)) st) in
+    let checked = goes_to (tests_of (key_columns infos t) conds st.env) go next is in
     rows_stand infos t (without checked.0 (rows_at st.tables t)) (is_some_row (matching_in t checked.0 st)) st next h
-    (All-filter (λ item. not (meets checked.0 item.row)) (StandsUnder (key_columns infos t)) (rows_at st.tables t) (h t)) checked.2
+    (All-filter (λ item. not (meets checked.0 item.row)) (StandsUnder (key_columns infos t)) (rows_at st.tables t) (h t))
+    (unless (has_children (references_to infos t) t checked.0 st.tables (matching_in t checked.0 st)) HasChildren (with_rows t (without checked.0 (rows_at st.tables t)) (is_some_row (matching_in t checked.0 st)) st) next checked.2)
 
 pub insert_keeps : (infos : List TableInfo) (t : ℕ) (es : List RExpr) (st next : State) → KeysStand infos st.tables → insert infos t es st ≡ Ok next → KeysStand infos next.tables
 insert_keeps infos t es st next h is =
     let keys : List ℕ = key_columns infos t in
-    let go : List Value → Result State End = λ row. then_do (put_row (keyed keys row) (rows_at st.tables t)) (λ rows. Ok (with_rows t rows true st)) in
+    let put' : List Value → List Keyed → Result State End = λ row rows. if has_parents (references infos t) (keyed keys row) st.tables then Ok (with_rows t rows true st) else Err MissingParent in
+    let go : List Value → Result State End = λ row. then_do (put_row (keyed keys row) (rows_at st.tables t)) (put' row) in
     let made = goes_to (new_row (columns_at infos t) es st.env) go next is in
-    let put = goes_to (put_row (keyed keys made.0) (rows_at st.tables t)) (λ rows. Ok (with_rows t rows true st)) next made.2 in
-    rows_stand infos t put.0 true st next h (put_stands keys (keyed keys made.0) (rows_at st.tables t) put.0 refl (h t) put.1) put.2
+    let put = goes_to (put_row (keyed keys made.0) (rows_at st.tables t)) (put' made.0) next made.2 in
+    rows_stand infos t put.0 true st next h (put_stands keys (keyed keys made.0) (rows_at st.tables t) put.0 refl (h t) put.1)
+    (whenever (has_parents (references infos t) (keyed keys made.0) st.tables) MissingParent (with_rows t put.0 true st) next put.2)

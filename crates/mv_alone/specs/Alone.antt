@@ -7,8 +7,9 @@ use Rattle.mv_values.specs.declared.pred.Test.{Test}
 use Rattle.mv_values.specs.declared.rows.Keyed.{Keyed}
 use Rattle.mv_values.specs.declared.schema.TableInfo.{TableInfo}
 use Rattle.mv_values.specs.declared.calls.End.{End}
-use Rattle.mv_values.specs.declared.calls.End.TheVariants.{Own}
+use Rattle.mv_values.specs.declared.calls.End.TheVariants.{Own, MissingParent, HasChildren}
 use Rattle.mv_values.specs.Columns.{columns_of, number}
+use Rattle.mv_values.specs.References.{references, references_to}
 use Rattle.mv_values.specs.Tables.{key_columns, columns_at, rows_at}
 use Rattle.mv_catalog.specs.declared.resolved.RExpr.{RExpr}
 use Rattle.mv_catalog.specs.declared.resolved.RCond.{RCond}
@@ -25,7 +26,8 @@ use Rattle.mv_alone.specs.Env.{with_value, with_values, with_found, with_held, t
 use Rattle.mv_alone.specs.declared.state.Content.TheVariants.{Turn}
 use Rattle.mv_alone.specs.Value.{value_of, values_of, is_so}
 use Rattle.mv_alone.specs.Rows.{matching, is_some_row, ordered, item_at, distinct, projected, aggregate, tests_of}
-use Rattle.mv_alone.specs.Changes.{set_row, updated, without, new_row, put_row, keyed}
+use Rattle.mv_alone.specs.Changes.{set_row_by, updated, without, new_row, put_row, keyed}
+use Rattle.mv_alone.specs.References.{has_parents, fit_in, has_children}
 use Rattle.mv_alone.specs.Line.{line_of}
 
 -- what a statement does: the state after it, or the end that stops it
@@ -110,20 +112,22 @@ branch e ys ns st = then_do (value_of e st.env []) (λ v. if is_so v then ys st 
 abbrev pub insert : List TableInfo → ℕ → List RExpr → Does
 insert tables t es st =
     then_do (new_row (columns_at tables t) es st.env) (λ row.
-    then_do (put_row (keyed (key_columns tables t) row) (rows_at st.tables t)) (λ rows. Ok (with_rows t rows true st)))
+    then_do (put_row (keyed (key_columns tables t) row) (rows_at st.tables t)) (λ rows.
+    if has_parents (references tables t) (keyed (key_columns tables t) row) st.tables then Ok (with_rows t rows true st) else Err MissingParent))
 
 -- UPDATE
 abbrev pub update : List TableInfo → ℕ → List RSetItem → List RCond → Does
 update tables t items conds st =
     then_do (tests_of (key_columns tables t) conds st.env) (λ tests.
-    then_do (updated (λ row. set_row (columns_at tables t) (key_columns tables t) st.env row items row) tests (rows_at st.tables t)) (λ rows.
+    then_do (updated (λ row. set_row_by (fit_in tables t st.tables) (key_columns tables t) st.env row items row) tests (rows_at st.tables t)) (λ rows.
     Ok (with_rows t rows (is_some_row (matching_in t tests st)) st)))
 
 -- DELETE
 abbrev pub delete : List TableInfo → ℕ → List RCond → Does
 delete tables t conds st =
     then_do (tests_of (key_columns tables t) conds st.env) (λ tests.
-    Ok (with_rows t (without tests (rows_at st.tables t)) (is_some_row (matching_in t tests st)) st))
+    if has_children (references_to tables t) t tests st.tables (matching_in t tests st) then Err HasChildren
+    else Ok (with_rows t (without tests (rows_at st.tables t)) (is_some_row (matching_in t tests st)) st))
 
 -- PRINT
 abbrev pub print : List RExpr → Does

@@ -25,10 +25,14 @@ abbrev pub with_column : List ℕ → ℕ → Value → List Value → List Valu
 with_column keys c v row = if list_any (λ k. k == c) keys then row else slice_set row c v
 
 -- the row after the items of SET, each evaluated over the row as it was and fitted, up to the first fault
+abbrev pub set_row_by : (ℕ → Value → Result Value End) → List ℕ → Env → List Value → List RSetItem → List Value → Result (List Value) End
+set_row_by fits keys env was [] row = Ok row
+set_row_by fits keys env was (i ∷ is) row =
+    then_do (value_of i.right env was) (λ v. then_do (fits i.column v) (λ w. set_row_by fits keys env was is (with_column keys i.column w row)))
+
+-- the same where a value must fit its column, and no more
 abbrev pub set_row : List Column → List ℕ → Env → List Value → List RSetItem → List Value → Result (List Value) End
-set_row columns keys env was [] row = Ok row
-set_row columns keys env was (i ∷ is) row =
-    then_do (value_of i.right env was) (λ v. then_do (fit columns i.column v) (λ w. set_row columns keys env was is (with_column keys i.column w row)))
+set_row columns = set_row_by (fit columns)
 
 -- the rows after each matching one is made anew, in key order up to the first fault
 abbrev pub updated : (List Value → Result (List Value) End) → List Test → List Keyed → Result (List Keyed) End

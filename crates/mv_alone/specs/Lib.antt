@@ -4,6 +4,7 @@ pub mod Value
 pub mod Known
 pub mod Rows
 pub mod Changes
+pub mod References
 pub mod Line
 pub mod Alone
 pub mod TableAfter

@@ -40,7 +40,7 @@ fn is_fit(kind: ColType, v: &Value) -> bool
 }
 
 /// Returns the value if the column can hold it, and ends the call with `TooLong` otherwise.
-fn fit_at(columns: &[Column], c: u16, v: Value) -> Result<Value, Stop>
+pub fn fit_at(columns: &[Column], c: u16, v: Value) -> Result<Value, Stop>
     ensures { Gives result (fit columns.now c v) }
 {
     match columns.get(c as usize) {
@@ -57,7 +57,7 @@ fn has_key(keys: &[u8], c: u16) -> bool
 }
 
 /// Sets a column, but never a key column.
-fn set_column(keys: &[u8], row: &mut Row, c: u16, v: Value)
+pub fn set_column(keys: &[u8], row: &mut Row, c: u16, v: Value)
     ensures { row.new ≡ with_column keys.now c v row.old }
 {
     if !has_key(keys, c) && (c as usize) < row.len() {
