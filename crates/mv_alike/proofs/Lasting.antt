@@ -1,7 +1,8 @@
 -- Records that are kept are the same in both runs.
-use Rattle.std.proofs.Common.{◌≡◌, ◌⊎◌, inl, inr, ◌<◌, ◌≤◌, ℕ, Bool, true, false, not, List, [], ◌∷◌, ◌++◌, Result, Ok, Err, map, refl, sym, ap, subst, ◌∙◌, arith}
-use Rattle.std.specs.Prelude.{◌&&◌}
-use Rattle.std.specs.List.{flat_map, list_any}
+use Rattle.std.proofs.Common.{◌≡◌, ◌⊎◌, inl, inr, ◌<◌, ◌≤◌, ℕ, Bool, true, false, not, List, [], ◌∷◌, ◌++◌, Option, Some, None, Result, Ok, Err, map, if◌then◌else◌, refl, sym, ap, subst, ◌∙◌, arith}
+use Rattle.std.specs.Prelude.{◌&&◌, ◌==◌}
+use Rattle.std.proofs.lemmas.List.Elements.{All-map}
+use Rattle.std.specs.List.{filter, flat_map, list_any}
 use Rattle.std.proofs.lemmas.Bool.{and_parts, or_parts, not-true}
 use Rattle.mv_values.specs.declared.pred.Test.{Test}
 use Rattle.mv_values.specs.declared.value.Value.{Value}
@@ -9,20 +10,28 @@ use Rattle.mv_values.specs.declared.pred.Pred.{Pred}
 use Rattle.mv_values.specs.declared.patch.Write.{Write}
 use Rattle.mv_values.specs.declared.schema.TableInfo.{TableInfo}
 use Rattle.mv_values.specs.declared.calls.End.{End}
+use Rattle.mv_values.specs.declared.calls.End.TheVariants.{MissingParent, HasChildren}
+use Rattle.mv_values.specs.declared.op.Op.TheVariants.{Eq}
+use Rattle.mv_values.specs.declared.rows.Keyed.{Keyed}
+use Rattle.mv_values.specs.Columns.{column_of}
+use Rattle.mv_values.specs.Keys.{keys}
+use Rattle.mv_values.specs.References.{Reference, references, references_to}
 use Rattle.mv_values.specs.Patching.{applied}
 use Rattle.mv_values.specs.Tables.{key_columns, columns_at, Tables}
 use Rattle.mv_catalog.specs.declared.resolved.RCond.{RCond}
+use Rattle.mv_catalog.specs.declared.resolved.RSetItem.{RSetItem}
 use Rattle.mv_catalog.specs.declared.resolved.RStmt.TheOpen.{Assign, Select, Total, ForSelect, ForRows, Branch, Insert, Update, Delete, Print, Rollback}
 use Rattle.mv_alone.proofs.Spanning.{tests_placed}
 use Rattle.mv_alone.specs.declared.state.Env.{Env}
 use Rattle.mv_alone.specs.declared.state.State.{State}
 use Rattle.mv_alone.specs.Env.{held_at}
-use Rattle.mv_alone.specs.Alone.{offset_of}
-use Rattle.mv_alone.specs.Changes.{new_row}
-use Rattle.mv_alone.specs.Rows.{tests_of}
+use Rattle.mv_alone.specs.Alone.{offset_of, matching_in}
+use Rattle.mv_alone.specs.Changes.{new_row, keyed}
+use Rattle.mv_alone.specs.References.{is_own_parent}
+use Rattle.mv_alone.specs.Rows.{tests_of, test_on, IsPlaced}
 use Rattle.mv_record.specs.declared.record.Record.{Record}
 use Rattle.mv_record.specs.Runs.{writes_in}
-use Rattle.mv_recorded.specs.Asking.{on, preds_for, pred_of, preds_of, same_key}
+use Rattle.mv_recorded.specs.Asking.{Check, needs, forbids, asked_in, if_none, fault_of, preds_up_to, parent_pred, child_pred, insert_checks, value_checks, item_checks, update_checks, delete_checks, on, preds_for, pred_of, preds_of}
 use Rattle.mv_recorded.specs.Reading.{variables, expressions, reads_of}
 use Rattle.mv_recorded.specs.Recorded.{Site, own_record}
 use Rattle.mv_record.specs.Databases.{IsDatabaseOf}
@@ -31,7 +40,7 @@ use Rattle.mv_recorded.specs.Alike.{Agree, OverAgrees, SeenAlike}
 use Rattle.mv_recorded.specs.Own.{Bare, Stated, Each, Within, IsStatedWell, Ground, IsAtSite, HasStatements, IsOwn, OverSuits}
 use Rattle.mv_recorded.proofs.Congruent.{congruent}
 use Rattle.mv_recorded.proofs.Matching.{key_placed}
-use Rattle.mv_recorded.proofs.Inverting.{each_map}
+use Rattle.mv_recorded.proofs.Inverting.{each_map, each_join}
 use Rattle.mv_history.specs.declared.change.Change.{Change}
 use Rattle.mv_history.specs.Changes.{Covers}
 use Rattle.mv_history.specs.Hits.{hits_predicate, hits, touches_predicate, touches}
@@ -64,6 +73,61 @@ places_where tables t conds cs st = by (tests_of (key_columns tables t) conds st
     by (Ok tests) is = (tests_placed (key_columns tables t) conds st.env tests is, tt)
     by (Err e) is = tt
 
+-- the predicates of checks
+
+placed_up_to : (tables : List TableInfo) (cs : List Check) (db : Tables) → Each (λ c. Each (Places tables) (asked_in c)) cs → Each (Places tables) (preds_up_to cs db)
+placed_up_to tables [] db h = tt
+placed_up_to tables (c ∷ cs) db h = each_join (Places tables) (asked_in c) (if_none (fault_of c db) (preds_up_to cs db)) h.0 (by (fault_of c db) (placed_up_to tables cs db h.1))
+  where
+    by : (o : Option End) → Each (Places tables) (preds_up_to cs db) → Each (Places tables) (if_none o (preds_up_to cs db))
+    by None k = k
+    by (Some e) k = tt
+
+parent_placed : (tables : List TableInfo) (t : ℕ) (v : Value) → Places tables (parent_pred tables t v)
+parent_placed tables t v = All-map (IsPlaced (key_columns tables t)) (λ c. test_on (key_columns tables t) c Eq v) (key_columns tables t) (λ k d lt. refl)
+
+child_placed : (tables : List TableInfo) (t c : ℕ) (key : List Value) → Places tables (child_pred tables t c key)
+child_placed tables t c key = All-map (IsPlaced (key_columns tables t)) (λ v. test_on (key_columns tables t) c Eq v) key (λ k d lt. refl)
+
+insert_placed : (tables : List TableInfo) (t : ℕ) (row : List Value) → Each (λ c. Each (Places tables) (asked_in c)) (insert_checks tables t row)
+insert_placed tables t row = ((key_placed (key_columns tables t) row, tt), each (filter (λ r. not (is_own_parent (keyed (key_columns tables t) row) r)) (references tables t)))
+  where
+    each : (rs : List Reference) → Each (λ c. Each (Places tables) (asked_in c)) (map (λ r. needs (parent_pred tables r.parent (column_of row r.column)) MissingParent) rs)
+    each [] = tt
+    each (r ∷ rs) = ((parent_placed tables r.parent (column_of row r.column), tt), each rs)
+
+-- each of the lists has the property
+each_flat : {A B : Type 0} (P : B → Type 0) (f : A → List B) (xs : List A) → ((x : A) → Each P (f x)) → Each P (flat_map f xs)
+each_flat P f [] h = tt
+each_flat P f (x ∷ xs) h = each_join P (f x) (flat_map f xs) (h x) (each_flat P f xs h)
+
+value_placed : (tables : List TableInfo) (o : Option ℕ) (r : Result Value End) → Each (λ c. Each (Places tables) (asked_in c)) (value_checks tables o r)
+value_placed tables o (Err e) = (tt, tt)
+value_placed tables None (Ok v) = tt
+value_placed tables (Some t) (Ok v) = ((parent_placed tables t v, tt), tt)
+
+update_placed : (tables : List TableInfo) (t : ℕ) (items : List RSetItem) (env : Env) (rows : List Keyed) → Each (λ c. Each (Places tables) (asked_in c)) (update_checks tables t items env rows)
+update_placed tables t items env rows =
+    each_flat (λ c. Each (Places tables) (asked_in c)) (λ (item : Keyed). flat_map (item_checks tables t env item.row) items) rows (λ item.
+    each_flat (λ c. Each (Places tables) (asked_in c)) (item_checks tables t env item.row) items (λ i. value_placed tables _ _))
+
+delete_placed : (tables : List TableInfo) (t : ℕ) (rows : List Keyed) → Each (λ c. Each (Places tables) (asked_in c)) (delete_checks tables t rows)
+delete_placed tables t rows =
+    each_flat (λ c. Each (Places tables) (asked_in c)) (λ (r : Reference). map (λ (item : Keyed). forbids (child_pred tables r.table r.column item.key) (if r.table == t then keys rows else []) HasChildren) rows) (references_to tables t)
+    (λ r. each r (if r.table == t then keys rows else []) rows)
+  where
+    each : (r : Reference) (gone : List (List Value)) (xs : List Keyed) → Each (λ c. Each (Places tables) (asked_in c)) (map (λ (item : Keyed). forbids (child_pred tables r.table r.column item.key) gone HasChildren) xs)
+    each r gone [] = tt
+    each r gone (x ∷ xs) = ((child_placed tables r.table r.column x.key, tt), each r gone xs)
+
+placed_behind : (tables : List TableInfo) (t : ℕ) (conds : List RCond) (cs : List ℕ) (checks : List Test → List Check) (st : State) → ((tests : List Test) → Each (λ c. Each (Places tables) (asked_in c)) (checks tests))
+    → Each (Places tables) (on (tests_of (key_columns tables t) conds st.env) (λ tests. pred_of t tests cs ∷ preds_up_to (checks tests) st.tables))
+placed_behind tables t conds cs checks st h = by (tests_of (key_columns tables t) conds st.env) refl
+  where
+    by : (r : Result (List Test) End) → tests_of (key_columns tables t) conds st.env ≡ r → Each (Places tables) (on r (λ tests. pred_of t tests cs ∷ preds_up_to (checks tests) st.tables))
+    by (Ok tests) is = (tests_placed (key_columns tables t) conds st.env tests is, placed_up_to tables (checks tests) st.tables (h tests))
+    by (Err e) is = tt
+
 pub places_preds : (tables : List TableInfo) (y : Bare) (st : State) → Each (Places tables) (preds_of tables y st)
 places_preds tables (Select cs xs t conds sorts offset) st = by (offset_of offset st.env)
   where
@@ -74,11 +138,11 @@ places_preds tables (Total agg x t conds) st = places_where tables t conds _ st
 places_preds tables (ForSelect x once cs t conds sorts body) st = places_where tables t conds _ st
 places_preds tables (Insert t es) st = by (new_row (columns_at tables t) es st.env)
   where
-    by : (r : Result (List Value) End) → Each (Places tables) (on r (λ row. pred_of t (same_key (key_columns tables t) row) [] ∷ []))
-    by (Ok row) = (key_placed (key_columns tables t) row, tt)
+    by : (r : Result (List Value) End) → Each (Places tables) (on r (λ row. preds_up_to (insert_checks tables t row) st.tables))
+    by (Ok row) = placed_up_to tables (insert_checks tables t row) st.tables (insert_placed tables t row)
     by (Err e) = tt
-places_preds tables (Update t items conds) st = places_where tables t conds _ st
-places_preds tables (Delete t conds) st = places_where tables t conds [] st
+places_preds tables (Update t items conds) st = placed_behind tables t conds _ (λ tests. update_checks tables t items st.env (matching_in t tests st)) st (λ tests. update_placed tables t items st.env (matching_in t tests st))
+places_preds tables (Delete t conds) st = placed_behind tables t conds [] (λ tests. delete_checks tables t (matching_in t tests st)) st (λ tests. delete_placed tables t (matching_in t tests st))
 places_preds tables (Assign x e) st = tt
 places_preds tables (ForRows x y body) st = tt
 places_preds tables (Branch e ys ns) st = tt

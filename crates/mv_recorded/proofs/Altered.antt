@@ -1,5 +1,5 @@
 -- What statements do that change the rows of a table.
-use Rattle.std.proofs.Common.{◌≡◌, ℕ, suc, Bool, true, false, cond, List, [], ◌∷◌, ◌++◌, None, Result, Ok, Err, map, refl, sym, ap, ◌∙◌, arith, if◌then◌else◌}
+use Rattle.std.proofs.Common.{◌≡◌, ℕ, suc, Bool, true, false, cond, List, [], ◌∷◌, ◌++◌, Result, Ok, Err, map, refl, sym, ap, ◌∙◌, arith, if◌then◌else◌}
 use Rattle.std.specs.Prelude.{◌&&◌, All}
 use Rattle.std.specs.List.{flat_map}
 use Rattle.std.specs.Ordering.{is_eq, ordering_then}
@@ -10,58 +10,28 @@ use Rattle.mv_values.specs.Preds.{meets}
 use Rattle.mv_values.specs.declared.op.Op.TheVariants.{Eq}
 use Rattle.mv_values.specs.declared.pred.Test.{Test}
 use Rattle.mv_values.specs.declared.value.Value.{Value}
-use Rattle.mv_values.specs.declared.pred.Pred.{Pred}
-use Rattle.mv_values.specs.declared.patch.Patch.TheVariants as patch
 use Rattle.mv_values.specs.declared.patch.Write.{Write}
 use Rattle.mv_values.specs.declared.rows.Keyed.{Keyed}
-use Rattle.mv_values.specs.declared.schema.TableInfo.{TableInfo}
 use Rattle.mv_values.specs.declared.calls.End.{End}
 use Rattle.mv_values.specs.declared.calls.End.TheVariants.{Duplicate}
 use Rattle.mv_values.specs.Columns.{column_of, columns_of}
-use Rattle.mv_values.specs.Keys.{IsRising}
 use Rattle.mv_values.specs.Order.{value_order, key_order}
-use Rattle.mv_values.specs.Patching.{found_by}
-use Rattle.mv_values.specs.Tables.{rows_at, columns_at, key_columns, KeysStand}
 use Rattle.mv_values.proofs.KeyOrder.{turned}
-use Rattle.mv_catalog.specs.declared.resolved.RExpr.{RExpr}
-use Rattle.mv_catalog.specs.declared.resolved.RCond.{RCond}
 use Rattle.mv_catalog.specs.declared.resolved.RSetItem.{RSetItem}
-use Rattle.mv_catalog.specs.declared.resolved.RStmt.TheOpen.{Insert, Update, Delete}
-use Rattle.mv_alone.specs.declared.state.Env.{Env}
 use Rattle.mv_alone.specs.Outcome.{then_do}
-use Rattle.mv_alone.specs.Env.{with_found}
-use Rattle.mv_alone.specs.Rows.{matching, is_some_row, test_on}
-use Rattle.mv_alone.specs.Changes.{new_row, updated, put_row, put_row_by, keyed}
-use Rattle.mv_record.specs.declared.record.Slot.{Slot}
-use Rattle.mv_record.proofs.Rising.{Above, Rises, rises_from, lower}
-use Rattle.mv_recorded.specs.Asking.{on, pred_of, same_key, columns_in}
+use Rattle.mv_alone.specs.Rows.{matching, test_on}
+use Rattle.mv_alone.specs.Changes.{updated, put_row, put_row_by, keyed}
+use Rattle.mv_record.proofs.Rising.{Above, Rises, lower}
+use Rattle.mv_recorded.specs.Asking.{on, same_key}
 use Rattle.mv_recorded.specs.Doing.{write, set_patch}
-use Rattle.mv_record.specs.declared.effect.Effect.{Effect}
-use Rattle.mv_recorded.specs.Effects.{IsEffect, asks, effect_after, changes, effect_of_writes, new_of, effect_of_insert, only_end, slots_behind}
-use Rattle.mv_recorded.proofs.Chosen.{asked_of, then_err, same_ok, rows_asked}
-
--- an effect that asks, sets variables and changes rows
-abbrev pub altered : List Pred → List Slot → List Write → Effect
-altered preds sets writes = record { preds = preds; sets = sets; rows = []; writes = writes; line = None; end = None }
-
--- DELETE
-
--- what a DELETE does that found these rows
-pub delete_goes : (tables : List TableInfo) (t : ℕ) (conds : List RCond) (env : Env) (db : List (List Keyed)) (pred : Pred) (rows : List Keyed)
-    → asks tables t conds [] env ≡ Ok pred → rows ≡ found_by pred db
-    → IsEffect tables (Delete t conds) env db (effect_of_writes pred (is_some_row rows) (map (λ item. write t item.key patch.Delete) rows) env)
-delete_goes tables t conds env db pred rows h found = λ lines.
-    let a = asked_of tables t conds [] env pred h in
-    let rows_are = rows_asked t a.tests [] pred db rows a.is found in
-    rw a.are
-    (ap (λ p. altered (p ∷ []) (slots_behind (with_found env (is_some_row rows)) (env.found ∷ [])) (map (λ item. write t item.key patch.Delete) rows)) a.is
-    ∙ ap (λ l. altered (pred_of t a.tests [] ∷ []) (slots_behind (with_found env (is_some_row l)) (env.found ∷ [])) (map (λ item. write t item.key patch.Delete) l)) rows_are)
+use Rattle.mv_recorded.specs.Effects.{changes}
+use Rattle.mv_recorded.proofs.Chosen.{then_err, same_ok}
 
 -- UPDATE
 
 -- what SET makes of a row
 -- where a row is made of each that matches, the table has rows behind it
-set_all : (t : ℕ) (items : List RSetItem) (new : New) (tests : List Test) (rows : List Keyed) (ws : List Write) → changes t items new (matching tests rows) ≡ Ok ws
+pub set_all : (t : ℕ) (items : List RSetItem) (new : New) (tests : List Test) (rows : List Keyed) (ws : List Write) → changes t items new (matching tests rows) ≡ Ok ws
     → (out : List Keyed) × (updated new tests rows ≡ Ok out)
 set_all t items new tests [] ws h = ([], refl)
 set_all t items new tests (r ∷ rs) ws h = by (λ vs k. set_all t items new tests rs vs k) (meets tests r.row) h
@@ -80,7 +50,7 @@ set_all t items new tests (r ∷ rs) ws h = by (λ vs k. set_all t items new tes
     by ih false k = let rest = ih ws k in (r ∷ rest.0, ap (λ o. then_do o (λ more. Ok (r ∷ more))) rest.1)
 
 -- where no row is made of one that matches, the statement ends so
-set_stops : (t : ℕ) (items : List RSetItem) (new : New) (tests : List Test) (rows : List Keyed) (e : End) → changes t items new (matching tests rows) ≡ Err e → updated new tests rows ≡ Err e
+pub set_stops : (t : ℕ) (items : List RSetItem) (new : New) (tests : List Test) (rows : List Keyed) (e : End) → changes t items new (matching tests rows) ≡ Err e → updated new tests rows ≡ Err e
 set_stops t items new tests [] e h = cc
 set_stops t items new tests (r ∷ rs) e h = by (λ k. set_stops t items new tests rs e k) (meets tests r.row) h
   where
@@ -96,52 +66,17 @@ set_stops t items new tests (r ∷ rs) e h = by (λ k. set_stops t items new tes
     by ih false k = rw (ih k) refl
 
 -- the changes of rows of which new ones are made
-abbrev written_of : ℕ → List RSetItem → New → List Keyed → List Write
+abbrev pub written_of : ℕ → List RSetItem → New → List Keyed → List Write
 written_of t items new rows = flat_map (λ item. on (new item.row) (λ row. write t item.key (set_patch items row) ∷ [])) rows
 
 -- what was written are the changes of all rows, where a row is made of each
-writes_are : (t : ℕ) (items : List RSetItem) (new : New) (rows : List Keyed) (ws : List Write) → changes t items new rows ≡ Ok ws → ws ≡ written_of t items new rows
+pub writes_are : (t : ℕ) (items : List RSetItem) (new : New) (rows : List Keyed) (ws : List Write) → changes t items new rows ≡ Ok ws → ws ≡ written_of t items new rows
 writes_are t items new [] ws h = sym (same_ok h)
 writes_are t items new (r ∷ rs) ws h =
     let made = goes_to (new r.row) (λ row. then_do (changes t items new rs) (λ vs. Ok (write t r.key (set_patch items row) ∷ vs))) ws h in
     let later = goes_to (changes t items new rs) (λ vs. Ok (write t r.key (set_patch items made.0) ∷ vs)) ws made.2 in
     sym (same_ok later.2) ∙ (ap (λ l. write t r.key (set_patch items made.0) ∷ l) (writes_are t items new rs later.0 later.1)
     ∙ ap (λ o. on o (λ row. write t r.key (set_patch items row) ∷ []) ++ written_of t items new rs) (sym made.1))
-
--- what an UPDATE does that ends at a row that it found
-update_unset : (tables : List TableInfo) (t : ℕ) (items : List RSetItem) (conds : List RCond) (env : Env) (db : List (List Keyed)) (pred : Pred) (rows : List Keyed) (e : End)
-    → asks tables t conds (flat_map (λ i. columns_in i.right) items) env ≡ Ok pred → rows ≡ found_by pred db → changes t items (new_of tables t env items) rows ≡ Err e
-    → IsEffect tables (Update t items conds) env db (only_end (pred ∷ []) e)
-update_unset tables t items conds env db pred rows e h found k = λ lines.
-    let a = asked_of tables t conds (flat_map (λ i. columns_in i.right) items) env pred h in
-    let rows_are = rows_asked t a.tests (flat_map (λ i. columns_in i.right) items) pred db rows a.is found in
-    let stops = set_stops t items (new_of tables t env items) a.tests (rows_at db t) e (ap (changes t items (new_of tables t env items)) (sym rows_are) ∙ k) in
-    rw (a.are, stops) (ap (λ p. only_end (p ∷ []) e) a.is)
-
--- what an UPDATE does that found these rows and makes new ones of all
-update_goes : (tables : List TableInfo) (t : ℕ) (items : List RSetItem) (conds : List RCond) (env : Env) (db : List (List Keyed)) (pred : Pred) (rows : List Keyed) (ws : List Write)
-    → asks tables t conds (flat_map (λ i. columns_in i.right) items) env ≡ Ok pred → rows ≡ found_by pred db → changes t items (new_of tables t env items) rows ≡ Ok ws
-    → IsEffect tables (Update t items conds) env db (altered (pred ∷ []) (slots_behind (with_found env (is_some_row rows)) (env.found ∷ [])) ws)
-update_goes tables t items conds env db pred rows ws h found k = λ lines.
-    let cs : List ℕ = flat_map (λ i. columns_in i.right) items in
-    let a = asked_of tables t conds cs env pred h in
-    let rows_are = rows_asked t a.tests cs pred db rows a.is found in
-    let new : New = new_of tables t env items in
-    let all = set_all t items new a.tests (rows_at db t) ws (ap (changes t items new) (sym rows_are) ∙ k) in
-    rw (a.are, all.1)
-    (ap (λ p. altered (p ∷ []) (slots_behind (with_found env (is_some_row rows)) (env.found ∷ [])) ws) a.is
-    ∙ (ap (λ l. altered (pred_of t a.tests cs ∷ []) (slots_behind (with_found env (is_some_row rows)) (env.found ∷ [])) l) (writes_are t items new rows ws k)
-    ∙ ap (λ l. altered (pred_of t a.tests cs ∷ []) (slots_behind (with_found env (is_some_row l)) (env.found ∷ [])) (written_of t items new l)) rows_are))
-
--- what an UPDATE does that found these rows
-pub update_done : (tables : List TableInfo) (t : ℕ) (items : List RSetItem) (conds : List RCond) (env : Env) (db : List (List Keyed)) (pred : Pred) (rows : List Keyed)
-    → asks tables t conds (flat_map (λ i. columns_in i.right) items) env ≡ Ok pred → rows ≡ found_by pred db
-    → IsEffect tables (Update t items conds) env db (effect_after pred (changes t items (new_of tables t env items) rows) (λ ws. effect_of_writes pred (is_some_row rows) ws env))
-update_done tables t items conds env db pred rows h found = by (changes t items (new_of tables t env items) rows) refl
-  where
-    by : (r : Result (List Write) End) → changes t items (new_of tables t env items) rows ≡ r → IsEffect tables (Update t items conds) env db (effect_after pred r (λ ws. effect_of_writes pred (is_some_row rows) ws env))
-    by (Ok ws) k = update_goes tables t items conds env db pred rows ws h found k
-    by (Err e) k = update_unset tables t items conds env db pred rows e h found k
 
 -- INSERT
 
@@ -163,12 +98,12 @@ meets_key : (keys : List ℕ) (row a : List Value) → meets (same_key keys row)
 meets_key keys row a = meets_columns keys keys row a
 
 -- the rows stand under their own keys
-abbrev Own : List ℕ → List Keyed → Type 0
+abbrev pub Own : List ℕ → List Keyed → Type 0
 Own keys [] = Unit {0}
 Own keys (r ∷ rs) = (r.key ≡ columns_of r.row keys) × Own keys rs
 
 -- the same by recursion, of a fact on each row
-own_of : (keys : List ℕ) (rows : List Keyed) → All (λ item. item.key ≡ columns_of item.row keys) rows → Own keys rows
+pub own_of : (keys : List ℕ) (rows : List Keyed) → All (λ item. item.key ≡ columns_of item.row keys) rows → Own keys rows
 own_of keys [] h = tt
 own_of keys (r ∷ rs) h = (h 0 r (omega arith), own_of keys rs (λ k d lt. h (suc k) d (omega (arith, lt))))
 
@@ -185,7 +120,7 @@ none_above keys row (r ∷ rs) own h =
     ap (λ b. cond b (r ∷ matching (same_key keys row) rs) (matching (same_key keys row) rs)) fails ∙ none_above keys row rs own.1 h.1
 
 -- where no row has the key the new row is put
-put_new : (keys : List ℕ) (row : List Value) (rows : List Keyed) → Own keys rows → matching (same_key keys row) rows ≡ [] → (out : List Keyed) × (put_row (keyed keys row) rows ≡ Ok out)
+pub put_new : (keys : List ℕ) (row : List Value) (rows : List Keyed) → Own keys rows → matching (same_key keys row) rows ≡ [] → (out : List Keyed) × (put_row (keyed keys row) rows ≡ Ok out)
 put_new keys row [] own h = (keyed keys row ∷ [], refl)
 put_new keys row (r ∷ rs) own h = by (λ k. put_new keys row rs own.1 k) (meets (same_key keys row) r.row) refl h (key_order (columns_of row keys) r.key) refl
   where
@@ -210,7 +145,7 @@ put_new keys row (r ∷ rs) own h = by (λ k. put_new keys row rs own.1 k) (meet
     by ih false m k Greater e = let rest = ih k in (r ∷ rest.0, rw rest.1 refl)
 
 -- where a row has the key it isn't
-put_twice : (keys : List ℕ) (row : List Value) (rows : List Keyed) (x : Keyed) (xs : List Keyed) → Own keys rows → Rises rows → matching (same_key keys row) rows ≡ x ∷ xs → put_row (keyed keys row) rows ≡ Err Duplicate
+pub put_twice : (keys : List ℕ) (row : List Value) (rows : List Keyed) (x : Keyed) (xs : List Keyed) → Own keys rows → Rises rows → matching (same_key keys row) rows ≡ x ∷ xs → put_row (keyed keys row) rows ≡ Err Duplicate
 put_twice keys row [] x xs own rises h = cc
 put_twice keys row (r ∷ rs) x xs own rises h = by (λ k. put_twice keys row rs x xs own.1 rises.1 k) (meets (same_key keys row) r.row) refl h (key_order (columns_of row keys) r.key) refl
   where
@@ -230,45 +165,3 @@ put_twice keys row (r ∷ rs) x xs own rises h = by (λ k. put_twice keys row rs
         let there : true ≡ false = sym m ∙ (meets_own keys row r own.0 ∙ ap is_eq back) in
         cc
     by ih false m k Greater e = rw (ih k) refl
-
--- a row with the key is found
-found_key : (tables : List TableInfo) (t : ℕ) (row : List Value) (pred : Pred) (db : List (List Keyed)) (rows : List Keyed)
-    → pred ≡ pred_of t (same_key (key_columns tables t) row) [] → rows ≡ found_by pred db → matching (same_key (key_columns tables t) row) (rows_at db t) ≡ rows
-found_key tables t row pred db rows is found = sym (rows_asked t (same_key (key_columns tables t) row) [] pred db rows is found)
-
--- what an INSERT does that found a row with its key
-insert_twice : (tables : List TableInfo) (t : ℕ) (es : List RExpr) (env : Env) (db : List (List Keyed)) (row : List Value) (pred : Pred) (rows : List Keyed)
-    → KeysStand tables db → IsRising (rows_at db t) → new_row (columns_at tables t) es env ≡ Ok row → pred ≡ pred_of t (same_key (key_columns tables t) row) []
-    → rows ≡ found_by pred db → is_some_row rows ≡ true → IsEffect tables (Insert t es) env db (only_end (pred ∷ []) Duplicate)
-insert_twice tables t es env db row pred rows stand rising made is found some = λ lines.
-    let there = by rows some (found_key tables t row pred db rows is found) in
-    rw (made, there) (ap (λ p. only_end (p ∷ []) Duplicate) is)
-  where
-    by : (l : List Keyed) → is_some_row l ≡ true → matching (same_key (key_columns tables t) row) (rows_at db t) ≡ l → put_row (keyed (key_columns tables t) row) (rows_at db t) ≡ Err Duplicate
-    by [] e m = cc
-    by (x ∷ xs) e m = put_twice (key_columns tables t) row (rows_at db t) x xs (own_of (key_columns tables t) (rows_at db t) (stand t)) (rises_from (rows_at db t) rising) m
-
--- what an INSERT does that found none
-insert_goes : (tables : List TableInfo) (t : ℕ) (es : List RExpr) (env : Env) (db : List (List Keyed)) (row : List Value) (pred : Pred) (rows : List Keyed) (item : Keyed)
-    → KeysStand tables db → new_row (columns_at tables t) es env ≡ Ok row → pred ≡ pred_of t (same_key (key_columns tables t) row) []
-    → rows ≡ found_by pred db → is_some_row rows ≡ false → item ≡ keyed (key_columns tables t) row
-    → IsEffect tables (Insert t es) env db (altered (pred ∷ []) (slots_behind (with_found env true) (env.found ∷ [])) (write t item.key (patch.Insert item.row) ∷ []))
-insert_goes tables t es env db row pred rows item stand made is found none same = λ lines.
-    let put = put_new (key_columns tables t) row (rows_at db t) (own_of (key_columns tables t) (rows_at db t) (stand t)) (found_key tables t row pred db rows is found ∙ empty rows none) in
-    rw (made, put.1)
-    (ap (λ p. altered (p ∷ []) (slots_behind (with_found env true) (env.found ∷ [])) (write t item.key (patch.Insert item.row) ∷ [])) is
-    ∙ ap (λ (i : Keyed). altered (pred_of t (same_key (key_columns tables t) row) [] ∷ []) (slots_behind (with_found env true) (env.found ∷ [])) (write t i.key (patch.Insert i.row) ∷ [])) same)
-  where
-    empty : (l : List Keyed) → is_some_row l ≡ false → l ≡ []
-    empty [] e = refl
-    empty (x ∷ xs) e = cc
-
--- what an INSERT does that found these rows under its key
-pub insert_done : (tables : List TableInfo) (t : ℕ) (es : List RExpr) (env : Env) (db : List (List Keyed)) (row : List Value) (pred : Pred) (rows : List Keyed)
-    → KeysStand tables db → IsRising (rows_at db t) → new_row (columns_at tables t) es env ≡ Ok row → pred ≡ pred_of t (same_key (key_columns tables t) row) []
-    → rows ≡ found_by pred db → IsEffect tables (Insert t es) env db (effect_of_insert tables t row pred (is_some_row rows) env)
-insert_done tables t es env db row pred rows stand rising made is found = by (is_some_row rows) refl
-  where
-    by : (b : Bool) → is_some_row rows ≡ b → IsEffect tables (Insert t es) env db (effect_of_insert tables t row pred b env)
-    by true some = insert_twice tables t es env db row pred rows stand rising made is found some
-    by false none = insert_goes tables t es env db row pred rows (keyed (key_columns tables t) row) stand made is found none refl

@@ -28,14 +28,20 @@ use Rattle.mv_alone.specs.Value.{value_of, values_of}
 use Rattle.mv_alone.specs.Rows.{ordered, item_at, matching, aggregate, is_some_row, distinct, tests_of}
 use Rattle.mv_alone.specs.Changes.{new_row}
 use Rattle.mv_alone.specs.Alone.{fixed, is_turn}
-use Rattle.mv_recorded.specs.Asking.{pred_of, with_sorts, column_in, columns_in, preds_of, same_key}
+use Rattle.mv_recorded.specs.Asking.{pred_of, with_sorts, column_in, columns_in, preds_of}
 use Rattle.mv_recorded.specs.Effect.{HasColumns}
 use Rattle.mv_recorded.specs.Reading.{each_once, variables, rights}
 use Rattle.mv_record.specs.declared.effect.Effect.{Effect}
 use Rattle.mv_recorded.specs.Doing.{effect_of}
-use Rattle.mv_recorded.specs.Effects.{asks, pred_with, effect_after, row_number, effect_of_select, effect_of_aggregate, effect_of_loop, effect_of_writes, effect_of_insert, slots_behind, changes, new_of}
+use Rattle.mv_recorded.specs.Effects.{asks, pred_with, effect_after, row_number, effect_of_select, effect_of_aggregate, effect_of_loop, effect_of_writes, effect_unless, inserted, slots_behind, changes}
 use Rattle.mv_recorded.proofs.Chosen.{asked_of, both_asked, select_goes, select_unasked, total_done, for_goes}
-use Rattle.mv_recorded.proofs.Altered.{delete_goes, update_done, insert_done}
+use Rattle.mv_recorded.proofs.Checked.{checks_same, delete_checks_same, update_checks_same}
+use Rattle.mv_recorded.proofs.Told.{delete_told, update_told, insert_told}
+use Rattle.mv_record.proofs.Rising.{rises_from}
+use Rattle.mv_alone.specs.Alone.{matching_in}
+use Rattle.mv_alone.specs.Rows.{fit}
+use Rattle.mv_alone.specs.Changes.{set_row_by}
+use Rattle.mv_recorded.specs.Asking.{Check, first_fault, preds_up_to, insert_checks, update_checks, delete_checks, on}
 use Rattle.mv_recorded.proofs.Matching.{matching_all}
 use Rattle.mv_recorded.specs.Own.{Bare, Each, Within, SetSuits}
 use Rattle.mv_recorded.specs.Alike.{Agree, Alike, SeenAlike, ReadsAlike}
@@ -143,16 +149,16 @@ totalling_same p x (Some v) b e f same =
 going_same : (p : Pred) (turns : List (List Value)) (e f : Env) → e.found ≡ f.found → effect_of_loop p turns e ≡ effect_of_loop p turns f
 going_same p turns e f same = ap (λ ss. record { preds = p ∷ []; sets = ss; rows = turns; writes = []; line = None; end = None }) (only_found e f (is_turn turns) same)
 
-writing_same : (p : Pred) (b : Bool) (ws : List Write) (e f : Env) → e.found ≡ f.found → effect_of_writes p b ws e ≡ effect_of_writes p b ws f
-writing_same p b ws e f same = ap (λ ss. record { preds = p ∷ []; sets = ss; rows = []; writes = ws; line = None; end = None }) (only_found e f b same)
+writing_same : (ps : List Pred) (b : Bool) (ws : List Write) (e f : Env) → e.found ≡ f.found → effect_of_writes ps b ws e ≡ effect_of_writes ps b ws f
+writing_same ps b ws e f same = ap (λ ss. record { preds = ps; sets = ss; rows = []; writes = ws; line = None; end = None }) (only_found e f b same)
+
+unless_same : (o : Option End) (ps : List Pred) (b : Bool) (ws : List Write) (e f : Env) → e.found ≡ f.found → effect_unless o ps b ws e ≡ effect_unless o ps b ws f
+unless_same None ps b ws e f same = writing_same ps b ws e f same
+unless_same (Some d) ps b ws e f same = refl
 
 then_same : {A : Type 0} (p : Pred) (r : Result A End) (go back : A → Effect) → ((x : A) → go x ≡ back x) → effect_after p r go ≡ effect_after p r back
 then_same p (Ok x) go back h = h x
 then_same p (Err e) go back h = refl
-
-inserting_same : (tables : List TableInfo) (t : ℕ) (row : List Value) (p : Pred) (b : Bool) (e f : Env) → e.found ≡ f.found → effect_of_insert tables t row p b e ≡ effect_of_insert tables t row p b f
-inserting_same tables t row p true e f same = refl
-inserting_same tables t row p false e f same = writing_same p true _ e f same
 
 -- Statements
 
@@ -267,19 +273,42 @@ for_same tables x once cs t conds sorts st new m =
     let alike = seen_rows t tests (with_sorts cs sorts) p st.tables new.tables is seen in
     sym one ∙ (ap (λ l. effect_of_loop p l st.env) (fixed_same once cs sorts (matching [] rows) (matching [] rows') alike) ∙ (going_same p _ st.env new.env m.found ∙ two)))
 
+-- the predicates of a statement that asks by WHERE and then checks
+seen_checks : (tables : List TableInfo) (t : ℕ) (conds : List RCond) (p : List Test → Pred) (checks : List Test → List Check) (st new : State) (tests : List Test) → tests_of (key_columns tables t) conds st.env ≡ Ok tests
+    → Each (λ q. SeenAlike q st.tables new.tables) (on (tests_of (key_columns tables t) conds st.env) (λ tests. p tests ∷ preds_up_to (checks tests) st.tables))
+    → SeenAlike (p tests) st.tables new.tables × Each (λ q. SeenAlike q st.tables new.tables) (preds_up_to (checks tests) st.tables)
+seen_checks tables t conds p checks st new tests is h =
+    let all = subst (λ r. Each (λ q. SeenAlike q st.tables new.tables) (on r (λ tests. p tests ∷ preds_up_to (checks tests) st.tables))) is h in (all.0, all.1)
+
+-- by tests that have the same values
+by_tests : (tables : List TableInfo) (s : RStmt-F RStmt) (st new : State) (t : ℕ) (conds : List RCond) → Agree st.env new.env (flat_map variables (rights conds)) → Unasked tables s st new t conds
+    → ((tests : List Test) → tests_of (key_columns tables t) conds st.env ≡ Ok tests → tests_of (key_columns tables t) conds new.env ≡ Ok tests → SameEffect tables s st new) → SameEffect tables s st new
+by_tests tables s st new t conds h none some = by (tests_of (key_columns tables t) conds st.env) refl (sym (tests_alike (key_columns tables t) conds st.env new.env h))
+  where
+    by : (r : Result (List Test) End) → tests_of (key_columns tables t) conds st.env ≡ r → tests_of (key_columns tables t) conds new.env ≡ tests_of (key_columns tables t) conds st.env → SameEffect tables s st new
+    by (Err e) is same = none e is (same ∙ is)
+    by (Ok tests) is same = some tests is (same ∙ is)
+
 delete_same : (tables : List TableInfo) (t : ℕ) (conds : List RCond) (st new : State) → ReadsAlike tables (Delete t conds) st new → SameEffect tables (Delete t conds) st new
 delete_same tables t conds st new m =
-    by_where tables (Delete t conds) st new t conds [] m.reads (λ e p q. rw (p, q) refl) (λ p tests is a b.
-    let rows : List Keyed = found_by p st.tables in
-    let rows' : List Keyed = found_by p new.tables in
-    let one = delete_goes tables t conds st.env st.tables p rows a refl st.lines in
-    let two = delete_goes tables t conds new.env new.tables p rows' b refl new.lines in
-    let seen : SeenAlike p st.tables new.tables = seen_of tables (Delete t conds) st new p _ one refl m.seen in
-    sym one ∙ (ap (λ b. effect_of_writes p b (map (λ item. write' t item) rows) st.env) (some_same p.columns rows rows' seen)
-    ∙ (ap (λ l. effect_of_writes p (is_some_row rows') l st.env) (deletes_same t p.columns rows rows' seen) ∙ (writing_same p (is_some_row rows') _ st.env new.env m.found ∙ two))))
+    by_tests tables (Delete t conds) st new t conds m.reads (λ e p q. rw (p, q) refl) (λ tests a b.
+    let rows : List Keyed = matching_in t tests st in
+    let rows' : List Keyed = matching_in t tests new in
+    let seen = seen_checks tables t conds (λ tests. pred_of t tests []) (λ tests. delete_checks tables t (matching_in t tests st)) st new tests a m.seen in
+    let alike : Alike [] rows rows' = seen.0 in
+    let checks : delete_checks tables t rows ≡ delete_checks tables t rows' = delete_checks_same tables t [] rows rows' alike in
+    let same = checks_same (delete_checks tables t rows) st.tables new.tables seen.1 in
+    delete_told tables t conds st tests a (rises_from (rows_at st.tables t) (m.databases.0.rising t))
+    ∙ (ap (λ o. effect_unless o (pred_of t tests [] ∷ preds_up_to (delete_checks tables t rows) st.tables) (is_some_row rows) (deletes' t rows) st.env) same.1
+    ∙ (ap (λ ps. effect_unless (first_fault (delete_checks tables t rows) new.tables) (pred_of t tests [] ∷ ps) (is_some_row rows) (deletes' t rows) st.env) same.0
+    ∙ (ap (λ cs. effect_unless (first_fault cs new.tables) (pred_of t tests [] ∷ preds_up_to cs new.tables) (is_some_row rows) (deletes' t rows) st.env) checks
+    ∙ (ap (λ b. effect_unless (first_fault (delete_checks tables t rows') new.tables) (pred_of t tests [] ∷ preds_up_to (delete_checks tables t rows') new.tables) b (deletes' t rows) st.env) (some_same [] rows rows' alike)
+    ∙ (ap (λ ws. effect_unless (first_fault (delete_checks tables t rows') new.tables) (pred_of t tests [] ∷ preds_up_to (delete_checks tables t rows') new.tables) (is_some_row rows') ws st.env) (deletes_same t [] rows rows' alike)
+    ∙ (unless_same (first_fault (delete_checks tables t rows') new.tables) _ (is_some_row rows') (deletes' t rows') st.env new.env m.found
+    ∙ sym (delete_told tables t conds new tests b (rises_from (rows_at new.tables t) (m.databases.1.rising t))))))))))
   where
-    write' : ℕ → Keyed → Write
-    write' t item = record { table = t; key = item.key; patch = patch.Delete }
+    deletes' : ℕ → List Keyed → List Write
+    deletes' t rows = map (λ item. record { table = t; key = item.key; patch = patch.Delete }) rows
 
 wide_filter : (n : ℕ) (p : Keyed → Bool) (rows : List Keyed) → Each (λ (item : Keyed). length item.row ≡ n) rows → Each (λ (item : Keyed). length item.row ≡ n) (filter p rows)
 wide_filter n p [] h = tt
@@ -312,23 +341,28 @@ update_same : (tables : List TableInfo) (t : ℕ) (items : List RSetItem) (conds
 update_same tables t items conds st new plain m =
     let cs : List ℕ = flat_map (λ i. columns_in i.right) items in
     let hs = flat_parts st.env new.env (map (λ i. i.right) items) (rights conds) m.reads in
-    by_where tables (Update t items conds) st new t conds cs hs.1 (λ e p q. rw (p, q) refl) (λ p tests is a b.
-    let rows : List Keyed = found_by p st.tables in
-    let rows' : List Keyed = found_by p new.tables in
-    let one = update_done tables t items conds st.env st.tables p rows a refl st.lines in
-    let two = update_done tables t items conds new.env new.tables p rows' b refl new.lines in
-    let at : p.table ≡ t = ap (λ (q : Pred). q.table) is in
-    let seen : SeenAlike p st.tables new.tables = seen_of tables (Update t items conds) st new p _ one (then_preds p (changes t items (new_of tables t st.env items) rows) _ (λ ws. refl)) m.seen in
-    let alike : Alike cs rows rows' = alike_by (each_once cs) cs (λ a b. agree_once a b cs) rows rows' (subst (λ ds. Alike ds rows rows') (ap (λ (q : Pred). q.columns) is) seen) in
-    let same = changes_same t (columns_at tables t) (key_columns tables t) (length (columns_at tables t)) st.env new.env items rows rows' hs.0 alike plain (wide_found tables t p st.tables at m.databases.0) (wide_found tables t p new.tables at m.databases.1) in
-    sym one
-    ∙ (ap (λ r. effect_after p r (λ ws. effect_of_writes p (is_some_row rows) ws st.env)) same
-    ∙ (ap (λ b. effect_after p (changes t items (new_of tables t new.env items) rows') (λ ws. effect_of_writes p b ws st.env)) (some_same cs rows rows' alike)
-    ∙ (then_same p (changes t items (new_of tables t new.env items) rows') (λ ws. effect_of_writes p (is_some_row rows') ws st.env) (λ ws. effect_of_writes p (is_some_row rows') ws new.env) (λ ws. writing_same p (is_some_row rows') ws st.env new.env m.found) ∙ two))))
-
-pub insert_preds : (tables : List TableInfo) (t : ℕ) (row : List Value) (p : Pred) (b : Bool) (e : Env) → (effect_of_insert tables t row p b e).preds ≡ p ∷ []
-insert_preds tables t row p true e = refl
-insert_preds tables t row p false e = refl
+    by_tests tables (Update t items conds) st new t conds hs.1 (λ e p q. rw (p, q) refl) (λ tests a b.
+    let rows : List Keyed = matching_in t tests st in
+    let rows' : List Keyed = matching_in t tests new in
+    let p : Pred = pred_of t tests cs in
+    let seen = seen_checks tables t conds (λ tests. pred_of t tests cs) (λ tests. update_checks tables t items st.env (matching_in t tests st)) st new tests a m.seen in
+    let alike : Alike cs rows rows' = alike_by (each_once cs) cs (λ a b. agree_once a b cs) rows rows' seen.0 in
+    let checks : update_checks tables t items st.env rows ≡ update_checks tables t items new.env rows' = update_checks_same tables t items st.env new.env rows rows' hs.0 alike in
+    let same = checks_same (update_checks tables t items st.env rows) st.tables new.tables seen.1 in
+    let written = changes_same t (columns_at tables t) (key_columns tables t) (length (columns_at tables t)) st.env new.env items rows rows' hs.0 alike plain (wide_found tables t p st.tables refl m.databases.0) (wide_found tables t p new.tables refl m.databases.1) in
+    let ws : List Write = sets' st.env rows in
+    let ws' : List Write = sets' new.env rows' in
+    update_told tables t items conds st tests a m.databases.0.keys
+    ∙ (ap (λ o. effect_unless o (p ∷ preds_up_to (update_checks tables t items st.env rows) st.tables) (is_some_row rows) ws st.env) same.1
+    ∙ (ap (λ ps. effect_unless (first_fault (update_checks tables t items st.env rows) new.tables) (p ∷ ps) (is_some_row rows) ws st.env) same.0
+    ∙ (ap (λ ks. effect_unless (first_fault ks new.tables) (p ∷ preds_up_to ks new.tables) (is_some_row rows) ws st.env) checks
+    ∙ (ap (λ b. effect_unless (first_fault (update_checks tables t items new.env rows') new.tables) (p ∷ preds_up_to (update_checks tables t items new.env rows') new.tables) b ws st.env) (some_same cs rows rows' alike)
+    ∙ (ap (λ r. effect_unless (first_fault (update_checks tables t items new.env rows') new.tables) (p ∷ preds_up_to (update_checks tables t items new.env rows') new.tables) (is_some_row rows') (on r (λ l. l)) st.env) written
+    ∙ (unless_same (first_fault (update_checks tables t items new.env rows') new.tables) _ (is_some_row rows') ws' st.env new.env m.found
+    ∙ sym (update_told tables t items conds new tests b m.databases.1.keys))))))))
+  where
+    sets' : Env → List Keyed → List Write
+    sets' e rows = on (changes t items (λ row. set_row_by (fit (columns_at tables t)) (key_columns tables t) e row items row) rows) (λ ws. ws)
 
 insert_same : (tables : List TableInfo) (t : ℕ) (es : List RExpr) (st new : State) → ReadsAlike tables (Insert t es) st new → SameEffect tables (Insert t es) st new
 insert_same tables t es st new m = by (new_row (columns_at tables t) es st.env) refl (sym (new_row_alike (columns_at tables t) es st.env new.env m.reads))
@@ -336,13 +370,15 @@ insert_same tables t es st new m = by (new_row (columns_at tables t) es st.env) 
     by : (r : Result (List Value) End) → new_row (columns_at tables t) es st.env ≡ r → new_row (columns_at tables t) es new.env ≡ new_row (columns_at tables t) es st.env → SameEffect tables (Insert t es) st new
     by (Err e) is same = let is' : new_row (columns_at tables t) es new.env ≡ Err e = same ∙ is in rw (is, is') refl
     by (Ok row) is same =
-        let p : Pred = pred_of t (same_key (key_columns tables t) row) [] in
-        let rows : List Keyed = found_by p st.tables in
-        let rows' : List Keyed = found_by p new.tables in
-        let one = insert_done tables t es st.env st.tables row p rows m.databases.0.keys (m.databases.0.rising t) is refl refl st.lines in
-        let two = insert_done tables t es new.env new.tables row p rows' m.databases.1.keys (m.databases.1.rising t) (same ∙ is) refl refl new.lines in
-        let seen : SeenAlike p st.tables new.tables = seen_of tables (Insert t es) st new p _ one (insert_preds tables t row p (is_some_row rows) st.env) m.seen in
-        sym one ∙ (ap (λ b. effect_of_insert tables t row p b st.env) (some_same p.columns rows rows' seen) ∙ (inserting_same tables t row p (is_some_row rows') st.env new.env m.found ∙ two))
+        let checks : List Check = insert_checks tables t row in
+        let seen : Each (λ q. SeenAlike q st.tables new.tables) (preds_up_to checks st.tables) =
+        subst (λ r. Each (λ q. SeenAlike q st.tables new.tables) (on r (λ row. preds_up_to (insert_checks tables t row) st.tables))) is m.seen in
+        let alike = checks_same checks st.tables new.tables seen in
+        insert_told tables t es st row is m.databases.0.keys (m.databases.0.rising t)
+        ∙ (ap (λ o. effect_unless o (preds_up_to checks st.tables) true (inserted tables t row) st.env) alike.1
+        ∙ (ap (λ ps. effect_unless (first_fault checks new.tables) ps true (inserted tables t row) st.env) alike.0
+        ∙ (unless_same (first_fault checks new.tables) (preds_up_to checks new.tables) true (inserted tables t row) st.env new.env m.found
+        ∙ sym (insert_told tables t es new row (same ∙ is) m.databases.1.keys (m.databases.1.rising t)))))
 
 assign_same : (tables : List TableInfo) (x : ℕ) (e : RExpr) (st new : State) → ReadsAlike tables (Assign x e) st new → SameEffect tables (Assign x e) st new
 assign_same tables x e st new m = by (value_of e st.env []) refl (sym (value_alike e st.env new.env [] (parts st.env new.env (variables e) [] m.reads).0))

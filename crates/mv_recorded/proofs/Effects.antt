@@ -5,7 +5,10 @@ use Rattle.std.proofs.lemmas.List.Elements.{length_all_zip}
 use Rattle.std.specs.Option.{is_some}
 use Rattle.std.specs.Result.{result_ok, result_err}
 use Rattle.mv_record.proofs.Rising.{rises_from}
-use Rattle.mv_alone.proofs.Standing.{goes_to}
+use Rattle.mv_values.specs.References.{references, references_to}
+use Rattle.mv_values.specs.declared.calls.End.TheVariants.{MissingParent, HasChildren}
+use Rattle.mv_alone.specs.References.{has_parents, has_children, fit_in}
+use Rattle.mv_alone.proofs.Standing.{goes_to, whenever, unless}
 use Rattle.mv_alone.specs.Line.{line_of}
 use Rattle.mv_values.specs.declared.value.Value.{Value}
 use Rattle.mv_values.specs.declared.rows.Keyed.{Keyed}
@@ -27,8 +30,8 @@ use Rattle.mv_alone.specs.Outcome.{then_do}
 use Rattle.mv_alone.specs.Env.{scalar_at, turns_at, with_value, with_values, with_found, truth}
 use Rattle.mv_alone.specs.Value.{value_of, values_of, fitted, is_so}
 use Rattle.mv_alone.specs.Rows.{aggregate, total, sum_of, distinct, projected, column, is_some_row, ordered, item_at, tests_of}
-use Rattle.mv_alone.specs.Changes.{new_row, put_row, keyed, updated, set_row}
-use Rattle.mv_alone.specs.Alone.{matching_in, offset_of, with_selected, totalled, is_turn}
+use Rattle.mv_alone.specs.Changes.{new_row, put_row, keyed, updated, set_row_by, without}
+use Rattle.mv_alone.specs.Alone.{matching_in, offset_of, with_selected, totalled, is_turn, with_rows}
 use Rattle.mv_record.specs.declared.record.Record.{Record}
 use Rattle.mv_recorded.specs.Asking.{on}
 use Rattle.mv_recorded.specs.Doing.{itself, fixed_rows, before_turns, writes_of, printed_line, gives_always, when, set_variables, sets_of}
@@ -143,14 +146,16 @@ env_told tables (Branch e ys ns) st next has h =
 env_told tables (Insert t es) st next has h =
     let row = goes_to (new_row (columns_at tables t) es st.env) _ next h in
     let rows = goes_to (put_row (keyed (key_columns tables t) row.0) (rows_at st.tables t)) _ next row.2 in
-    subst (λ n. SetsAll st.env (n.env.found ∷ []) n.env) (state_ok rows.2) (found_set st.env true)
+    let all = whenever (has_parents (references tables t) (keyed (key_columns tables t) row.0) st.tables) MissingParent (with_rows t rows.0 true st) next rows.2 in
+    subst (λ n. SetsAll st.env (n.env.found ∷ []) n.env) (state_ok all) (found_set st.env true)
 env_told tables (Update t items conds) st next has h =
     let tests = goes_to (tests_of (key_columns tables t) conds st.env) _ next h in
-    let rows = goes_to (updated (λ row. set_row (columns_at tables t) (key_columns tables t) st.env row items row) tests.0 (rows_at st.tables t)) _ next tests.2 in
+    let rows = goes_to (updated (λ row. set_row_by (fit_in tables t st.tables) (key_columns tables t) st.env row items row) tests.0 (rows_at st.tables t)) _ next tests.2 in
     subst (λ n. SetsAll st.env (n.env.found ∷ []) n.env) (state_ok rows.2) (found_set st.env (is_some_row (matching_in t tests.0 st)))
 env_told tables (Delete t conds) st next has h =
     let tests = goes_to (tests_of (key_columns tables t) conds st.env) _ next h in
-    subst (λ n. SetsAll st.env (n.env.found ∷ []) n.env) (state_ok tests.2) (found_set st.env (is_some_row (matching_in t tests.0 st)))
+    let none = unless (has_children (references_to tables t) t tests.0 st.tables (matching_in t tests.0 st)) HasChildren (with_rows t (without tests.0 (rows_at st.tables t)) (is_some_row (matching_in t tests.0 st)) st) next tests.2 in
+    subst (λ n. SetsAll st.env (n.env.found ∷ []) n.env) (state_ok none) (found_set st.env (is_some_row (matching_in t tests.0 st)))
 env_told tables (Print es) st next has h =
     let vs = goes_to (values_of es st.env) _ next h in
     subst (λ n. SetsAll st.env [] n.env) (state_ok vs.2) refl

@@ -1,5 +1,5 @@
 -- The changes of a full run's records, applied in order, lead to the database of the machine that runs the call alone.
-use Rattle.std.proofs.Common.{◌≡◌, ℕ, zero, suc, true, List, [], ◌∷◌, ◌++◌, Result, Ok, Err, map, slice_set, refl, sym, ap, subst, ◌∙◌, append-nil}
+use Rattle.std.proofs.Common.{◌≡◌, ℕ, zero, suc, true, List, [], ◌∷◌, ◌++◌, Result, Ok, Err, map, slice_set, refl, sym, ap, subst, ◌∙◌, append-nil, Bool, false, if◌then◌else◌}
 use Rattle.std.proofs.lemmas.Grind.{flat_map-append}
 use Rattle.mv_record.proofs.Rising.{Rises}
 use Rattle.mv_record.proofs.Patching.{applied_append}
@@ -16,12 +16,15 @@ use Rattle.mv_values.specs.Tables.{key_columns, columns_at, rows_at, Tables}
 use Rattle.mv_catalog.specs.declared.resolved.RSetItem.{RSetItem}
 use Rattle.mv_catalog.specs.declared.resolved.RStmt.{RStmt}
 use Rattle.mv_catalog.specs.declared.resolved.RStmt.TheOpen.{RStmt-F, Assign, Select, Total, ForSelect, ForRows, Branch, Insert, Update, Delete, Print, Rollback}
+use Rattle.mv_values.specs.References.{references, references_to}
+use Rattle.mv_values.specs.declared.calls.End.TheVariants.{MissingParent, HasChildren}
+use Rattle.mv_alone.specs.References.{has_parents, has_children, fit_in}
 use Rattle.mv_alone.specs.declared.state.Env.{Env}
 use Rattle.mv_alone.specs.declared.state.State.{State}
 use Rattle.mv_alone.specs.Outcome.{then_do}
 use Rattle.mv_alone.specs.Value.{value_of, values_of}
 use Rattle.mv_alone.specs.Rows.{tests_of, aggregate, is_some_row}
-use Rattle.mv_alone.specs.Changes.{new_row, put_row, keyed, updated, set_row, without}
+use Rattle.mv_alone.specs.Changes.{new_row, put_row, keyed, updated, set_row_by, without}
 use Rattle.mv_alone.specs.Alone.{matching_in, offset_of, fixed, with_rows}
 use Rattle.mv_record.specs.declared.record.Record.{Record}
 use Rattle.mv_record.specs.Runs.{writes_in}
@@ -86,24 +89,28 @@ still (Err e) st h rise = tt
 -- INSERT
 
 abbrev insert_made : List TableInfo → ℕ → State → Result (List Value) End → Result State End
-insert_made tables t st made = then_do made (λ row. then_do (put_row (keyed (key_columns tables t) row) (rows_at st.tables t)) (λ rows. Ok (with_rows t rows true st)))
+insert_made tables t st made = then_do made (λ row. then_do (put_row (keyed (key_columns tables t) row) (rows_at st.tables t)) (λ rows.
+    if has_parents (references tables t) (keyed (key_columns tables t) row) st.tables then Ok (with_rows t rows true st) else Err MissingParent))
 
-puts : (t : ℕ) (new : Keyed) (st : State) (r : Result (List Keyed) End) → put_row new (rows_at st.tables t) ≡ r
-    → LeadsBy st (on (then_do r (λ rows. Ok (with_rows t rows true st))) (λ next. write t new.key (patch.Insert new.row) ∷ []) ++ []) (then_do r (λ rows. Ok (with_rows t rows true st)))
-puts t new st (Ok rows) is rise =
+puts : (t : ℕ) (new : Keyed) (st : State) (all : Bool) (r : Result (List Keyed) End) → put_row new (rows_at st.tables t) ≡ r
+    → LeadsBy st (on (then_do r (λ rows. if all then Ok (with_rows t rows true st) else Err MissingParent)) (λ next. write t new.key (patch.Insert new.row) ∷ []) ++ [])
+    (then_do r (λ rows. if all then Ok (with_rows t rows true st) else Err MissingParent))
+puts t new st true (Ok rows) is rise =
     let same : patched_rows new.key (patch.Insert new.row) (rows_at st.tables t) ≡ rows = put_leads new (rows_at st.tables t) rows is in
     (ap (slice_set st.tables t) (sym same), rise_set st.tables t rows rise (put_rises new (rows_at st.tables t) rows (rise t) is))
-puts t new st (Err e) is rise = tt
+puts t new st false (Ok rows) is rise = tt
+puts t new st all (Err e) is rise = tt
 
 inserts : (tables : List TableInfo) (t : ℕ) (st : State) (made : Result (List Value) End)
     → LeadsBy st (on (insert_made tables t st made) (λ next. on made (λ row. write t (columns_of row (key_columns tables t)) (patch.Insert row) ∷ [])) ++ []) (insert_made tables t st made)
-inserts tables t st (Ok row) = puts t (keyed (key_columns tables t) row) st (put_row (keyed (key_columns tables t) row) (rows_at st.tables t)) refl
+inserts tables t st (Ok row) =
+    puts t (keyed (key_columns tables t) row) st (has_parents (references tables t) (keyed (key_columns tables t) row) st.tables) (put_row (keyed (key_columns tables t) row) (rows_at st.tables t)) refl
 inserts tables t st (Err e) = λ rise. tt
 
 -- UPDATE
 
 abbrev new_of : List TableInfo → ℕ → List RSetItem → State → New
-new_of tables t items st = λ row. set_row (columns_at tables t) (key_columns tables t) st.env row items row
+new_of tables t items st = λ row. set_row_by (fit_in tables t st.tables) (key_columns tables t) st.env row items row
 
 abbrev update_made : List TableInfo → ℕ → List RSetItem → State → Result (List Test) End → Result State End
 update_made tables t items st tests =
@@ -115,7 +122,7 @@ updates_with : (tables : List TableInfo) (t : ℕ) (items : List RSetItem) (st :
 updates_with tables t items st c (Ok rows) is rise =
     let new : New = new_of tables t items st in
     let ws : List Write = set_writes t items new (matching_in t c st) in
-    let same = sets_lead t items new (set_row_makes (columns_at tables t) (key_columns tables t) st.env items) c (rows_at st.tables t) rows (rise t) is in (
+    let same = sets_lead t items new (set_row_makes (fit_in tables t st.tables) (key_columns tables t) st.env items) c (rows_at st.tables t) rows (rise t) is in (
       ap (slice_set st.tables t) (sym same) ∙ (sym (applied_on t ws st.tables (sets_on t items new (matching_in t c st))) ∙ ap (λ vs. applied vs st.tables) (sym (append-nil ws))),
       rise_set st.tables t rows rise (updated_rises new c (rows_at st.tables t) rows (rise t) is),
     )
@@ -128,17 +135,23 @@ updates tables t items st (Err e) = λ rise. tt
 
 -- DELETE
 
-abbrev delete_made : ℕ → State → Result (List Test) End → Result State End
-delete_made t st tests = then_do tests (λ c. Ok (with_rows t (without c (rows_at st.tables t)) (is_some_row (matching_in t c st)) st))
+abbrev delete_made : List TableInfo → ℕ → State → Result (List Test) End → Result State End
+delete_made tables t st tests =
+    then_do tests (λ c. if has_children (references_to tables t) t c st.tables (matching_in t c st) then Err HasChildren else Ok (with_rows t (without c (rows_at st.tables t)) (is_some_row (matching_in t c st)) st))
 
-deletes : (t : ℕ) (st : State) (tests : Result (List Test) End)
-    → LeadsBy st (on (delete_made t st tests) (λ next. on tests (λ c. map (λ item. write t item.key patch.Delete) (matching_in t c st))) ++ []) (delete_made t st tests)
-deletes t st (Ok c) rise =
-    let ws : List Write = map (λ item. write t item.key patch.Delete) (matching_in t c st) in (
-      ap (slice_set st.tables t) (sym (deletes_lead t c (rows_at st.tables t) (rise t))) ∙ (sym (applied_on t ws st.tables (deletes_on t (matching_in t c st))) ∙ ap (λ vs. applied vs st.tables) (sym (append-nil ws))),
-      rise_set st.tables t (without c (rows_at st.tables t)) rise (without_rises c (rows_at st.tables t) (rise t)),
-    )
-deletes t st (Err e) rise = tt
+deletes : (tables : List TableInfo) (t : ℕ) (st : State) (tests : Result (List Test) End)
+    → LeadsBy st (on (delete_made tables t st tests) (λ next. on tests (λ c. map (λ item. write t item.key patch.Delete) (matching_in t c st))) ++ []) (delete_made tables t st tests)
+deletes tables t st (Ok c) = by (has_children (references_to tables t) t c st.tables (matching_in t c st))
+  where
+    by : (b : Bool) → LeadsBy st (on (if b then Err HasChildren else Ok (with_rows t (without c (rows_at st.tables t)) (is_some_row (matching_in t c st)) st)) (λ next. map (λ item. write t item.key patch.Delete) (matching_in t c st)) ++ [])
+        (if b then Err HasChildren else Ok (with_rows t (without c (rows_at st.tables t)) (is_some_row (matching_in t c st)) st))
+    by true rise = tt
+    by false rise =
+        let ws : List Write = map (λ item. write t item.key patch.Delete) (matching_in t c st) in (
+          ap (slice_set st.tables t) (sym (deletes_lead t c (rows_at st.tables t) (rise t))) ∙ (sym (applied_on t ws st.tables (deletes_on t (matching_in t c st))) ∙ ap (λ vs. applied vs st.tables) (sym (append-nil ws))),
+          rise_set st.tables t (without c (rows_at st.tables t)) rise (without_rises c (rows_at st.tables t) (rise t)),
+        )
+deletes tables t st (Err e) = λ rise. tt
 
 -- All statements
 
@@ -158,7 +171,7 @@ leads_own {X} tables params (ForRows x y body) n site before st = still (itself 
 leads_own {X} tables params (Branch e ys ns) n site before st = still (itself {X = X} tables (Branch e ys ns) st) st (then_keeps (value_of e st.env []) _ st (λ v. refl))
 leads_own {X} tables params (Insert t es) n site before st = inserts tables t st (new_row (columns_at tables t) es st.env)
 leads_own {X} tables params (Update t items conds) n site before st = updates tables t items st (tests_of (key_columns tables t) conds st.env)
-leads_own {X} tables params (Delete t conds) n site before st = deletes t st (tests_of (key_columns tables t) conds st.env)
+leads_own {X} tables params (Delete t conds) n site before st = deletes tables t st (tests_of (key_columns tables t) conds st.env)
 leads_own {X} tables params (Print es) n site before st = still (itself {X = X} tables (Print es) st) st (then_keeps (values_of es st.env) _ st (λ vs. refl))
 leads_own {X} tables params (Rollback reason) n site before st = still (itself {X = X} tables (Rollback reason) st) st tt
 

@@ -28,6 +28,11 @@ pub mod Inverting
 pub mod Wellness
 pub mod Values
 pub mod Alike
+pub mod Checked
+pub mod Told
 pub mod Congruent
 pub mod Posting
 pub mod Quiet
+pub mod ReferenceExamples
+pub mod Parents
+pub mod Orphans

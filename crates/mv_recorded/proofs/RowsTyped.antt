@@ -36,7 +36,7 @@ use Rattle.mv_alone.specs.Outcome.{then_do}
 use Rattle.mv_alone.specs.Env.{with_value, with_values}
 use Rattle.mv_alone.specs.Value.{value_of, fitted}
 use Rattle.mv_alone.specs.Rows.{sorted, ordered, sort_order, item_at, put_by, put_once, distinct, projected, column, lesser, least, greater, greatest, total, sum_of, aggregate, fit_kind, fit}
-use Rattle.mv_alone.specs.Changes.{with_column, set_row, updated, new_row, put_row, put_row_by}
+use Rattle.mv_alone.specs.Changes.{with_column, set_row_by, updated, new_row, put_row, put_row_by}
 use Rattle.mv_alone.specs.Alone.{fixed, with_selected}
 use Rattle.mv_record.specs.Databases.{AreTyped, HasRow}
 use Rattle.mv_recorded.specs.Typed.{OfKinds, IsEnvOf}
@@ -53,6 +53,11 @@ then_ok (Err e) go P Q p k = tt
 pub then_any : {A B : Type 0} (r : Result A End) (go : A → Result B End) (Q : B → Type 0) → ((x : A) → IfOk (go x) Q) → IfOk (then_do r go) Q
 then_any (Ok x) go Q k = k x
 then_any (Err e) go Q k = tt
+
+-- what holds of a value holds of one that is the same where it is there
+narrower : (r s : Result Value End) (P : Value → Type 0) → ((w : Value) → r ≡ Ok w → s ≡ Ok w) → IfOk s P → IfOk r P
+narrower (Ok x) s P same h = subst (λ q. IfOk q P) (same x refl) h
+narrower (Err e) s P same h = tt
 
 pub all_get : {X : Type 0} (P : X → Type 0) (xs : List X) (n : ℕ) (x : X) → All P xs → slice_get xs n ≡ Some x → P x
 all_get P xs n x all at = subst P (get_or_from_slice_get xs n x x at) (All-get_or P xs n x (slice_get_within xs n x at) all)
@@ -247,16 +252,16 @@ module _ (vars : Vars) (env : Env) (fit' : IsEnvOf vars env) where
       (λ w of. then_ok (new_row cs es env) (λ vs. Ok (w ∷ vs)) (IsRow types) (IsRow (c.kind ∷ types)) later (λ vs row. (of, row))))
 
   -- UPDATE
-  pub set_row_is : (table : TableInfo) (keys : List ℕ) (was : List Value) (items : List RSetItem) (row : List Value) → IsRow (types_of table) was → All (IsItem vars table) items → IsRow (types_of table) row
-      → IfOk (set_row table.columns keys env was items row) (IsRow (types_of table))
-  set_row_is table keys was [] row typed all h = h
-  set_row_is table keys was (i ∷ is) row typed all h =
+  pub set_row_is : (table : TableInfo) (fits : ℕ → Value → Result Value End) (keys : List ℕ) (was : List Value) (items : List RSetItem) (row : List Value) → ((c : ℕ) (v w : Value) → fits c v ≡ Ok w → fit table.columns c v ≡ Ok w)
+      → IsRow (types_of table) was → All (IsItem vars table) items → IsRow (types_of table) row → IfOk (set_row_by fits keys env was items row) (IsRow (types_of table))
+  set_row_is table fits keys was [] row same typed all h = h
+  set_row_is table fits keys was (i ∷ is) row same typed all h =
       let item = All-head (IsItem vars table) i is all in
-      let go : Value → Result (List Value) End = λ w. set_row table.columns keys env was is (with_column keys i.column w row) in
-      then_ok (value_of i.right env was) (λ v. then_do (fit table.columns i.column v) go) (IsKind item.0) (IsRow (types_of table))
+      let go : Value → Result (List Value) End = λ w. set_row_by fits keys env was is (with_column keys i.column w row) in
+      then_ok (value_of i.right env was) (λ v. then_do (fits i.column v) go) (IsKind item.0) (IsRow (types_of table))
       (value_kind vars (kinds_of table) env was fit' (table_kinds table was typed) i.right item.0 item.3)
-      (λ v is_kind. then_ok (fit table.columns i.column v) go (Suited table.columns i.column) (IsRow (types_of table)) (fit_is table.columns i.column item.0 v item.1 is_kind)
-      (λ w s. set_row_is table keys was is (with_column keys i.column w row) typed (All-tail (IsItem vars table) i is all) (column_set table.columns keys i.column w row h s)))
+      (λ v is_kind. then_ok (fits i.column v) go (Suited table.columns i.column) (IsRow (types_of table)) (narrower (fits i.column v) (fit table.columns i.column v) (Suited table.columns i.column) (same i.column v) (fit_is table.columns i.column item.0 v item.1 is_kind))
+      (λ w s. set_row_is table fits keys was is (with_column keys i.column w row) same typed (All-tail (IsItem vars table) i is all) (column_set table.columns keys i.column w row h s)))
 
 -- Tables
 

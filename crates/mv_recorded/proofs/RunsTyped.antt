@@ -1,7 +1,10 @@
 -- Statements keep variables and rows typed.
-use Rattle.std.proofs.Common.{◌≡◌, ℕ, Bool, true, false, List, [], ◌∷◌, Option, Some, None, Result, Ok, refl, sym, ap, subst, map, slice_get, All, IfOk, if◌then◌else◌}
+use Rattle.std.proofs.Common.{◌≡◌, ℕ, Bool, true, false, List, [], ◌∷◌, Option, Some, None, Result, Ok, Err, refl, sym, ap, subst, ◌∙◌, map, slice_get, All, IfOk, if◌then◌else◌}
 use Rattle.std.proofs.lemmas.List.Elements.{All-head, All-tail, All-filter}
 use Rattle.std.specs.Prelude.{not, ◌++◌}
+use Rattle.mv_values.specs.References.{parent_of, references, references_to, is_there}
+use Rattle.mv_values.specs.declared.calls.End.TheVariants.{MissingParent, HasChildren}
+use Rattle.mv_alone.specs.References.{has_parents, has_children, fit_in, with_parent}
 use Rattle.mv_alone.proofs.Standing.{goes_to}
 use Rattle.mv_values.specs.Preds.{meets}
 use Rattle.mv_values.specs.declared.pred.Test.{Test}
@@ -32,8 +35,8 @@ use Rattle.mv_alone.specs.declared.state.Env.{Env}
 use Rattle.mv_alone.specs.Outcome.{then_do}
 use Rattle.mv_alone.specs.Env.{with_held, with_value, with_found, turns_at}
 use Rattle.mv_alone.specs.Value.{value_of, values_of, is_so}
-use Rattle.mv_alone.specs.Rows.{is_some_row, item_at, ordered, aggregate, tests_of}
-use Rattle.mv_alone.specs.Changes.{set_row, updated, without, new_row, put_row, keyed}
+use Rattle.mv_alone.specs.Rows.{is_some_row, item_at, ordered, aggregate, tests_of, fit}
+use Rattle.mv_alone.specs.Changes.{set_row_by, updated, without, new_row, put_row, keyed}
 use Rattle.mv_alone.specs.Line.{line_of}
 use Rattle.mv_alone.specs.Alone.{Does, all_of, each_turn, matching_in, with_rows, offset_of, with_selected, totalled, fixed, is_turn, loop_over, does, alone, stmt_step}
 use Rattle.mv_alone.specs.Alone as alone'
@@ -42,6 +45,14 @@ use Rattle.mv_recorded.specs.Typed.{OfKinds, IsEnvOf}
 use Rattle.mv_recorded.proofs.Typing.{fit_value, fit_found, fit_turn, fit_behind}
 use Rattle.mv_recorded.proofs.Valued.{IsKind}
 use Rattle.mv_recorded.proofs.RowsTyped.{MayHave, then_ok, then_any, fixed_kinds, taken_fits, aggregate_kind, gives_kind, new_row_is, set_row_is, updated_all, put_row_all, rows_typed, tables_set}
+
+if_ok : (b : Bool) (e : End) (next : State) (P : State → Type 0) → P next → IfOk (if b then Ok next else Err e) P
+if_ok true e next P h = h
+if_ok false e next P h = tt
+
+unless_ok : (b : Bool) (e : End) (next : State) (P : State → Type 0) → P next → IfOk (if b then Err e else Ok next) P
+unless_ok true e next P h = tt
+unless_ok false e next P h = h
 
 module _ (tables : List TableInfo) where
   -- the variables hold values of their types, and the rows suit their tables
@@ -97,20 +108,35 @@ module _ (tables : List TableInfo) where
       let table = h.0 in
       let there : columns_at tables n ≡ table.columns = ap columns_in h.1 in
       let put : List Value → Result (List Keyed) End = λ row. put_row (keyed (key_columns tables n) row) (rows_at st.tables n) in
-      then_ok (new_row (columns_at tables n) es st.env) (λ row. then_do (put row) (λ made. Ok (with_rows n made true st))) (IsRow (types_of table)) (Kept vars)
+      let go : List Value → List Keyed → Result State End = λ row made. if has_parents (references tables n) (keyed (key_columns tables n) row) st.tables then Ok (with_rows n made true st) else Err MissingParent in
+      then_ok (new_row (columns_at tables n) es st.env) (λ row. then_do (put row) (go row)) (IsRow (types_of table)) (Kept vars)
       (subst (λ columns. IfOk (new_row columns es st.env) (IsRow (types_of table))) (sym there) (new_row_is vars st.env k.fit table.columns es h.2))
-      (λ row is. then_ok (put row) (λ made. Ok (with_rows n made true st)) (All (HasRow table)) (Kept vars)
+      (λ row is. then_ok (put row) (go row) (All (HasRow table)) (Kept vars)
       (put_row_all table (keyed (key_columns tables n) row) (rows_at st.tables n) is (rows_typed tables st.tables n table k.typed h.1))
-      (λ made all. rows_kept vars st n table made true k h.1 all))
+      (λ made all. if_ok (has_parents (references tables n) (keyed (key_columns tables n) row) st.tables) MissingParent (with_rows n made true st) (Kept vars) (rows_kept vars st n table made true k h.1 all)))
+
+  -- a value that fits and has its parent fits
+  fits_still : (n : ℕ) (table : TableInfo) (db : List (List Keyed)) (c : ℕ) (v w : Value) → columns_at tables n ≡ table.columns → fit_in tables n db c v ≡ Ok w → fit table.columns c v ≡ Ok w
+  fits_still n table db c v w there h =
+      let u = goes_to (fit (columns_at tables n) c v) (with_parent (parent_of tables n c) db) w h in
+      subst (λ columns. fit columns c v ≡ Ok w) there (u.1 ∙ same (parent_of tables n c) u.0 u.2)
+    where
+      test : (b : Bool) (x : Value) → (if b then Ok x else Err MissingParent) ≡ Ok w → ◌≡◌ {A = Result Value End} (Ok x) (Ok w)
+      test true x e = e
+      test false x e = cc
+
+      same : (o : Option ℕ) (x : Value) → with_parent o db x ≡ Ok w → ◌≡◌ {A = Result Value End} (Ok x) (Ok w)
+      same None x e = e
+      same (Some parent) x e = test (is_there x (rows_at db parent)) x e
 
   update_kept : (n : ℕ) (items : List RSetItem) (conds : List RCond) (vars : Vars) (st : State) → well.update tables n items conds vars → Kept vars st → IfOk (alone'.update tables n items conds st) (Kept vars)
   update_kept n items conds vars st h k =
       let table = h.0 in
       let keys = key_columns tables n in
       let there : columns_at tables n ≡ table.columns = ap columns_in h.1 in
-      let new : List Value → Result (List Value) End = λ row. set_row (columns_at tables n) keys st.env row items row in
+      let new : List Value → Result (List Value) End = λ row. set_row_by (fit_in tables n st.tables) keys st.env row items row in
       let is_row : (row : List Value) → IsRow (types_of table) row → IfOk (new row) (IsRow (types_of table)) =
-      λ row is. subst (λ columns. IfOk (set_row columns keys st.env row items row) (IsRow (types_of table))) (sym there) (set_row_is vars st.env k.fit table keys row items row is h.2.0 is) in
+      λ row is. set_row_is vars st.env k.fit table (fit_in tables n st.tables) keys row items row (λ c v w e. fits_still n table st.tables c v w there e) is h.2.0 is in
       then_any (tests_of (key_columns tables n) conds st.env) (λ tests. then_do (updated new tests (rows_at st.tables n)) (λ made. Ok (with_rows n made (is_some_row (matching_in n tests st)) st))) (Kept vars)
       (λ tests. then_ok (updated new tests (rows_at st.tables n)) (λ made. Ok (with_rows n made (is_some_row (matching_in n tests st)) st)) (All (HasRow table)) (Kept vars)
       (updated_all table new tests is_row (rows_at st.tables n) (rows_typed tables st.tables n table k.typed h.1))
@@ -119,9 +145,11 @@ module _ (tables : List TableInfo) where
   delete_kept : (n : ℕ) (conds : List RCond) (vars : Vars) (st : State) → well.delete tables n conds vars → Kept vars st → IfOk (alone'.delete tables n conds st) (Kept vars)
   delete_kept n conds vars st h k =
       let table = h.0 in
-      then_any (tests_of (key_columns tables n) conds st.env) (λ tests. Ok (with_rows n (without tests (rows_at st.tables n)) (is_some_row (matching_in n tests st)) st)) (Kept vars)
-      (λ tests. rows_kept vars st n table (without tests (rows_at st.tables n)) (is_some_row (matching_in n tests st)) k h.1
-      (All-filter (λ (item : Keyed). not (meets tests item.row)) (HasRow table) (rows_at st.tables n) (rows_typed tables st.tables n table k.typed h.1)))
+      let next : List Test → State = λ tests. with_rows n (without tests (rows_at st.tables n)) (is_some_row (matching_in n tests st)) st in
+      then_any (tests_of (key_columns tables n) conds st.env) (λ tests. if has_children (references_to tables n) n tests st.tables (matching_in n tests st) then Err HasChildren else Ok (next tests)) (Kept vars)
+      (λ tests. unless_ok (has_children (references_to tables n) n tests st.tables (matching_in n tests st)) HasChildren (next tests) (Kept vars)
+      (rows_kept vars st n table (without tests (rows_at st.tables n)) (is_some_row (matching_in n tests st)) k h.1
+      (All-filter (λ (item : Keyed). not (meets tests item.row)) (HasRow table) (rows_at st.tables n) (rows_typed tables st.tables n table k.typed h.1))))
 
   print_kept : (es : List RExpr) (vars : Vars) (st : State) → Kept vars st → IfOk (alone'.print es st) (Kept vars)
   print_kept es vars st k =

@@ -13,7 +13,6 @@ use Rattle.mv_values.specs.declared.rows.Keyed.{Keyed}
 use Rattle.mv_values.specs.declared.patch.Assign.{Assign}
 use Rattle.mv_values.specs.declared.patch.Patch.TheVariants.{Set}
 use Rattle.mv_values.specs.declared.patch.Write.{Write}
-use Rattle.mv_values.specs.declared.schema.Column.{Column}
 use Rattle.mv_values.specs.declared.calls.End.{End}
 use Rattle.mv_values.specs.Columns.{column_of}
 use Rattle.mv_values.specs.Patching.{with_columns}
@@ -21,8 +20,8 @@ use Rattle.mv_catalog.specs.declared.resolved.RSetItem.{RSetItem}
 use Rattle.mv_alone.specs.declared.state.Env.{Env}
 use Rattle.mv_alone.specs.Outcome.{then_do}
 use Rattle.mv_alone.specs.Value.{value_of}
-use Rattle.mv_alone.specs.Rows.{matching, fit}
-use Rattle.mv_alone.specs.Changes.{with_column, set_row, updated}
+use Rattle.mv_alone.specs.Rows.{matching}
+use Rattle.mv_alone.specs.Changes.{with_column, set_row_by, updated}
 use Rattle.mv_recorded.specs.Asking.{on}
 use Rattle.mv_recorded.specs.Doing.{write, set_patch}
 use Rattle.mv_recorded.proofs.Patched.{AllPast, all_pass, patched_all, OnTable, on_both, changes_first, row_ok}
@@ -52,12 +51,12 @@ other_with keys c d v row apart = either (list_any (λ k. k == c) keys)
     either true = refl
     either false = get_or-set_other row c d v (Int (pos 0)) apart
 
-made_agrees : (columns : List Column) (keys : List ℕ) (env : Env) (was : List Value) (items : List RSetItem) (row new : List Value) → set_row columns keys env was items row ≡ Ok new → AgreeBut items row new
-made_agrees columns keys env was [] row new h = let same : row ≡ new = cc in (ap length same, λ c none. ap (λ r. column_of r c) same)
-made_agrees columns keys env was (i ∷ is) row new h =
+made_agrees : (fits : ℕ → Value → Result Value End) (keys : List ℕ) (env : Env) (was : List Value) (items : List RSetItem) (row new : List Value) → set_row_by fits keys env was items row ≡ Ok new → AgreeBut items row new
+made_agrees fits keys env was [] row new h = let same : row ≡ new = cc in (ap length same, λ c none. ap (λ r. column_of r c) same)
+made_agrees fits keys env was (i ∷ is) row new h =
     let value = goes_to (value_of i.right env was) _ new h in
-    let fitted = goes_to (fit columns i.column value.0) _ new value.2 in
-    let rest = made_agrees columns keys env was is (with_column keys i.column fitted.0 row) new fitted.2 in
+    let fitted = goes_to (fits i.column value.0) _ new value.2 in
+    let rest = made_agrees fits keys env was is (with_column keys i.column fitted.0 row) new fitted.2 in
     (sym (long_with keys i.column fitted.0 row) ∙ rest.0, λ c none. sym (other_with keys i.column c fitted.0 row none.0) ∙ rest.1 c none.1)
 
 set_there : (row new : List Value) (c : ℕ) → length row ≡ length new → column_of (slice_set row c (column_of new c)) c ≡ column_of new c
@@ -140,8 +139,8 @@ sets_lead t items new makes tests (r ∷ rs) out h is = either (meets tests r.ro
         all_pass r (set_writes t items new (matching tests rs)) rs (sets_past t items new tests r.key rs h.0) ∙ (ap (λ l. r ∷ l) (k rest refl) ∙ row_ok e)
     either false (Err f) k e = cc
 
-pub set_row_makes : (columns : List Column) (keys : List ℕ) (env : Env) (items : List RSetItem) → Makes items (λ row. set_row columns keys env row items row)
-set_row_makes columns keys env items row made h = assigns_lead items row made (made_agrees columns keys env row items row made h)
+pub set_row_makes : (fits : ℕ → Value → Result Value End) (keys : List ℕ) (env : Env) (items : List RSetItem) → Makes items (λ row. set_row_by fits keys env row items row)
+set_row_makes fits keys env items row made h = assigns_lead items row made (made_agrees fits keys env row items row made h)
 
 -- the keys stay
 updated_after : (new : New) (tests : List Test) (k : List Value) (rows out : List Keyed) → Above k rows → updated new tests rows ≡ Ok out → Above k out

@@ -1,5 +1,5 @@
 -- The records of a full run have the lines and the end of the machine that runs the call alone.
-use Rattle.std.proofs.Common.{◌≡◌, ℕ, List, [], ◌∷◌, ◌++◌, Option, Some, None, Result, Ok, Err, option_to_list, length, refl, sym, ap, ◌∙◌, append-nil, append_assoc}
+use Rattle.std.proofs.Common.{◌≡◌, ℕ, Bool, true, false, if◌then◌else◌, List, [], ◌∷◌, ◌++◌, Option, Some, None, Result, Ok, Err, option_to_list, length, refl, sym, ap, ◌∙◌, append-nil, append_assoc}
 use Rattle.std.proofs.lemmas.Grind.{flat_map-append}
 use Rattle.std.specs.Option.{option_or}
 use Rattle.std.specs.Result.{result_ok, result_err}
@@ -11,14 +11,17 @@ use Rattle.mv_values.specs.Tables.{key_columns, columns_at, rows_at, Tables}
 use Rattle.mv_catalog.specs.declared.resolved.ProcInfo.{ProcInfo}
 use Rattle.mv_catalog.specs.declared.resolved.RStmt.{RStmt}
 use Rattle.mv_catalog.specs.declared.resolved.RStmt.TheOpen.{RStmt-F, Assign, Select, Total, ForSelect, ForRows, Branch, Insert, Update, Delete, Print, Rollback}
+use Rattle.mv_values.specs.References.{references, references_to}
+use Rattle.mv_values.specs.declared.calls.End.TheVariants.{MissingParent, HasChildren}
+use Rattle.mv_alone.specs.References.{has_parents, has_children, fit_in}
 use Rattle.mv_alone.specs.declared.state.Env.{Env}
 use Rattle.mv_alone.specs.declared.state.State.{State}
 use Rattle.mv_alone.specs.Outcome.{then_do}
 use Rattle.mv_alone.specs.Value.{value_of, values_of}
-use Rattle.mv_alone.specs.Rows.{tests_of, aggregate}
-use Rattle.mv_alone.specs.Changes.{new_row, put_row, keyed, updated, set_row}
+use Rattle.mv_alone.specs.Rows.{tests_of, aggregate, is_some_row}
+use Rattle.mv_alone.specs.Changes.{new_row, put_row, keyed, updated, set_row_by, without}
 use Rattle.mv_alone.specs.Line.{line_of}
-use Rattle.mv_alone.specs.Alone.{alone, matching_in, offset_of, fixed}
+use Rattle.mv_alone.specs.Alone.{alone, matching_in, offset_of, fixed, with_rows}
 use Rattle.mv_alone.specs.TableAfter.{begun}
 use Rattle.mv_record.specs.declared.record.Record.{Record}
 use Rattle.mv_record.specs.Runs.{lines_in, end_in, StopsWith}
@@ -70,6 +73,14 @@ then_keeps : {A : Type 0} (r : Result A End) (go : A → Result State End) (st :
 then_keeps (Ok x) go st h = h x
 then_keeps (Err e) go st h = tt
 
+unless_keeps : (b : Bool) (e : End) (next st : State) → next.lines ≡ st.lines → KeepsLines (if b then Err e else Ok next) st
+unless_keeps true e next st h = tt
+unless_keeps false e next st h = h
+
+whether_keeps : (b : Bool) (e : End) (next st : State) → next.lines ≡ st.lines → KeepsLines (if b then Ok next else Err e) st
+whether_keeps true e next st h = h
+whether_keeps false e next st h = tt
+
 quiet : (out : Result State End) (r : Record) (st : State) → r.end ≡ result_err out → r.line ≡ None → KeepsLines out st → TellsOf st (r ∷ []) out
 quiet (Ok next) r st e l k =
     (ap (λ o. option_or o None) e, k ∙ (sym (append-nil st.lines) ∙ sym (ap (λ o. st.lines ++ (option_to_list o ++ [])) l)))
@@ -101,14 +112,16 @@ tells_own {X} tables params (Branch e ys ns) n site before st =
     (then_keeps (value_of e st.env []) _ st (λ v. refl))
 tells_own {X} tables params (Insert t es) n site before st =
     quiet (itself {X = X} tables (Insert t es) st) (own_record {X = X} tables params (Insert t es) n site before st) st refl refl
-    (then_keeps (new_row (columns_at tables t) es st.env) _ st (λ row. then_keeps (put_row (keyed (key_columns tables t) row) (rows_at st.tables t)) _ st (λ rows. refl)))
+    (then_keeps (new_row (columns_at tables t) es st.env) _ st (λ row. then_keeps (put_row (keyed (key_columns tables t) row) (rows_at st.tables t)) _ st (λ rows.
+    whether_keeps (has_parents (references tables t) (keyed (key_columns tables t) row) st.tables) MissingParent (with_rows t rows true st) st refl)))
 tells_own {X} tables params (Update t items conds) n site before st =
     quiet (itself {X = X} tables (Update t items conds) st) (own_record {X = X} tables params (Update t items conds) n site before st) st refl refl
     (then_keeps (tests_of (key_columns tables t) conds st.env) _ st (λ tests.
-    then_keeps (updated (λ row. set_row (columns_at tables t) (key_columns tables t) st.env row items row) tests (rows_at st.tables t)) _ st (λ rows. refl)))
+    then_keeps (updated (λ row. set_row_by (fit_in tables t st.tables) (key_columns tables t) st.env row items row) tests (rows_at st.tables t)) _ st (λ rows. refl)))
 tells_own {X} tables params (Delete t conds) n site before st =
     quiet (itself {X = X} tables (Delete t conds) st) (own_record {X = X} tables params (Delete t conds) n site before st) st refl refl
-    (then_keeps (tests_of (key_columns tables t) conds st.env) _ st (λ tests. refl))
+    (then_keeps (tests_of (key_columns tables t) conds st.env) _ st (λ tests.
+    unless_keeps (has_children (references_to tables t) t tests st.tables (matching_in t tests st)) HasChildren (with_rows t (without tests (rows_at st.tables t)) (is_some_row (matching_in t tests st)) st) st refl))
 tells_own {X} tables params (Print es) n site before st = prints (values_of es st.env) (own_record {X = X} tables params (Print es) n site before st) st refl refl
 tells_own {X} tables params (Rollback reason) n site before st =
     record { front = []; last = own_record {X = X} tables params (Rollback reason) n site before st; are = refl; goes_on = refl; ends = refl }

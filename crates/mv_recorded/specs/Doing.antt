@@ -21,7 +21,8 @@ use Rattle.mv_alone.specs.Outcome.{then_do}
 use Rattle.mv_alone.specs.Env.{scalar_at, with_found, turns_at}
 use Rattle.mv_alone.specs.Value.{value_of, values_of, is_so}
 use Rattle.mv_alone.specs.Rows.{tests_of}
-use Rattle.mv_alone.specs.Changes.{new_row, set_row}
+use Rattle.mv_alone.specs.Changes.{new_row, set_row_by}
+use Rattle.mv_alone.specs.References.{fit_in}
 use Rattle.mv_alone.specs.Line.{line_of}
 use Rattle.mv_alone.specs.Alone.{matching_in, fixed, is_turn, assign, select, sum_up, insert, update, delete, print}
 use Rattle.mv_record.specs.declared.record.Slot.{Slot}
@@ -104,7 +105,7 @@ writes_of tables (Insert t es) st =
     on (new_row (columns_at tables t) es st.env) (λ row. write t (columns_of row (key_columns tables t)) (patch.Insert row) ∷ [])
 writes_of tables (Update t items conds) st =
     on (tests_of (key_columns tables t) conds st.env) (λ tests. flat_map (λ item.
-    on (set_row (columns_at tables t) (key_columns tables t) st.env item.row items item.row) (λ row. write t item.key (set_patch items row) ∷ []))
+    on (set_row_by (fit_in tables t st.tables) (key_columns tables t) st.env item.row items item.row) (λ row. write t item.key (set_patch items row) ∷ []))
     (matching_in t tests st))
 writes_of tables (Delete t conds) st = on (tests_of (key_columns tables t) conds st.env) (λ tests. map (λ item. write t item.key patch.Delete) (matching_in t tests st))
 writes_of tables s st = []

@@ -1,5 +1,5 @@
 -- The effect of each kind of statement, computed from its predicates and the rows they found.
-use Rattle.std.specs.Prelude.{◌≡◌, ℕ, ℤ, Bool, ◌++◌, List, [], ◌∷◌, true, Option, Some, None, Result, Ok, Err, map, if◌then◌else◌}
+use Rattle.std.specs.Prelude.{◌≡◌, ℕ, ℤ, Bool, ◌++◌, List, [], ◌∷◌, Option, Some, None, Result, Ok, Err, map}
 use Rattle.std.specs.Option.{is_some}
 use Rattle.mv_values.specs.declared.value.Value.{Value}
 use Rattle.mv_values.specs.declared.patch.Write.{Write}
@@ -7,7 +7,6 @@ use Rattle.mv_values.specs.declared.pred.Pred.{Pred}
 use Rattle.mv_values.specs.declared.rows.Keyed.{Keyed}
 use Rattle.mv_values.specs.declared.schema.TableInfo.{TableInfo}
 use Rattle.mv_values.specs.declared.calls.End.{End}
-use Rattle.mv_values.specs.declared.calls.End.TheVariants.{Duplicate}
 use Rattle.mv_values.specs.declared.patch.Patch.TheVariants.{Insert}
 use Rattle.mv_values.specs.Tables.{columns_at, key_columns}
 use Rattle.mv_values.specs.Columns.{number}
@@ -83,9 +82,14 @@ effect_of_aggregate pred x total found env = record (only_asks pred) { sets = sl
 abbrev pub effect_of_loop : Pred → List (List Value) → Env → Effect
 effect_of_loop pred turns env = record (only_asks pred) { sets = slots_behind (with_found env (is_turn turns)) (env.found ∷ []); rows = turns }
 
--- a statement after its query that makes these writes; the flag tells whether it found a row
-abbrev pub effect_of_writes : Pred → Bool → List Write → Env → Effect
-effect_of_writes pred found ws env = record (only_asks pred) { sets = slots_behind (with_found env found) (env.found ∷ []); writes = ws }
+-- a statement after its queries that makes these writes; the flag tells whether it found a row
+abbrev pub effect_of_writes : List Pred → Bool → List Write → Env → Effect
+effect_of_writes preds found ws env = record empty { preds = preds; sets = slots_behind (with_found env found) (env.found ∷ []); writes = ws }
+
+-- the same unless a check failed
+abbrev pub effect_unless : Option End → List Pred → Bool → List Write → Env → Effect
+effect_unless None preds found ws env = effect_of_writes preds found ws env
+effect_unless (Some e) preds found ws env = only_end preds e
 
 -- the writes of SET to rows, or the first fault
 abbrev pub changes : ℕ → List RSetItem → (List Value → Result (List Value) End) → List Keyed → Result (List Write) End
@@ -96,7 +100,6 @@ changes t items new (item ∷ rest) = then_do (new item.row) (λ row. then_do (c
 abbrev pub new_of : List TableInfo → ℕ → Env → List RSetItem → List Value → Result (List Value) End
 new_of tables t env items row = set_row (columns_at tables t) (key_columns tables t) env row items row
 
--- an INSERT of a row after its query; the flag tells whether a row with its key exists
-abbrev pub effect_of_insert : List TableInfo → ℕ → List Value → Pred → Bool → Env → Effect
-effect_of_insert tables t row pred there env =
-    if there then only_end (pred ∷ []) Duplicate else effect_of_writes pred true (write t (keyed (key_columns tables t) row).key (Insert row) ∷ []) env
+-- the write of an INSERT
+abbrev pub inserted : List TableInfo → ℕ → List Value → List Write
+inserted tables t row = write t (keyed (key_columns tables t) row).key (Insert row) ∷ []

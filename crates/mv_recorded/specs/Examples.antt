@@ -55,7 +55,7 @@ two op a b = expr (kind.Two op a b)
 abbrev pub acc : List TableInfo
 acc = record {
   name = [];
-  columns = record { name = []; kind = column.Int } ∷ record { name = []; kind = column.Int } ∷ record { name = []; kind = column.Text 20 } ∷ [];
+  columns = record { name = []; kind = column.Int; refers = None } ∷ record { name = []; kind = column.Int; refers = None } ∷ record { name = []; kind = column.Text 20; refers = None } ∷ [];
   key = 0 ∷ [];
 } ∷ []
 

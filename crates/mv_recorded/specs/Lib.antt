@@ -10,3 +10,5 @@ pub mod Own
 pub mod Alike
 pub mod Posts
 pub mod Laws
+pub mod ReferenceExamples
+pub mod Parents

@@ -1,5 +1,7 @@
 //! Laws of the records of a full run. They apply to every procedure, call and database.
 
+ghost use Rattle.mv_recorded.specs.Parents.{EndsAreFaults, ReferencesKept};
+ghost use Rattle.mv_recorded.specs.ReferenceExamples.{Shuts, Hires, Joins, Leaves, Bosses};
 ghost use Rattle.mv_recorded.specs.Examples.{AddsFive, AddOverflows, UpdateOverflows, LooksInVain, Transfers, TransferRollsBack, AddsUp, Closes, ReadsTwice, DividesByZero};
 ghost use Rattle.mv_recorded.specs.Laws.{MeaningsTell, NamesEarlierOnes, PathsAreInOrder, EffectsTold, ColumnsThere, KeysKept, DatabaseKept, FrontsAreDatabases, TablesAfterAre, ReadersChangeNothing, RecordsAreOwn, EffectsRest, OnePlaceOnePath};
 
@@ -81,4 +83,20 @@ pub fn worked_examples()
     ensures table { Closes }
     ensures twice { ReadsTwice }
     ensures fault { DividesByZero }
+{}
+
+/// A statement that changes rows ends with the first fault of what it checks: of its predicates up to that of the fault.
+/// No statement leaves a row without its parent.
+pub fn parents_are_kept()
+    ensures ends { EndsAreFaults }
+    ensures parents { ReferencesKept }
+{}
+
+/// What small statements with REFERENCES check, worked out by hand.
+pub fn reference_examples()
+    ensures shut { Shuts }
+    ensures hire { Hires }
+    ensures own_parent { Joins }
+    ensures leave { Leaves }
+    ensures update { Bosses }
 {}

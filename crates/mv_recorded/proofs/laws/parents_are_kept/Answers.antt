@@ -1,0 +1,9 @@
+use Rattle.mv_recorded.proofs.Told.{ends_are_faults}
+use Rattle.mv_recorded.proofs.Parents.{references_kept}
+use Rattle.mv_recorded.proofs.laws.parents_are_kept.Goals as goal
+
+pub returns-clause-ends : goal.returns-clause-ends
+returns-clause-ends c = ends_are_faults
+
+pub returns-clause-parents : goal.returns-clause-parents
+returns-clause-parents c = references_kept
