@@ -7,3 +7,5 @@ pub mod Standing
 pub mod Lawful
 pub mod Calling
 pub mod Turning
+pub mod There
+pub mod Leaving

@@ -8,10 +8,11 @@ use Rattle.mv_values.specs.declared.rows.Keyed.{Keyed}
 use Rattle.mv_values.specs.declared.schema.TableInfo.{TableInfo}
 use Rattle.mv_values.specs.declared.calls.End.{End}
 use Rattle.mv_values.specs.Columns.{columns_of}
-use Rattle.mv_values.specs.Tables.{key_columns, columns_at, rows_at, KeysStand, Tables, StandsUnder}
+use Rattle.mv_values.specs.Tables.{key_columns, rows_at, KeysStand, Tables, StandsUnder}
 use Rattle.mv_catalog.specs.declared.resolved.RSetItem.{RSetItem}
 use Rattle.mv_alone.specs.declared.state.State.{State}
-use Rattle.mv_alone.specs.Changes.{set_row, without, put_row}
+use Rattle.mv_alone.specs.Changes.{set_row_by, without, put_row}
+use Rattle.mv_alone.specs.References.{fit_in}
 use Rattle.mv_alone.specs.Own.{StandUnder}
 use Rattle.mv_alone.proofs.Standing.{stand_set, set_row_keeps, updated_stand, put_stands}
 use Rattle.mv_serial.proofs.Tabling.{table_with, updated_at}
@@ -27,8 +28,8 @@ pub update_stands : (infos : List TableInfo) (t : ℕ) (items : List RSetItem) (
     → table_with st.tables t (updated_at infos t items tests st) ≡ Ok new → KeysStand infos new
 update_stands infos t items tests st new h is =
     with_stands infos st.tables new t (updated_at infos t items tests st) h
-    (λ rows made. updated_stand (λ row. set_row (columns_at infos t) (key_columns infos t) st.env row items row) (key_columns infos t) tests
-    (λ row made is. set_row_keeps (columns_at infos t) (key_columns infos t) st.env row items row made is) (rows_at st.tables t) rows (h t) made) is
+    (λ rows made. updated_stand (λ row. set_row_by (fit_in infos t st.tables) (key_columns infos t) st.env row items row) (key_columns infos t) tests
+    (λ row made is. set_row_keeps (fit_in infos t st.tables) (key_columns infos t) st.env row items row made is) (rows_at st.tables t) rows (h t) made) is
 
 -- DELETE
 pub delete_stands : (infos : List TableInfo) (t : ℕ) (tests : List Test) (db new : Tables) → KeysStand infos db → new ≡ slice_set db t (without tests (rows_at db t)) → KeysStand infos new

@@ -1,8 +1,9 @@
 //! Runs whole calls, one after another.
 
-ghost use Rattle.std.specs.Prelude.{◌≡◌, [], Some, All, IfOk, length, replicate};
+ghost use Rattle.std.specs.Prelude.{◌≡◌, ◌≤◌, [], Some, All, IfOk, length, replicate};
 ghost use Rattle.mv_catalog.specs.Text.{IsTable};
 ghost use Rattle.mv_alone.specs.Alone.{alone};
+ghost use Rattle.mv_values.specs.References.{OneKeys};
 ghost use Rattle.mv_values.specs.Tables.{KeysStand};
 ghost use Rattle.mv_record.specs.Databases.{IsProgram};
 ghost use Rattle.mv_serial.specs.Changing.{changed_by};
@@ -64,6 +65,8 @@ fn run_procedure(
 ) -> Result<Left, NoMemory>
     requires keys { KeysStand program.now.resolved.tables tables }
     requires each { All IsTable program.now.resolved.tables }
+    requires parents { OneKeys program.now.resolved.tables }
+    requires few { length program.now.resolved.tables ≤ 64 }
     ensures tables { IfOk result (λ l. l.tables ≡ tables_left tables (alone program.now.resolved.tables procedure.now.body (begun procedure.now call.now tables))) }
     ensures reply { IfOk result (λ l. l.reply ≡ reply_in (alone program.now.resolved.tables procedure.now.body (begun procedure.now call.now tables))) }
     ensures keys { IfOk result (λ l. KeysStand program.now.resolved.tables l.tables) }
@@ -111,6 +114,8 @@ fn run_call(
 ) -> Result<Left, NoMemory>
     requires keys { KeysStand program.now.resolved.tables tables }
     requires each { All IsTable program.now.resolved.tables }
+    requires parents { OneKeys program.now.resolved.tables }
+    requires few { length program.now.resolved.tables ≤ 64 }
     ensures tables { IfOk result (λ l. l.tables ≡ tables_left tables (outcome program.now number tables)) }
     ensures reply { IfOk result (λ l. l.reply ≡ reply_in (outcome program.now number tables)) }
     ensures keys { IfOk result (λ l. KeysStand program.now.resolved.tables l.tables) }

@@ -1,6 +1,6 @@
 //! Executes DELETE.
 
-ghost use Rattle.std.specs.Prelude.{◌≡◌, All, map, IfOk, OnOk};
+ghost use Rattle.std.specs.Prelude.{◌≡◌, ◌≤◌, All, length, map, IfOk, OnOk};
 ghost use Rattle.mv_values.specs.Keys.{IsRising};
 ghost use Rattle.mv_values.specs.Tables.{rows_at, key_columns, KeysStand};
 ghost use Rattle.mv_table.specs.Entries.{seen};
@@ -12,11 +12,13 @@ ghost use Rattle.mv_alone.specs.Alone.{delete};
 ghost use Rattle.mv_serial.specs.Changing.{removals, StaysUndoable};
 
 use crate::change::{RowChange, make_all};
+use crate::children::{Removed, have_children};
 use mv_alone::env::set_found;
 use mv_alone::find::{found_in, tests_from};
 use mv_alone::state::{State, Stop};
 use mv_catalog::resolved::RCond;
 use mv_table::table::{Entry, Tables};
+use mv_values::calls::End;
 use mv_values::copied::Copied;
 use mv_values::list::List;
 use mv_values::memory::NoMemory;
@@ -67,12 +69,21 @@ pub(crate) fn run_delete(
 ) -> Result<(), Stop>
     requires keys { KeysStand infos.now state.old.tables }
     requires each { All IsTable infos.now }
+    requires few { length infos.now ≤ 64 }
     ensures does { Leaves result state.new (delete infos.now table conds.now state.old) }
     ensures keys { OnOk result (KeysStand infos.now state.new.tables) }
     ensures others { OnOk result (OthersStay table state.old.tables state.new.tables) }
     ensures undo { StaysUndoable result undo.old state.old.tables undo.new state.new.tables }
 {
     let tests = tests_from(alloc, infos, table, conds, &state.env)?;
+    let removed = Removed {
+        table,
+        tests: tests.as_slice(),
+    };
+    let are_parents = have_children(alloc, infos, &state.tables, &removed)?;
+    if are_parents {
+        return Err(Stop::Ended(End::HasChildren));
+    }
     let changes = removals_in(alloc, infos, &state.tables, table, tests.as_slice())?;
     let found = changes.len() > 0;
     make_all(alloc, &mut state.tables, undo, changes)?;

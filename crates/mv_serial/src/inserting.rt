@@ -1,6 +1,7 @@
 //! Executes INSERT.
 
 ghost use Rattle.std.specs.Prelude.{Ok, OnOk, slice_set};
+ghost use Rattle.mv_values.specs.References.{OneKeys};
 ghost use Rattle.mv_values.specs.Tables.{rows_at, KeysStand};
 ghost use Rattle.mv_alone.specs.Outcome.{Leaves, then_do};
 ghost use Rattle.mv_alone.specs.Changes.{put_row, OthersStay};
@@ -8,6 +9,7 @@ ghost use Rattle.mv_alone.specs.Alone.{insert};
 ghost use Rattle.mv_serial.specs.Changing.{StaysUndoable};
 
 use crate::change::{RowChange, add};
+use crate::parents::has_parents;
 use mv_alone::env::set_found;
 use mv_alone::find::{columns_in, key_in};
 use mv_alone::made::{made_row, under_key};
@@ -40,7 +42,7 @@ fn put_new(
     Ok(())
 }
 
-/// Executes INSERT.
+/// Executes INSERT. Where a parent is missing the row is put all the same, and undoing the call takes it out again.
 pub(crate) fn run_insert(
     alloc: Global,
     tables: &[TableInfo],
@@ -49,7 +51,8 @@ pub(crate) fn run_insert(
     state: &mut State,
     undo: &mut List<RowChange>,
 ) -> Result<(), Stop>
-    requires { KeysStand tables.now state.old.tables }
+    requires keys { KeysStand tables.now state.old.tables }
+    requires parents { OneKeys tables.now }
     ensures does { Leaves result state.new (insert tables.now table values.now state.old) }
     ensures keys { OnOk result (KeysStand tables.now state.new.tables) }
     ensures others { OnOk result (OthersStay table state.old.tables state.new.tables) }
@@ -57,7 +60,11 @@ pub(crate) fn run_insert(
 {
     let row = made_row(alloc, columns_in(tables, table), values, &state.env)?;
     let item = under_key(alloc, key_in(tables, table), row)?;
+    let is_kept = has_parents(alloc, tables, &state.tables, table, &item)?;
     put_new(alloc, &mut state.tables, undo, table, item)?;
+    if !is_kept {
+        return Err(Stop::Ended(End::MissingParent));
+    }
     set_found(&mut state.env, true)?;
     Ok(())
 }

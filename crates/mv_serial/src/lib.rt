@@ -3,8 +3,10 @@
 
 pub mod calls;
 mod change;
+mod children;
 mod deleting;
 mod inserting;
+mod parents;
 mod run;
 mod statements;
 mod tables;

@@ -1,6 +1,7 @@
 //! Executes statements one after another, and those that hold others.
 
-ghost use Rattle.std.specs.Prelude.{◌≡◌, ◌++◌, [], drop, All, Ok, OnOk};
+ghost use Rattle.std.specs.Prelude.{◌≡◌, ◌≤◌, ◌++◌, [], drop, length, All, Ok, OnOk};
+ghost use Rattle.mv_values.specs.References.{OneKeys};
 ghost use Rattle.mv_values.specs.Tables.{rows_at, key_columns, KeysStand};
 ghost use Rattle.mv_catalog.specs.Text.{IsTable};
 ghost use Rattle.mv_alone.specs.Rows.{tests_of, matching};
@@ -55,6 +56,8 @@ pub(crate) fn run_all(
 ) -> Result<(), Stop>
     requires keys { KeysStand tables.now state.old.tables }
     requires each { All IsTable tables.now }
+    requires parents { OneKeys tables.now }
+    requires few { length tables.now ≤ 64 }
     ensures does { Leaves result state.new (alone tables.now statements.now state.old) }
     ensures keys { OnOk result (KeysStand tables.now state.new.tables) }
     ensures undo { StaysUndoable result undo.old state.old.tables undo.new state.new.tables }
@@ -76,6 +79,8 @@ fn run_one(
 ) -> Result<(), Stop>
     requires keys { KeysStand tables.now state.old.tables }
     requires each { All IsTable tables.now }
+    requires parents { OneKeys tables.now }
+    requires few { length tables.now ≤ 64 }
     ensures does { Leaves result state.new (does tables.now statement.now state.old) }
     ensures keys { OnOk result (KeysStand tables.now state.new.tables) }
     ensures undo { StaysUndoable result undo.old state.old.tables undo.new state.new.tables }
@@ -194,6 +199,8 @@ fn run_turns(
 ) -> Result<(), Stop>
     requires keys { KeysStand tables.now state.old.tables }
     requires each { All IsTable tables.now }
+    requires parents { OneKeys tables.now }
+    requires few { length tables.now ≤ 64 }
     ensures does { Leaves result state.new (for_select tables.now row once query.now.columns.now query.now.table query.now.conds.now query.now.sorts.now (alone tables.now body.now) state.old) }
     ensures keys { OnOk result (KeysStand tables.now state.new.tables) }
     ensures undo { StaysUndoable result undo.old state.old.tables undo.new state.new.tables }
@@ -215,6 +222,8 @@ fn run_rows(
 ) -> Result<(), Stop>
     requires keys { KeysStand tables.now state.old.tables }
     requires each { All IsTable tables.now }
+    requires parents { OneKeys tables.now }
+    requires few { length tables.now ≤ 64 }
     ensures does { Leaves result state.new (for_rows row parameter (alone tables.now body.now) state.old) }
     ensures keys { OnOk result (KeysStand tables.now state.new.tables) }
     ensures undo { StaysUndoable result undo.old state.old.tables undo.new state.new.tables }
@@ -236,6 +245,8 @@ fn run_loop(
 ) -> Result<(), Stop>
     requires keys { KeysStand tables.now state.old.tables }
     requires each { All IsTable tables.now }
+    requires parents { OneKeys tables.now }
+    requires few { length tables.now ≤ 64 }
     ensures does { Leaves result state.new (loop_over row (alone tables.now body.now) rows.now state.old) }
     ensures keys { OnOk result (KeysStand tables.now state.new.tables) }
     ensures undo { StaysUndoable result undo.old state.old.tables undo.new state.new.tables }

@@ -3,6 +3,7 @@ use Rattle.std.specs.Prelude.{replicate}
 use Rattle.mv_values.specs.Tables.{KeysStand}
 use Rattle.mv_alone.specs.TableAfter.{no_reply}
 use Rattle.mv_serial.proofs.InTurn.{length_replies, all_replied, others_silent, place_within}
+use Rattle.mv_catalog.proofs.References.{one_keys}
 use Rattle.mv_serial.proofs.Lawful.{stopped_unchanged}
 use Rattle.mv_serial.proofs.calls.run_alone.Goals as goal
 
@@ -36,3 +37,9 @@ returns-clause-stopped c = stopped_unchanged c.args.program.now c.args.order.now
 
 pub run_call-requires-clause-each : goal.run_call-requires-clause-each
 run_call-requires-clause-each c = c.requires.whole.text.tables
+
+pub run_call-requires-clause-parents : goal.run_call-requires-clause-parents
+run_call-requires-clause-parents c = one_keys c.args.program.now.resolved.tables c.requires.whole.text.parents
+
+pub run_call-requires-clause-few : goal.run_call-requires-clause-few
+run_call-requires-clause-few c = c.requires.whole.text.few
