@@ -2,3 +2,4 @@ pub mod Once
 pub mod Opened
 pub mod Together
 pub mod Stands
+pub mod Orphans

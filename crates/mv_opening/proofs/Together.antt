@@ -139,8 +139,8 @@ all_named s h =
 
 -- The whole
 
-stands_there : (tables : List TableDef) (size : ℕ) (c : CopyDef) → length tables ≤ 64 → Named tables c → WithinCopy size c → IsBlockAt (length (map table_of tables)) size (copy_of tables c)
-stands_there tables size c few_of_them is lies = (omega (arith, length-map tables table_of), lies)
+stands_there : (tables : List TableDef) (size : ℕ) (c : CopyDef) → length tables ≤ 64 → Named tables c → WithinCopy size c → IsBlockAt (length (map (table_of tables) tables)) size (copy_of tables c)
+stands_there tables size c few_of_them is lies = (omega (arith, length-map tables (table_of tables)), lies)
 
 pub fits_together : (bytes : List ℕ) (tokens : List Token) (s : Script) → length bytes ≤ 2 ^ 24 → AreTokens bytes tokens → IsScript bytes tokens s → faults s ≡ [] → FitTogether (resolved_of s) bytes
 fits_together bytes tokens s size are is none =
@@ -151,13 +151,13 @@ fits_together bytes tokens s size are is none =
     let lies = within (length bytes) s standing in
     let are_named = all_named s none in
     record {
-      tables = omega (arith, length-map tables table_of);
-      values = omega (arith, length-map tables table_of, length-map tables (λ (t : TableDef). rows_of t.rows));
+      tables = omega (arith, length-map tables (table_of tables));
+      values = omega (arith, length-map tables (table_of tables), length-map tables (λ (t : TableDef). rows_of t.rows));
       rows = All-map (λ rows. length rows < 2 ^ 32) (λ (t : TableDef). rows_of t.rows) tables
           (All-weaker (Short (length bytes)) (λ t. length (rows_of t.rows) < 2 ^ 32) (λ t h. omega (arith, length-map t.rows row_of)) tables (short (length bytes) s standing));
-      columns = All-map (λ table. length table.columns < 2 ^ 32) table_of tables
-          (All-weaker Narrow (λ t. length (map described t.columns) < 2 ^ 32) (λ t h. omega (arith, length-map t.columns described)) tables (narrow s limits));
-      copies = All-map (IsBlockAt (length (map table_of tables)) (length bytes)) (copy_of tables) (copies_of s)
+      columns = All-map (λ table. length table.columns < 2 ^ 32) (table_of tables) tables
+          (All-weaker Narrow (λ t. length (map (described tables) t.columns) < 2 ^ 32) (λ t h. omega (arith, length-map t.columns (described tables))) tables (narrow s limits));
+      copies = All-map (IsBlockAt (length (map (table_of tables) tables)) (length bytes)) (copy_of tables) (copies_of s)
           (λ k d lt. stands_there tables (length bytes) (get_or (copies_of s) k d) number (are_named k d lt) (lies k d lt));
       size = omega arith;
     }

@@ -22,6 +22,27 @@ pub enum OpeningFault {
     NoMemory,
 }
 
+/// Why the rows that the calls begin with may not stand together. The table is numbered from 0, in the order of the
+/// script. The row, in key order, and the column are counted from 1.
+#[derive(Clone, Copy)]
+pub enum ParentFault {
+    /// The row has no parent by this column.
+    Missing { table: u32, row: u32, column: u32 },
+    /// Memory ran out, or a row has a number of more than 32 bits.
+    NoMemory,
+}
+
+impl From<NoMemory> for ParentFault {
+    ghost use Rattle.std.specs.Prelude.{◌≡◌};
+    ghost use Rattle.mv_opening.specs.declared.fault.ParentFault.TheVariants as fault;
+
+    ghost from_gives = { λ _ e. e ≡ fault.NoMemory };
+
+    fn from(_error: NoMemory) -> ParentFault {
+        ParentFault::NoMemory
+    }
+}
+
 impl From<NoMemory> for OpeningFault {
     ghost use Rattle.std.specs.Prelude.{◌≡◌};
     ghost use Rattle.mv_opening.specs.declared.fault.OpeningFault.TheVariants as fault;

@@ -4,3 +4,4 @@
 pub mod fault;
 pub mod fitting;
 pub mod opening;
+pub mod parents;
