@@ -57,3 +57,59 @@ module _ {A B : Type 0} (P : A → Type 0) (C : Refusal → Type 0) (Q : A → B
       | inr d ↦ n.told refusal (subst (λ (x : A). D x refusal) (sym (same a d.0 e d.1)) d.2)
     ];
   }
+
+-- A test of what was found: where both are exact, so is what passes.
+module _ {A : Type 0} (P : A → Type 0) (C : Refusal → Type 0) (Q : A → Type 0) (D : A → Refusal → Type 0) where
+  abbrev pub Passes : A → Type 0
+  Passes a = P a × Q a
+
+  abbrev pub Fails : Refusal → Type 0
+  Fails refusal = C refusal ⊎ ((a : A) × P a × D a refusal)
+
+  cause_of_none : (f : NotAccepted) → HasCause C f → HasCause Fails f
+  cause_of_none (Refused refusal) c = inl c
+  cause_of_none NoMemory c = c
+
+  cause_of_test : (a : A) → P a → (f : NotAccepted) → HasCause (D a) f → HasCause Fails f
+  cause_of_test a p (Refused refusal) d = inr (a, p, d)
+  cause_of_test a p NoMemory d = d
+
+  -- nothing was found
+  pub none_found : (f : NotAccepted) → Exact P C (Err f) → Exact Passes Fails (Err f)
+  none_found f e = record {
+    found = tt;
+    only = λ a t. e.only a t.0;
+    refused = cause_of_none f e.refused;
+    told = λ refusal n. elim n [
+      | inl c ↦ e.told refusal c
+      | inr d ↦ inr (e.only d.0 d.1)
+    ];
+  }
+
+  found_same : (a b : A) → Exact P C (Ok a) → P b → a ≡ b
+  found_same a b e p = e.only b p
+
+  -- what was found passes
+  pub test_passed : (a : A) → Exact P C (Ok a) → Q a → ((refusal : Refusal) → D a refusal → ⊥) → Exact Passes Fails (Ok a)
+  test_passed a e q never = record {
+    found = (e.found, q);
+    only = λ b t. e.only b t.0;
+    refused = tt;
+    told = λ refusal c. elim c [
+      | inl h ↦ absurd (e.told refusal h)
+      | inr d ↦ absurd (never refusal (subst (λ (x : A). D x refusal) (sym (found_same a d.0 e d.1)) d.2))
+    ];
+  }
+
+  -- it doesn't
+  pub test_failed : (a : A) (f : NotAccepted) → Exact P C (Ok a) → (Q a → f ≡ NoMemory) → HasCause (D a) f → ((refusal : Refusal) → D a refusal → (f ≡ Refused refusal) ⊎ (f ≡ NoMemory))
+      → Exact Passes Fails (Err f)
+  test_failed a f e lost cause told = record {
+    found = tt;
+    only = λ b t. lost (subst Q (sym (found_same a b e t.0)) t.1);
+    refused = cause_of_test a e.found f cause;
+    told = λ refusal c. elim c [
+      | inl h ↦ absurd (e.told refusal h)
+      | inr d ↦ told refusal (subst (λ (x : A). D x refusal) (sym (found_same a d.0 e d.1)) d.2)
+    ];
+  }

@@ -3,3 +3,4 @@ pub mod Stages
 pub mod Naming
 pub mod Sizes
 pub mod Fitting
+pub mod Orphaned

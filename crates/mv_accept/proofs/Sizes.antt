@@ -3,11 +3,11 @@ use Rattle.std.proofs.Common.{◌≡◌, inl, inr, ◌<◌, ◌≤◌, ℕ, List
 use Rattle.mv_catalog.specs.declared.resolved.Program.{Program}
 use Rattle.mv_accept.specs.declared.refusal.Refusal.{Refusal}
 use Rattle.mv_accept.specs.declared.refusal.Refusal.TheVariants as why
-use Rattle.mv_accept.specs.Accepting.{most_bytes, HasNoTokens, too_long, bad_byte, bad_token, SpellsNothing, StandsForNothing, Refuses, Accepts}
+use Rattle.mv_accept.specs.Accepting.{most_bytes, HasNoTokens, too_long, bad_byte, bad_token, SpellsNothing, StandsForNothing, LoadsNothing, Refuses, Accepts}
 
 -- accepted bytes aren't too many
 pub accepted_are_few : (bytes : List ℕ) (program : Program) → Accepts bytes program → length bytes ≤ most_bytes
-accepted_are_few bytes program a = a.1.1.1.0
+accepted_are_few bytes program a = a.0.1.1.1.0
 
 no_tokens : (bytes : List ℕ) (refusal : Refusal) → most_bytes < length bytes → HasNoTokens bytes refusal → refusal ≡ why.TooLong
 no_tokens bytes _ more (too_long h) = refl
@@ -22,10 +22,14 @@ no_meaning : (bytes : List ℕ) (refusal : Refusal) → most_bytes < length byte
 no_meaning bytes refusal more (inl h) = no_script bytes refusal more h
 no_meaning bytes refusal more (inr h) = absurd (let few : length bytes ≤ most_bytes = h.1.1.0 in omega arith)
 
+no_program : (bytes : List ℕ) (refusal : Refusal) → most_bytes < length bytes → LoadsNothing bytes refusal → refusal ≡ why.TooLong
+no_program bytes refusal more (inl h) = no_meaning bytes refusal more h
+no_program bytes refusal more (inr h) = absurd (let few : length bytes ≤ most_bytes = h.1.1.1.0 in omega arith)
+
 -- too many bytes are refused for this alone
 pub too_many_are_told : (bytes : List ℕ) (refusal : Refusal) → most_bytes < length bytes → Refuses bytes refusal → refusal ≡ why.TooLong
-too_many_are_told bytes refusal more (inl h) = no_meaning bytes refusal more h
-too_many_are_told bytes refusal more (inr h) = absurd (let few : length bytes ≤ most_bytes = h.1.1.1.0 in omega arith)
+too_many_are_told bytes refusal more (inl h) = no_program bytes refusal more h
+too_many_are_told bytes refusal more (inr h) = absurd (let few : length bytes ≤ most_bytes = h.1.1.1.1.0 in omega arith)
 
 pub too_many_are_refused : (bytes : List ℕ) → most_bytes < length bytes → Refuses bytes why.TooLong
-too_many_are_refused bytes more = inl (inl (inl (too_long more)))
+too_many_are_refused bytes more = inl (inl (inl (inl (too_long more))))

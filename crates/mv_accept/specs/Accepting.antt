@@ -1,5 +1,5 @@
 -- Which bytes are accepted, and as which program; and why others are refused. The checks run in this order: tokens,
--- script, names and types, opening rows. Each check runs only if those before it pass.
+-- script, names and types, opening rows, their parents. Each check runs only if those before it pass.
 use Rattle.std.specs.Prelude.{◌≡◌, ◌⊎◌, ◌<◌, ◌≤◌, ◌^◌, ℕ, List, [], Option, Some, None, length, slice_get}
 use Rattle.mv_values.specs.declared.schema.TableInfo.{TableInfo}
 use Rattle.mv_lex.specs.declared.token.Token.{Token}
@@ -15,6 +15,9 @@ use Rattle.mv_names.specs.Faults.{faults}
 use Rattle.mv_catalog.specs.declared.resolved.Resolved.{Resolved}
 use Rattle.mv_catalog.specs.declared.resolved.Program.{Program}
 use Rattle.mv_resolve.specs.Building.{resolved_of}
+use Rattle.mv_values.specs.References.{Orphan, orphans}
+use Rattle.mv_opening.specs.declared.fault.ParentFault.{ParentFault}
+use Rattle.mv_opening.specs.declared.fault.ParentFault.TheVariants as parent
 use Rattle.mv_opening.specs.declared.fault.OpeningFault.{OpeningFault}
 use Rattle.mv_opening.specs.declared.fault.OpeningFault.TheVariants as opening
 use Rattle.mv_opening.specs.Opening.{IsOpening, HasNoOpening}
@@ -48,9 +51,21 @@ StandsFor bytes resolved = (script : Script) × Spells bytes script × Means scr
 abbrev pub Opens : List ℕ → Resolved → Program → Type 0
 Opens bytes resolved program = (program.resolved ≡ resolved) × IsOpening resolved bytes program.opening
 
+-- the program of the bytes, whose rows may lack parents
+abbrev pub Loads : List ℕ → Program → Type 0
+Loads bytes program = (resolved : Resolved) × StandsFor bytes resolved × Opens bytes resolved program
+
+-- the values of its rows whose parents are not there
+abbrev pub orphans_of : Program → List Orphan
+orphans_of program = orphans program.resolved.tables program.opening
+
+-- each row has its parents
+abbrev pub HasNoOrphan : Program → Type 0
+HasNoOrphan program = orphans_of program ≡ []
+
 -- the bytes are accepted as this program
 abbrev pub Accepts : List ℕ → Program → Type 0
-Accepts bytes program = (resolved : Resolved) × StandsFor bytes resolved × Opens bytes resolved program
+Accepts bytes program = Loads bytes program × HasNoOrphan program
 
 -- why bytes have no tokens
 pub data HasNoTokens (bytes : List ℕ) : Refusal → Type 0 where
@@ -96,6 +111,16 @@ TellsOfRows resolved opening.NoMemory refusal = ⊥
 abbrev pub HasNoRows : List ℕ → Resolved → Refusal → Type 0
 HasNoRows bytes resolved refusal = (fault : OpeningFault) × HasNoOpening resolved bytes fault × TellsOfRows resolved fault refusal
 
+-- the refusal for a row without its parent
+abbrev pub TellsOfParents : Resolved → ParentFault → Refusal → Type 0
+TellsOfParents resolved (parent.Missing t row column) refusal = refusal ≡ why.MissingParent (table_name resolved t) row column
+TellsOfParents resolved parent.NoMemory refusal = ⊥
+
+-- why the rows that the calls begin with may not stand together: the first one that lacks a parent
+abbrev pub HasOrphan : Program → Refusal → Type 0
+HasOrphan program refusal =
+    (orphan : Orphan) × (slice_get (orphans_of program) 0 ≡ Some orphan) × (refusal ≡ why.MissingParent (table_name program.resolved orphan.table) orphan.row orphan.column)
+
 -- why bytes are refused
 abbrev pub SpellsNothing : List ℕ → Refusal → Type 0
 SpellsNothing bytes refusal = HasNoTokens bytes refusal ⊎ ((tokens : List Token) × HasTokens bytes tokens × IsNoScript bytes tokens refusal)
@@ -103,5 +128,8 @@ SpellsNothing bytes refusal = HasNoTokens bytes refusal ⊎ ((tokens : List Toke
 abbrev pub StandsForNothing : List ℕ → Refusal → Type 0
 StandsForNothing bytes refusal = SpellsNothing bytes refusal ⊎ ((script : Script) × Spells bytes script × HasFault script refusal)
 
+abbrev pub LoadsNothing : List ℕ → Refusal → Type 0
+LoadsNothing bytes refusal = StandsForNothing bytes refusal ⊎ ((resolved : Resolved) × StandsFor bytes resolved × HasNoRows bytes resolved refusal)
+
 abbrev pub Refuses : List ℕ → Refusal → Type 0
-Refuses bytes refusal = StandsForNothing bytes refusal ⊎ ((resolved : Resolved) × StandsFor bytes resolved × HasNoRows bytes resolved refusal)
+Refuses bytes refusal = LoadsNothing bytes refusal ⊎ ((program : Program) × Loads bytes program × HasOrphan program refusal)

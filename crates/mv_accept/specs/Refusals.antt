@@ -3,7 +3,7 @@ use Rattle.std.specs.Prelude.{ℕ, List, ◌++◌, codes, decimal}
 use Rattle.mv_ast.specs.declared.limit.Which.{Which}
 use Rattle.mv_ast.specs.declared.limit.Which.TheVariants as limit
 use Rattle.mv_accept.specs.declared.refusal.Refusal.{Refusal}
-use Rattle.mv_accept.specs.declared.refusal.Refusal.TheVariants.{TooLong, Byte, Token, Syntax, Limit, UnknownName, DoubleName, WrongType, KeyAssigned, Late, Writes, Field, Width, Duplicate, OpenBlock}
+use Rattle.mv_accept.specs.declared.refusal.Refusal.TheVariants.{TooLong, Byte, Token, Syntax, Limit, UnknownName, DoubleName, WrongType, KeyAssigned, Late, Writes, Field, Width, Duplicate, OpenBlock, MissingParent}
 
 abbrev pub number_of : Refusal → ℕ
 number_of TooLong = 1
@@ -21,6 +21,7 @@ number_of (Field table row column) = 11
 number_of (Width table row) = 12
 number_of (Duplicate table row) = 13
 number_of OpenBlock = 14
+number_of (MissingParent table row column) = 23
 
 -- the printed name of a limit
 abbrev pub limit_name : Which → List ℕ
@@ -55,3 +56,4 @@ line_of (Field table row column) = codes "refused 11 table " ++ table ++ codes "
 line_of (Width table row) = codes "refused 12 table " ++ table ++ codes " row " ++ decimal row
 line_of (Duplicate table row) = codes "refused 13 table " ++ table ++ codes " row " ++ decimal row
 line_of OpenBlock = codes "refused 14 open block"
+line_of (MissingParent table row column) = codes "refused 23 table " ++ table ++ codes " row " ++ decimal row ++ codes " column " ++ decimal column

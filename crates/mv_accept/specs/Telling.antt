@@ -8,11 +8,12 @@ use Rattle.mv_resolve.specs.declared.refused.NameFault.{NameFault}
 use Rattle.mv_resolve.specs.declared.refused.NameFault.TheVariants as naming
 use Rattle.mv_catalog.specs.declared.resolved.Resolved.{Resolved}
 use Rattle.mv_opening.specs.declared.fault.OpeningFault.{OpeningFault}
+use Rattle.mv_opening.specs.declared.fault.ParentFault.{ParentFault}
 use Rattle.mv_accept.specs.declared.refusal.Refusal.{Refusal}
 use Rattle.mv_accept.specs.declared.refusal.Refusal.TheVariants as why
 use Rattle.mv_accept.specs.declared.accept.NotAccepted.{NotAccepted}
 use Rattle.mv_accept.specs.declared.accept.NotAccepted.TheVariants.{Refused, NoMemory}
-use Rattle.mv_accept.specs.Accepting.{TellsOfRows}
+use Rattle.mv_accept.specs.Accepting.{TellsOfRows, TellsOfParents}
 
 abbrev pub of_lexing : LexFault → NotAccepted
 of_lexing (lexing.BadByte at) = Refused (why.Byte at)
@@ -37,3 +38,8 @@ of_naming naming.NoMemory = NoMemory
 abbrev pub OfOpening : Resolved → OpeningFault → NotAccepted → Type 0
 OfOpening resolved fault (Refused refusal) = TellsOfRows resolved fault refusal
 OfOpening resolved fault NoMemory = Unit {0}
+
+-- the error is that of this row without its parent, unless memory ran out
+abbrev pub OfParents : Resolved → ParentFault → NotAccepted → Type 0
+OfParents resolved fault (Refused refusal) = TellsOfParents resolved fault refusal
+OfParents resolved fault NoMemory = Unit {0}

@@ -5,16 +5,17 @@ ghost use Rattle.mv_lex.specs.Tokens.{IsSpelledIn};
 ghost use Rattle.mv_catalog.specs.Text.{FitsText};
 ghost use Rattle.mv_record.specs.Databases.{IsProgram};
 ghost use Rattle.mv_accept.specs.Exact.{Exact};
-ghost use Rattle.mv_accept.specs.Accepting.{HasTokens, HasNoTokens, Spells, SpellsNothing, StandsFor, StandsForNothing, Accepts, Refuses, TellsOfRows, most_calls, table_name};
-ghost use Rattle.mv_accept.specs.Telling.{OfOpening};
+ghost use Rattle.mv_accept.specs.Accepting.{HasTokens, HasNoTokens, Spells, SpellsNothing, StandsFor, StandsForNothing, Loads, LoadsNothing, Accepts, Refuses, TellsOfRows, TellsOfParents, most_calls, table_name};
+ghost use Rattle.mv_accept.specs.Telling.{OfOpening, OfParents};
 
 use crate::refusal::Refusal;
 use mv_ast::tree::Script;
 use mv_catalog::resolved::{Program, Resolved};
 use mv_lex::lexer::{LexFault, lex};
 use mv_lex::token::Token;
-use mv_opening::fault::OpeningFault;
+use mv_opening::fault::{OpeningFault, ParentFault};
 use mv_opening::opening::opening;
+use mv_opening::parents::parents;
 use mv_parser::fault::ParseFault;
 use mv_parser::parse::parse;
 use mv_resolve::refused::NameFault;
@@ -116,12 +117,26 @@ impl From<NameFault> for NotAccepted {
 /// 7. names and types,
 /// 8. the rows of VALUES, table by table,
 /// 9. the copies, in the order of the text,
-/// 10. the journal's block.
+/// 10. the journal's block,
+/// 11. the parents of the rows, table by table.
 ///
 /// `NoMemory` is returned if memory runs out.
 pub fn accept(alloc: Global, bytes: &[u8]) -> Result<Program, NotAccepted>
     ensures exact { Exact (Accepts bytes.now) (Refuses bytes.now) result }
     // An accepted program is consistent, and its calls begin with a database of its tables.
+    ensures whole { IfOk result IsProgram }
+    ensures few { IfOk result (λ program. length program.resolved.calls ≤ most_calls) }
+{
+    let program = program_of(alloc, bytes)?;
+    match parents(alloc, &program.resolved.tables, &program.opening) {
+        Ok(()) => Ok(program),
+        Err(fault) => Err(of_parents(alloc, &program.resolved, fault)),
+    }
+}
+
+/// Returns the program of these bytes, whose rows may lack parents.
+fn program_of(alloc: Global, bytes: &[u8]) -> Result<Program, NotAccepted>
+    ensures exact { Exact (Loads bytes.now) (LoadsNothing bytes.now) result }
     ensures whole { IfOk result IsProgram }
     ensures few { IfOk result (λ program. length program.resolved.calls ≤ most_calls) }
 {
@@ -175,16 +190,16 @@ fn refusal_of(alloc: Global, resolved: &Resolved, fault: OpeningFault) -> Result
 {
     match fault {
         OpeningFault::Field { table, row, column } => Ok(Refusal::Field {
-            table: table_name(alloc, resolved, table)?,
+            table: table_name(alloc, resolved, table as usize)?,
             row,
             column,
         }),
         OpeningFault::Width { table, row } => Ok(Refusal::Width {
-            table: table_name(alloc, resolved, table)?,
+            table: table_name(alloc, resolved, table as usize)?,
             row,
         }),
         OpeningFault::Duplicate { table, row } => Ok(Refusal::Duplicate {
-            table: table_name(alloc, resolved, table)?,
+            table: table_name(alloc, resolved, table as usize)?,
             row,
         }),
         OpeningFault::OpenBlock => Ok(Refusal::OpenBlock),
@@ -192,11 +207,38 @@ fn refusal_of(alloc: Global, resolved: &Resolved, fault: OpeningFault) -> Result
     }
 }
 
+fn of_parents(alloc: Global, resolved: &Resolved, fault: ParentFault) -> NotAccepted
+    ensures { OfParents resolved.now fault result }
+{
+    match refusal_of_parents(alloc, resolved, fault) {
+        Ok(refusal) => NotAccepted::Refused(refusal),
+        Err(_) => NotAccepted::NoMemory,
+    }
+}
+
+/// Returns the refusal for a row without its parent, with the name of the table.
+fn refusal_of_parents(
+    alloc: Global,
+    resolved: &Resolved,
+    fault: ParentFault,
+) -> Result<Refusal, NoMemory>
+    ensures { IfOk result (TellsOfParents resolved.now fault) }
+{
+    match fault {
+        ParentFault::Missing { table, row, column } => Ok(Refusal::MissingParent {
+            table: table_name(alloc, resolved, table as usize)?,
+            row,
+            column,
+        }),
+        ParentFault::NoMemory => Err(NoMemory),
+    }
+}
+
 /// Returns the name of the table with this number.
-fn table_name(alloc: Global, resolved: &Resolved, table: u8) -> Result<Txt, NoMemory>
+fn table_name(alloc: Global, resolved: &Resolved, table: usize) -> Result<Txt, NoMemory>
     ensures { IfOk result (λ name. name ≡ table_name resolved.now table) }
 {
-    match resolved.tables.as_slice().get(table as usize) {
+    match resolved.tables.as_slice().get(table) {
         Some(table) => table.name.copy(alloc),
         None => Ok(Txt::new(alloc)),
     }

@@ -42,10 +42,13 @@ pub enum Refusal {
     Duplicate { table: Txt, row: u32 },
     /// The block of a copy or of the journal isn't closed.
     OpenBlock,
+    /// A column with REFERENCES holds a value that is the key of no row of its parent table. The row is counted in key
+    /// order.
+    MissingParent { table: Txt, row: u32, column: u32 },
 }
 
 impl Refusal {
-    /// Returns the number of the refusal: from 1 to 14, or 24.
+    /// Returns the number of the refusal: from 1 to 14, 23 or 24.
     pub fn number(&self) -> u32
         ensures { result ≡ number_of self.now }
     {
@@ -65,6 +68,7 @@ impl Refusal {
             Refusal::Width { .. } => 12,
             Refusal::Duplicate { .. } => 13,
             Refusal::OpenBlock => 14,
+            Refusal::MissingParent { .. } => 23,
         }
     }
 
@@ -95,10 +99,15 @@ impl Refusal {
             }
             Refusal::Late { token } => numbered(alloc, b"refused 10 late at token ", *token),
             Refusal::Writes { token } => numbered(alloc, b"refused 24 write at token ", *token),
-            Refusal::Field { table, row, column } => field_line(alloc, table, *row, *column),
+            Refusal::Field { table, row, column } => {
+                column_line(alloc, b"refused 11 table ", table, *row, *column)
+            }
             Refusal::Width { table, row } => row_line(alloc, b"refused 12 table ", table, *row),
             Refusal::Duplicate { table, row } => row_line(alloc, b"refused 13 table ", table, *row),
             Refusal::OpenBlock => Txt::of(alloc, b"refused 14 open block"),
+            Refusal::MissingParent { table, row, column } => {
+                column_line(alloc, b"refused 23 table ", table, *row, *column)
+            }
         }
     }
 }
@@ -125,11 +134,18 @@ fn row_line(alloc: Global, front: &[u8], table: &Txt, row: u32) -> Result<Txt, N
     Ok(text)
 }
 
-/// Returns the line of `Field`.
-fn field_line(alloc: Global, table: &Txt, row: u32, column: u32) -> Result<Txt, NoMemory>
-    ensures { IfOk result (λ line. line ≡ codes "refused 11 table " ++ table.now ++ codes " row " ++ decimal row ++ codes " column " ++ decimal column) }
+/// Returns a text followed by a table, a row and a column.
+fn column_line(
+    alloc: Global,
+    front: &[u8],
+    table: &Txt,
+    row: u32,
+    column: u32,
+) -> Result<Txt, NoMemory>
+    requires { All IsPrintable front.now }
+    ensures { IfOk result (λ line. line ≡ front.now ++ table.now ++ codes " row " ++ decimal row ++ codes " column " ++ decimal column) }
 {
-    let mut line = row_line(alloc, b"refused 11 table ", table, row)?;
+    let mut line = row_line(alloc, front, table, row)?;
     line.append(b" column ")?;
     line.append(column.to_string(alloc)?.as_bytes())?;
     Ok(line)

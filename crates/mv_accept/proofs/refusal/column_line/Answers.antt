@@ -1,6 +1,6 @@
 use Rattle.std.proofs.Common.{arith}
 use Rattle.std.proofs.lemmas.Grind.{common_steps}
-use Rattle.mv_accept.proofs.refusal.field_line.Goals as goal
+use Rattle.mv_accept.proofs.refusal.column_line.Goals as goal
 
 pub returns : goal.returns
 returns c = grind (arith, common_steps)
