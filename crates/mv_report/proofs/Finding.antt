@@ -10,7 +10,7 @@ use Rattle.std.proofs.lemmas.Bool.{both_ways}
 use Rattle.mv_values.specs.declared.value.Value.{Value}
 use Rattle.mv_values.specs.declared.value.Value.TheVariants.{Int, Text}
 use Rattle.mv_values.specs.declared.calls.End.{End}
-use Rattle.mv_values.specs.declared.calls.End.TheVariants.{Own, Duplicate, Overflow, ZeroDivisor, TooLong}
+use Rattle.mv_values.specs.declared.calls.End.TheVariants.{Own, Duplicate, Overflow, ZeroDivisor, TooLong, MissingParent, HasChildren}
 use Rattle.mv_values.specs.declared.calls.Reply.{Reply}
 use Rattle.mv_values.specs.declared.schema.TableInfo.{TableInfo}
 use Rattle.mv_values.specs.Texts.{line, doubled}
@@ -209,6 +209,8 @@ reason_pass Duplicate = refl
 reason_pass Overflow = refl
 reason_pass ZeroDivisor = refl
 reason_pass TooLong = refl
+reason_pass MissingParent = refl
+reason_pass HasChildren = refl
 
 -- the first line of a reply
 abbrev head : ℕ → List ℕ

@@ -2,7 +2,7 @@
 use Rattle.std.specs.Prelude.{ℕ, List, Option, Some, None, ◌++◌, ◌∷◌, [], ◌==◌, if◌then◌else◌, codes, decimal}
 use Rattle.std.specs.List.{flat_map, join_by, enumerate_from, zip}
 use Rattle.mv_values.specs.declared.calls.End.{End}
-use Rattle.mv_values.specs.declared.calls.End.TheVariants.{Own, Duplicate, Overflow, ZeroDivisor, TooLong}
+use Rattle.mv_values.specs.declared.calls.End.TheVariants.{Own, Duplicate, Overflow, ZeroDivisor, TooLong, MissingParent, HasChildren}
 use Rattle.mv_values.specs.declared.calls.Reply.{Reply}
 use Rattle.mv_values.specs.declared.rows.Keyed.{Keyed}
 use Rattle.mv_values.specs.declared.schema.TableInfo.{TableInfo}
@@ -29,6 +29,8 @@ reason_text Duplicate = codes "duplicate key"
 reason_text Overflow = codes "overflow"
 reason_text ZeroDivisor = codes "division by zero"
 reason_text TooLong = codes "text too long"
+reason_text MissingParent = codes "missing parent"
+reason_text HasChildren = codes "has children"
 
 -- how a call ended, and its lines if it is done
 abbrev pub answer_text : List (List ℕ) → Option End → List ℕ

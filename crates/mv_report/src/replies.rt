@@ -68,6 +68,8 @@ fn write_reason(end: &End, text: &mut List<u8>) -> Result<(), NoMemory>
         End::Overflow => text.append(b"overflow"),
         End::ZeroDivisor => text.append(b"division by zero"),
         End::TooLong => text.append(b"text too long"),
+        End::MissingParent => text.append(b"missing parent"),
+        End::HasChildren => text.append(b"has children"),
     }
 }
 

@@ -282,6 +282,8 @@ fn tell_end(out: &mut String, end: &End) -> Result<(), Fail> {
         End::Overflow => "overflow",
         End::ZeroDivisor => "division by zero",
         End::TooLong => "text too long",
+        End::MissingParent => "missing parent",
+        End::HasChildren => "has children",
     };
     Ok(out.push_str(word)?)
 }
