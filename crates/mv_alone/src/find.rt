@@ -1,9 +1,11 @@
 //! Finds the rows of a table that match.
 
-ghost use Rattle.std.specs.Prelude.{◌≡◌, ◌<◌, ◌≤◌, ◌==◌, List, All, map, length, option_to_list, IfOk, IfSome};
+ghost use Rattle.std.specs.Prelude.{◌≡◌, ◌<◌, ◌≤◌, ◌==◌, List, All, map, length, option_to_list, slice_get, IfOk, IfSome};
 ghost use Rattle.std.specs.List.{position};
 ghost use Rattle.std.specs.Option.{option_map};
+ghost use Rattle.mv_values.specs.declared.op.Op.TheVariants.{Eq};
 ghost use Rattle.mv_values.specs.Preds.{meets};
+ghost use Rattle.mv_values.specs.References.{has_key, parent_in};
 ghost use Rattle.mv_values.specs.Order.{value_order};
 ghost use Rattle.mv_values.specs.Columns.{column_of};
 ghost use Rattle.mv_values.specs.Keys.{IsRising};
@@ -20,10 +22,12 @@ use crate::state::{Env, Stop};
 use mv_catalog::resolved::RCond;
 use mv_table::span::{Span, whole_key};
 use mv_table::table::{Entry, Table, Tables};
+use mv_values::copied::Copied;
 use mv_values::list::List;
 use mv_values::memory::NoMemory;
 use mv_values::op::Op;
 use mv_values::pred::{Test, meets};
+use mv_values::rows::Keyed;
 use mv_values::schema::{Column, TableInfo};
 use mv_values::value::{Key, Value};
 use std::alloc::Global;
@@ -47,6 +51,23 @@ pub fn key_in(tables: &[TableInfo], table: u16) -> &[u8]
         Some(info) => info.key.as_slice(),
         None => &[],
     }
+}
+
+/// Returns the number of the parent table of a column, if it has REFERENCES.
+pub fn parent_in(columns: &[Column], column: u16) -> Option<u8>
+    ensures { result ≡ parent_in (slice_get columns.now column) }
+{
+    match columns.get(column as usize) {
+        Some(column) => column.refers,
+        None => None,
+    }
+}
+
+/// Whether the row's key is the value.
+pub fn is_under(item: &Keyed, value: &Value) -> bool
+    ensures { result ≡ has_key value.now item.now }
+{
+    item.key.as_slice().iter().all(|w| w.order(value).is_eq())
 }
 
 /// Compares the value of a column with another value.
@@ -89,6 +110,23 @@ pub fn test_on(keys: &[u8], column: u8, op: Op, value: Value) -> Test
         op,
         value,
     }
+}
+
+/// Returns the tests that a column of a table with these key columns holds a key.
+pub fn tests_of_key(
+    alloc: Global,
+    keys: &[u8],
+    column: u8,
+    key: &Key,
+) -> Result<List<Test>, NoMemory>
+    requires { length keys.now ≤ 256 }
+    ensures { IfOk result (λ tests. tests ≡ map (λ v. test_on keys.now column Eq v) key.now) }
+{
+    let mut tests = List::with_room(alloc, key.len())?;
+    for value in key.as_slice() {
+        tests.push(test_on(keys, column, Op::Eq, value.copy(alloc)?))?;
+    }
+    Ok(tests)
 }
 
 /// Returns the tests of WHERE over a table with these key columns, with their right sides evaluated, in order, up to

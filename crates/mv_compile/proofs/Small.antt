@@ -25,4 +25,4 @@ pub all_few_nodes : (r : Resolved) → FitsText r → All HasFewNodes (graphs_of
 all_few_nodes r h = All-map HasFewNodes (graph_of r.tables) r.procedures (λ k d within. few_nodes r.tables _ (h.procedures k d within))
 
 pub all_sound : (r : Resolved) → FitsText r → All IsSound (graphs_of r)
-all_sound r h = All-map IsSound (graph_of r.tables) r.procedures (λ k d within. record { few = h.few; tables = h.tables; procedure = h.procedures k d within; nodes = record { nodes = refl; steps = refl } })
+all_sound r h = All-map IsSound (graph_of r.tables) r.procedures (λ k d within. record { few = h.few; tables = h.tables; parents = h.parents; procedure = h.procedures k d within; nodes = record { nodes = refl; steps = refl } })

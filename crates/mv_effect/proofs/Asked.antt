@@ -1,5 +1,5 @@
 -- What a view was asked so far, and rows put together one by one.
-use Rattle.std.proofs.Common.{◌≡◌, ◌≤◌, ◌+◌, ℕ, Bool, true, false, List, [], ◌∷◌, Option, None, length, drop, refl, sym, ap, subst, ◌∙◌, arith, if◌then◌else◌, ◌<◌, slice_index_or}
+use Rattle.std.proofs.Common.{◌≡◌, ◌≤◌, ◌+◌, ◌*◌, ℕ, Bool, true, false, List, [], ◌∷◌, ◌++◌, Option, None, length, length-append, mul-le-mul_left, add-mul, drop, refl, sym, ap, subst, ◌∙◌, arith, if◌then◌else◌, ◌<◌, slice_index_or}
 use Rattle.std.specs.Prelude.{◌||◌}
 use Rattle.std.proofs.lemmas.List.{drop_all, drop_more}
 use Rattle.std.specs.Ordering.{is_eq}
@@ -8,15 +8,21 @@ use Rattle.mv_values.specs.declared.value.Value.{Value}
 use Rattle.mv_values.specs.declared.rows.Keyed.{Keyed}
 use Rattle.mv_values.specs.declared.pred.Pred.{Pred}
 use Rattle.mv_values.specs.declared.patch.Write.{Write}
+use Rattle.mv_values.specs.declared.schema.TableInfo.{TableInfo}
 use Rattle.mv_values.specs.Keys.{IsRising}
 use Rattle.mv_values.specs.Order.{key_order}
-use Rattle.mv_values.specs.Patching.{row_of, placed}
+use Rattle.mv_values.specs.Patching.{row_of, placed, applied}
 use Rattle.mv_values.specs.Counts.{one_more}
 use Rattle.mv_values.proofs.KeyOrder.{tied}
+use Rattle.mv_catalog.specs.declared.resolved.RStmt.{RStmt}
+use Rattle.mv_catalog.specs.declared.resolved.RStmt.TheOpen.{RStmt-F}
+use Rattle.mv_alone.specs.declared.state.Env.{Env}
+use Rattle.mv_record.specs.declared.effect.Effect.{Effect}
+use Rattle.mv_recorded.specs.Effects.{IsEffect}
 use Rattle.mv_record.proofs.Patching.{row_of-placed_same, placed_other, rising_placed}
 use Rattle.mv_undo.specs.Owning.{is_among}
 use Rattle.mv_view.specs.Viewing.{Sight, with_rows_call, with_row_call}
-use Rattle.mv_effect.specs.Looking.{IsSameView, WasNeverStale, AskedAtMost, AskedFor, different}
+use Rattle.mv_effect.specs.Looking.{IsSameView, WasNeverStale, AskedAtMost, AskedBy, AskedFor, different}
 
 -- it was asked so often, and none of its answers was Stale
 pub record WasAsked (n m : ℕ) (before after : Sight) : Type 0 where
@@ -108,3 +114,47 @@ rows_under_more rows own later test ks i k whole t lt is tells made so =
 -- a statement that asked one predicate
 pub asked_one : (preds : List Pred) (pred : Pred) (ws : List Write) (s t : Sight) → preds ≡ pred ∷ [] → AskedAtMost 1 (different ws) s t → AskedFor preds ws s t
 asked_one preds pred ws s t is h = subst (λ ps. AskedFor ps ws s t) (sym is) (record { for_rows = h.for_rows; for_row = omega (arith, h.for_row) })
+
+-- nothing was asked
+pub none_asked : (preds : List Pred) (ws : List Write) (at : Sight) → AskedFor preds ws at at
+none_asked preds ws at = none (length preds) (length preds * different ws)
+  where
+    none : (n m : ℕ) → AskedAtMost n m at at
+    none n m = record { for_rows = omega arith; for_row = omega arith }
+
+-- more was asked
+asked_more : (n k d e : ℕ) (a b c : Sight) → d ≤ e → AskedAtMost n (n * d) a b → AskedAtMost k (k * d) b c → AskedAtMost (n + k) ((n + k) * e) a c
+asked_more n k d e a b c more first last =
+    let before : n * d ≤ n * e = mul-le-mul_left n more in
+    let then : k * d ≤ k * e = mul-le-mul_left k more in
+    record {
+      for_rows = omega (arith, first.for_rows, last.for_rows);
+      for_row = omega (arith, first.for_row, last.for_row, before, then, add-mul n k e);
+    }
+
+-- for these predicates, and then for others
+pub asked_both : (ps qs : List Pred) (ws vs : List Write) (a b c : Sight) → different ws ≤ different vs → AskedFor ps ws a b → AskedFor qs ws b c → AskedFor (ps ++ qs) vs a c
+asked_both ps qs ws vs a b c more first last =
+    subst (λ n. AskedAtMost n (n * different vs) a c) (sym (length-append ps qs)) (asked_more (length ps) (length qs) (different ws) (different vs) a b c more first last)
+
+pub asked_all : (p : Pred) (qs : List Pred) (ws : List Write) (a b c : Sight) → AskedAtMost 1 (different ws) a b → AskedFor qs ws b c → AskedFor (p ∷ qs) ws a c
+asked_all p qs ws a b c first last = asked_both (p ∷ []) qs ws ws a b c (omega arith) (asked_one (p ∷ []) p ws a b refl first) last
+
+-- for the first alone
+pub asked_first : (p : Pred) (qs : List Pred) (ws : List Write) (a b : Sight) → AskedAtMost 1 (different ws) a b → AskedFor (p ∷ qs) ws a b
+asked_first p qs ws a b first = asked_all p qs ws a b b first (none_asked qs ws b)
+
+-- Statements
+
+-- a statement whose effect is known
+pub asked_by : (tables : List TableInfo) (s : RStmt-F RStmt) (env : Env) (ws : List Write) (before after : Sight) (e : Effect) → IsEffect tables s env (applied ws before.database) e → AskedFor e.preds ws before after → AskedBy tables s env ws before after
+asked_by tables s env ws before after e is h = λ lines. subst (λ ps. AskedFor ps ws before after) (ap (λ (x : Effect). x.preds) (is lines)) h
+
+-- and that asks one predicate
+pub asked_by_one : (tables : List TableInfo) (s : RStmt-F RStmt) (env : Env) (ws : List Write) (before after : Sight) (e : Effect) (pred : Pred) → IsEffect tables s env (applied ws before.database) e → e.preds ≡ pred ∷ [] → AskedAtMost 1 (different ws) before after
+    → AskedBy tables s env ws before after
+asked_by_one tables s env ws before after e pred is one h = asked_by tables s env ws before after e is (asked_one e.preds pred ws before after one h)
+
+-- a statement that asks nothing
+pub none_asked_by : (tables : List TableInfo) (s : RStmt-F RStmt) (env : Env) (ws : List Write) (at : Sight) → AskedBy tables s env ws at at
+none_asked_by tables s env ws at = λ lines. none_asked _ ws at

@@ -1,6 +1,8 @@
 -- Statements that are stopped, and what these have asked.
-use Rattle.std.proofs.Common.{◌≡◌, ℕ, ℤ, List, [], ◌∷◌, Option, Result, Ok, Err, OnOk, sym, ap, subst, ◌∙◌}
+use Rattle.std.proofs.Common.{◌≡◌, ℕ, ℤ, Bool, List, [], ◌∷◌, Option, Result, Ok, Err, OnOk, sym, ap, subst, ◌∙◌}
+use Rattle.std.specs.Result.{result_err}
 use Rattle.mv_values.specs.declared.memory.NoMemory.{NoMemory}
+use Rattle.mv_values.specs.declared.patch.Write.{Write}
 use Rattle.mv_values.specs.declared.value.Value.{Value}
 use Rattle.mv_values.specs.declared.rows.Keyed.{Keyed}
 use Rattle.mv_values.specs.declared.schema.TableInfo.{TableInfo}
@@ -20,8 +22,8 @@ use Rattle.mv_log.specs.Logged.{Logged}
 use Rattle.mv_record.specs.declared.effect.Effect.{Effect}
 use Rattle.mv_effect.specs.Logging.{IsBlank, without_effect}
 use Rattle.mv_effect.specs.Stops.{EndsBy, GivesOrEnds}
-use Rattle.mv_recorded.specs.Asking.{with_sorts}
-use Rattle.mv_recorded.specs.Effects.{IsEffect, asks, effect_after, pred_with, row_number, only_end}
+use Rattle.mv_recorded.specs.Asking.{on, with_sorts}
+use Rattle.mv_recorded.specs.Effects.{IsEffect, asks, effect_after, effect_of_writes, effect_unless, pred_with, row_number, only_end}
 use Rattle.mv_recorded.proofs.Chosen.{select_unasked}
 
 -- a statement goes on with a value
@@ -39,6 +41,12 @@ ends_there pred meant go so old asked new (Ended d) (Ok u) is has ends h =
     ends
     ∙ (ap (λ (l : Logged). record l { effect = only_end l.effect.preds d }) is
     ∙ (ap (λ ps. record old { effect = only_end ps d }) has ∙ sym (ap (λ m. record old { effect = effect_after pred m go }) h)))
+
+-- an UPDATE that asks for no parent
+pub plain_after : (pred : Pred) (r : Result (List Write) End) (o : Option End) (ps : List Pred) (found : Bool) (env : Env) → ps ≡ [] → o ≡ result_err r
+    → effect_after pred r (λ ws. effect_of_writes (pred ∷ []) found ws env) ≡ effect_unless o (pred ∷ ps) found (on r (λ ws. ws)) env
+plain_after pred (Ok ws) o ps found env none is = ap (λ qs. effect_of_writes (pred ∷ qs) found ws env) (sym none) ∙ ap (λ u. effect_unless u (pred ∷ ps) found ws env) (sym is)
+plain_after pred (Err e) o ps found env none is = ap (λ qs. only_end (pred ∷ qs) e) (sym none) ∙ ap (λ u. effect_unless u (pred ∷ ps) found [] env) (sym is)
 
 -- where WHERE is stopped it ends so
 pub unasked : (r : Result Pred End) (o : Result ℤ End) (stop : Stop) → Fails stop r → GivesOrEnds {A = Pred × ℤ} (Err stop) (pred_with r o)

@@ -12,3 +12,5 @@ pub mod Told
 pub mod Foremost
 pub mod OwnKeys
 pub mod Whole
+pub mod Checking
+pub mod Referring

@@ -155,10 +155,10 @@ asked_nothing n s = record {
   counts = record { for_rows = omega arith; for_row = omega arith };
 }
 
-same_then : (s t u : Sight) → IsSameView s t → IsSameView t u → IsSameView s u
+pub same_then : (s t u : Sight) → IsSameView s t → IsSameView t u → IsSameView s u
 same_then s t u same more = record { database = more.database ∙ same.database; start = more.start ∙ same.start; may_be_stale = more.may_be_stale ∙ same.may_be_stale }
 
-never_then : (s t u : Sight) → WasNeverStale s t → WasNeverStale t u → WasNeverStale s u
+pub never_then : (s t u : Sight) → WasNeverStale s t → WasNeverStale t u → WasNeverStale s u
 never_then s t u never more = record { answers = more.answers ∙ never.answers; last_low = more.last_low ∙ never.last_low }
 
 -- a view that never answered Stale, and then was only asked

@@ -1,6 +1,7 @@
 -- Logs whose open effect alone changes.
 use Rattle.std.specs.Prelude.{◌≡◌, List, []}
 use Rattle.mv_values.specs.declared.value.Value.{Value}
+use Rattle.mv_values.specs.declared.pred.Pred.{Pred}
 use Rattle.mv_values.specs.declared.patch.Write.{Write}
 use Rattle.mv_record.specs.declared.record.Slot.{Slot}
 use Rattle.mv_log.specs.Logged.{Logged, no_effect}
@@ -10,6 +11,15 @@ pub record IsBlank (log : Logged) : Type 0 where
   pub effect : log.effect ≡ no_effect
   pub tests : log.tests ≡ []
   pub columns : log.columns ≡ []
+
+-- its next predicate has nothing yet
+pub record BeginsPred (log : Logged) : Type 0 where
+  pub tests : log.tests ≡ []
+  pub columns : log.columns ≡ []
+
+-- the log with these as the predicates of its open effect
+abbrev pub with_preds : Logged → List Pred → Logged
+with_preds log preds = let was = log.effect in record log { effect = record was { preds = preds } }
 
 -- the log without its open effect
 abbrev pub without_effect : Logged → Logged

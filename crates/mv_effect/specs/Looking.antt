@@ -8,9 +8,11 @@ use Rattle.mv_values.specs.Patching.{applied}
 use Rattle.mv_values.specs.Tables.{KeysStand}
 use Rattle.mv_values.specs.Counts.{one_more}
 use Rattle.mv_catalog.specs.declared.resolved.RStmt.{RStmt, out-RStmt}
-use Rattle.mv_catalog.specs.Text.{IsTable}
+use Rattle.mv_catalog.specs.declared.resolved.RStmt.TheOpen.{RStmt-F}
+use Rattle.mv_catalog.specs.Text.{IsTable, HaveParents}
 use Rattle.mv_alone.specs.declared.state.Env.{Env}
 use Rattle.mv_record.specs.Databases.{IsDatabaseOf}
+use Rattle.mv_recorded.specs.Asking.{preds_of}
 use Rattle.mv_undo.specs.Owning.{touches}
 use Rattle.mv_view.specs.Viewing.{Sight, MayAnswer}
 use Rattle.mv_view.specs.declared.view.Refused.{Refused}
@@ -21,6 +23,7 @@ use Rattle.mv_effect.specs.Naming.{NamesColumns}
 pub record AreSoundTables (tables : List TableInfo) (ws : List Write) (db : List (List Keyed)) : Type 0 where
   pub few : length tables ≤ 64
   pub each : All IsTable tables
+  pub parents : HaveParents tables
   pub database : IsDatabaseOf tables db
   pub behind : KeysStand tables (applied ws db)
 
@@ -72,3 +75,8 @@ pub record AskedAtMost (rows row : ℕ) (before after : Sight) : Type 0 where
 -- the view was asked at most once for each of these predicates, and then for each key that earlier writes are on
 abbrev pub AskedFor : List Pred → List Write → Sight → Sight → Type 0
 AskedFor preds ws before after = AskedAtMost (length preds) (length preds * different ws) before after
+
+-- the view was asked so for the predicates of the statement with these variables, after these writes, whatever lines come
+-- before it
+abbrev pub AskedBy : {X : Type 0} → List TableInfo → RStmt-F X → Env → List Write → Sight → Sight → Type 0
+AskedBy tables s env ws before after = (lines : List (List ℕ)) → AskedFor (preds_of tables s (record { env = env; tables = applied ws before.database; lines = lines })) ws before after

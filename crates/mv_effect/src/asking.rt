@@ -1,8 +1,8 @@
 //! Writes what statements ask and how they end into the log of their call.
 
-ghost use Rattle.std.specs.Prelude.{◌≡◌, ◌++◌, [], OnOk, OnErr};
+ghost use Rattle.std.specs.Prelude.{◌≡◌, ◌∷◌, ◌++◌, [], OnOk, OnErr};
 ghost use Rattle.mv_recorded.specs.Effects.{only_asks, only_end};
-ghost use Rattle.mv_effect.specs.Logging.{IsBlank, without_effect};
+ghost use Rattle.mv_effect.specs.Logging.{BeginsPred, IsBlank, with_preds, without_effect};
 ghost use Rattle.mv_effect.specs.Stops.{EndsBy};
 ghost use Rattle.mv_effect.specs.Looking.{OnlyAsks};
 ghost use Rattle.mv_view.specs.Viewing.{Sight};
@@ -44,6 +44,17 @@ fn push_tests(log: &mut Log, tests: List<Test>) -> Result<(), NoMemory>
 pub(crate) fn ask(log: &mut Log, pred: Pred) -> Result<(), NoMemory>
     requires { IsBlank log.old }
     ensures ok { OnOk result (log.new ≡ record log.old { effect = only_asks pred }) }
+    ensures err { OnErr result (without_effect log.new ≡ without_effect log.old) }
+{
+    push_tests(log, pred.tests)?;
+    log.push_columns(pred.columns.as_slice())?;
+    log.push_pred(pred.table)
+}
+
+/// Adds one more predicate to the open effect.
+pub(crate) fn ask_more(log: &mut Log, pred: Pred) -> Result<(), NoMemory>
+    requires { BeginsPred log.old }
+    ensures ok { OnOk result (log.new ≡ with_preds log.old (log.old.effect.preds ++ pred ∷ [])) }
     ensures err { OnErr result (without_effect log.new ≡ without_effect log.old) }
 {
     push_tests(log, pred.tests)?;

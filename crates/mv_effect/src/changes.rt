@@ -1,25 +1,30 @@
 //! Statements that change the rows of a table.
 
-ghost use Rattle.std.specs.Prelude.{◌≡◌, ◌<◌, ◌≤◌, ◌^◌, ◌∷◌, [], ℕ, IfOk, OnOk, OnErr, Ok, All, map, length};
+ghost use Rattle.std.specs.Prelude.{◌≡◌, ◌<◌, ◌≤◌, ◌^◌, ◌∷◌, ◌++◌, [], ℕ, true, IfOk, OnOk, OnErr, Ok, All, map, length};
 ghost use Rattle.mv_values.specs.declared.patch.Patch.TheVariants as patch;
 ghost use Rattle.mv_values.specs.Patching.{applied};
 ghost use Rattle.mv_catalog.specs.declared.resolved.RSetItem.{RSetItem};
 ghost use Rattle.mv_catalog.specs.declared.resolved.RStmt.TheOpen as layer;
-ghost use Rattle.mv_alone.specs.Changes.{keyed};
+ghost use Rattle.mv_alone.specs.Env.{with_found};
 ghost use Rattle.mv_alone.specs.Outcome.{Gives, then_do};
 ghost use Rattle.mv_alone.specs.Rows.{is_some_row};
+ghost use Rattle.mv_recorded.specs.Asking.{on, first_fault, preds_up_to, update_checks, delete_checks};
 ghost use Rattle.mv_recorded.specs.Doing.{set_patch, write};
+ghost use Rattle.mv_recorded.specs.Effects.{IsEffect, effect_after, effect_unless, changes, new_of, effect_of_writes, slots_behind};
 ghost use Rattle.mv_undo.specs.Owning.{earlier};
-ghost use Rattle.mv_recorded.specs.Effects.{IsEffect, effect_after, changes, effect_of_insert, new_of, effect_of_writes};
-ghost use Rattle.mv_effect.specs.Logging.{IsBlank, without_effect, with_writes};
-ghost use Rattle.mv_effect.specs.Stops.{leaving};
-ghost use Rattle.mv_effect.specs.Looking.{AreSoundTables, OnlyAsks, different, AskedAtMost, AskedFor};
+ghost use Rattle.mv_effect.specs.Checking.{row_checks};
+ghost use Rattle.mv_effect.specs.Logging.{BeginsPred, IsBlank, without_effect, with_preds, with_sets, with_writes};
+ghost use Rattle.mv_effect.specs.Stops.{HasValue, leaving};
+ghost use Rattle.mv_effect.specs.Looking.{AreSoundTables, OnlyAsks, AskedBy, AskedFor};
 ghost use Rattle.mv_effect.specs.Naming.{Tests, Sets};
 
 use crate::asking::{ask, end, stop, stop_unasked};
+use crate::checks::run_checks;
+use crate::children::{Deleted, delete_checks};
 use crate::context::Context;
 use crate::numbers::narrow;
-use crate::predicates::{key_pred, pred_from, update_pred};
+use crate::parents::{row_checks, sets_reference, update_checks};
+use crate::predicates::{pred_from, update_pred};
 use crate::rows::{is_any, visible_rows};
 use crate::slots::push_found;
 use mv_alone::env::column_value;
@@ -40,53 +45,75 @@ use mv_values::value::{Key, Row, Value};
 use mv_view::view::{Refused, View};
 use std::alloc::Global;
 
-/// Adds the write that inserts a row under its key to the open effect, which has none yet.
-fn push_insertion(
-    alloc: Global,
-    table: u8,
-    keys: &[u8],
-    row: Row,
-    log: &mut Log,
-) -> Result<(), NoMemory>
-    requires { log.old.effect.writes ≡ [] }
-    ensures ok { OnOk result (log.new ≡ with_writes log.old (write table (keyed keys.now row).key (patch.Insert row) ∷ [])) }
+/// Adds the write that inserts a row under its key to the open effect, which has none yet, and sets `:found`.
+fn push_insertion(env: &Env, table: u16, item: Keyed, log: &mut Log) -> Result<(), NoMemory>
+    requires table { table < 256 }
+    requires found { env.now.found < 2 ^ 16 }
+    requires writes { log.old.effect.writes ≡ [] }
+    requires sets { log.old.effect.sets ≡ [] }
+    ensures ok { OnOk result (log.new ≡ with_sets (with_writes log.old (write table item.key (patch.Insert item.row) ∷ [])) (slots_behind (with_found env.now true) (env.now.found ∷ []))) }
     ensures err { OnErr result (without_effect log.new ≡ without_effect log.old) }
 {
-    let item = under_key(alloc, keys, row)?;
     log.push_write(Write {
-        table,
+        table: narrow(table),
         key: item.key,
         patch: Patch::Insert(item.row),
-    })
+    })?;
+    push_found(env, true, log)
 }
 
-/// Writes the effect of an INSERT of this row that asked this. `there` is whether a row with its key exists.
-fn insert_row(
+/// Runs what INSERT of a row under its key checks, and adds the predicates to the open effect. Returns the end if a check
+/// fails.
+fn check_row<V: View>(
     alloc: Global,
     context: &Context<'_>,
     table: u16,
-    pred: Pred,
-    row: Row,
-    there: bool,
+    item: &Keyed,
     log: &mut Log,
-) -> Result<(), NoMemory>
-    requires table { table < 256 }
-    requires found { context.now.env.now.found < 2 ^ 16 }
-    requires blank { IsBlank log.old }
-    ensures ok { OnOk result (log.new ≡ record log.old { effect = effect_of_insert context.now.tables.now table row pred there context.now.env.now }) }
+    view: &mut V,
+) -> Result<Option<End>, Refused>
+    requires stands { AreSoundTables context.now.tables.now (earlier context.now.number context.now.undo.now) (V.sight view.old).database }
+    requires table { table < length context.now.tables.now }
+    requires begins { BeginsPred log.old }
+    ensures fault { IfOk result (λ o. o ≡ first_fault (row_checks context.now.tables.now table item.now) (applied (earlier context.now.number context.now.undo.now) (V.sight view.old).database)) }
+    ensures asked { OnOk result (log.new ≡ with_preds log.old (log.old.effect.preds ++ preds_up_to (row_checks context.now.tables.now table item.now) (applied (earlier context.now.number context.now.undo.now) (V.sight view.old).database))) }
     ensures err { OnErr result (without_effect log.new ≡ without_effect log.old) }
+    ensures view { OnlyAsks (V.sight view.old) (V.sight view.new) result }
+    ensures looks { AskedFor (preds_up_to (row_checks context.now.tables.now table item.now) (applied (earlier context.now.number context.now.undo.now) (V.sight view.old).database)) (earlier context.now.number context.now.undo.now) (V.sight view.old) (V.sight view.new) }
 {
-    ask(log, pred)?;
-    if there {
-        return end(log, End::Duplicate);
+    let checks = row_checks(alloc, context.tables, table, item)?;
+    run_checks(alloc, context, &[], checks.as_slice(), log, view)
+}
+
+/// Writes the effect of an INSERT of this row under its key.
+fn insert_row<V: View>(
+    alloc: Global,
+    context: &Context<'_>,
+    table: u16,
+    item: Keyed,
+    log: &mut Log,
+    view: &mut V,
+) -> Result<(), Refused>
+    requires stands { AreSoundTables context.now.tables.now (earlier context.now.number context.now.undo.now) (V.sight view.old).database }
+    requires found { context.now.env.now.found < 2 ^ 16 }
+    requires table { table < length context.now.tables.now }
+    requires blank { IsBlank log.old }
+    ensures ok { OnOk result (log.new ≡ record log.old { effect = effect_unless (first_fault (row_checks context.now.tables.now table item) (applied (earlier context.now.number context.now.undo.now) (V.sight view.old).database)) (preds_up_to (row_checks context.now.tables.now table item) (applied (earlier context.now.number context.now.undo.now) (V.sight view.old).database)) true (write table item.key (patch.Insert item.row) ∷ []) context.now.env.now }) }
+    ensures err { OnErr result (without_effect log.new ≡ without_effect log.old) }
+    ensures view { OnlyAsks (V.sight view.old) (V.sight view.new) result }
+    ensures looks { AskedFor (preds_up_to (row_checks context.now.tables.now table item) (applied (earlier context.now.number context.now.undo.now) (V.sight view.old).database)) (earlier context.now.number context.now.undo.now) (V.sight view.old) (V.sight view.new) }
+{
+    if let Some(fault) = check_row(alloc, context, table, &item, log, view)? {
+        end(log, fault)?;
+        return Ok(());
     }
-    let keys = key_in(context.tables, table);
-    push_insertion(alloc, narrow(table), keys, row, log)?;
-    push_found(context.env, true, log)
+    push_insertion(context.env, table, item, log)?;
+    Ok(())
 }
 
 /// Writes the effect of INSERT: it writes its row, and sets `:found`. It asks for rows with the same key by a test of
-/// each key column. The call ends if a value is stopped, or if there is such a row.
+/// each key column, and then for the parent of each column with REFERENCES. The call ends if a value is stopped, if there
+/// is a row with the key, or if a parent isn't there.
 pub(crate) fn insert<V: View>(
     alloc: Global,
     context: &Context<'_>,
@@ -103,17 +130,14 @@ pub(crate) fn insert<V: View>(
     ensures rest { OnOk result (log.new ≡ record log.old { effect = log.new.effect }) }
     ensures err { OnErr result (without_effect log.new ≡ without_effect log.old) }
     ensures view { OnlyAsks (V.sight view.old) (V.sight view.new) result }
-    ensures bounded { AskedAtMost 1 (different (earlier context.now.number context.now.undo.now)) (V.sight view.old) (V.sight view.new) }
-    ensures looks { OnOk result (AskedFor log.new.effect.preds (earlier context.now.number context.now.undo.now) (V.sight view.old) (V.sight view.new)) }
+    ensures looks { AskedBy context.now.tables.now (layer.Insert table exprs.now) context.now.env.now (earlier context.now.number context.now.undo.now) (V.sight view.old) (V.sight view.new) }
 {
     let row = match made_row(alloc, columns_in(context.tables, table), exprs, context.env) {
         Ok(row) => row,
         Err(reason) => return stop_unasked(log, reason),
     };
-    let pred = key_pred(alloc, context.tables, table, row.as_slice())?;
-    let rows = visible_rows(alloc, context, &pred, view)?;
-    insert_row(alloc, context, table, pred, row, is_any(&rows), log)?;
-    Ok(())
+    let item = under_key(alloc, key_in(context.tables, table), row)?;
+    insert_row(alloc, context, table, item, log, view)
 }
 
 /// Adds the writes that delete these rows to the open effect, which has none yet.
@@ -132,22 +156,76 @@ fn push_deletes(table: u8, rows: Rows, log: &mut Log) -> Result<(), NoMemory>
     Ok(())
 }
 
-/// Writes the effect of a DELETE that asked this and found these rows.
-fn delete_rows(env: &Env, table: u16, pred: Pred, rows: Rows, log: &mut Log) -> Result<(), NoMemory>
+/// Adds the writes that delete these rows to the open effect, which has none yet, and sets `:found`.
+fn push_deletion(env: &Env, table: u16, rows: Rows, log: &mut Log) -> Result<(), NoMemory>
     requires table { table < 256 }
     requires found { env.now.found < 2 ^ 16 }
-    requires blank { IsBlank log.old }
-    ensures ok { OnOk result (log.new ≡ record log.old { effect = effect_of_writes pred (is_some_row rows) (map (λ item. write table item.key patch.Delete) rows) env.now }) }
+    requires writes { log.old.effect.writes ≡ [] }
+    requires sets { log.old.effect.sets ≡ [] }
+    ensures ok { OnOk result (log.new ≡ with_sets (with_writes log.old (map (λ item. write table item.key patch.Delete) rows)) (slots_behind (with_found env.now (is_some_row rows)) (env.now.found ∷ []))) }
     ensures err { OnErr result (without_effect log.new ≡ without_effect log.old) }
 {
     let found = is_any(&rows);
-    ask(log, pred)?;
     push_deletes(narrow(table), rows, log)?;
     push_found(env, found, log)
 }
 
-/// Writes the effect of DELETE: it deletes the rows that match, and sets `:found`. The call ends if a right side of
-/// WHERE is stopped.
+/// Runs what DELETE of these rows checks, and adds the predicates to the open effect. Returns the end if a check fails.
+fn check_deletion<V: View>(
+    alloc: Global,
+    context: &Context<'_>,
+    table: u16,
+    rows: &Rows,
+    log: &mut Log,
+    view: &mut V,
+) -> Result<Option<End>, Refused>
+    requires stands { AreSoundTables context.now.tables.now (earlier context.now.number context.now.undo.now) (V.sight view.old).database }
+    requires begins { BeginsPred log.old }
+    ensures fault { IfOk result (λ o. o ≡ first_fault (delete_checks context.now.tables.now table rows.now) (applied (earlier context.now.number context.now.undo.now) (V.sight view.old).database)) }
+    ensures asked { OnOk result (log.new ≡ with_preds log.old (log.old.effect.preds ++ preds_up_to (delete_checks context.now.tables.now table rows.now) (applied (earlier context.now.number context.now.undo.now) (V.sight view.old).database))) }
+    ensures err { OnErr result (without_effect log.new ≡ without_effect log.old) }
+    ensures view { OnlyAsks (V.sight view.old) (V.sight view.new) result }
+    ensures looks { AskedFor (preds_up_to (delete_checks context.now.tables.now table rows.now) (applied (earlier context.now.number context.now.undo.now) (V.sight view.old).database)) (earlier context.now.number context.now.undo.now) (V.sight view.old) (V.sight view.new) }
+{
+    let deleted = Deleted {
+        table,
+        rows: rows.as_slice(),
+    };
+    let checks = delete_checks(alloc, context.tables, &deleted)?;
+    run_checks(alloc, context, deleted.rows, checks.as_slice(), log, view)
+}
+
+/// Writes the effect of a DELETE that asked this and found these rows.
+fn delete_rows<V: View>(
+    alloc: Global,
+    context: &Context<'_>,
+    table: u16,
+    pred: Pred,
+    rows: Rows,
+    log: &mut Log,
+    view: &mut V,
+) -> Result<(), Refused>
+    requires stands { AreSoundTables context.now.tables.now (earlier context.now.number context.now.undo.now) (V.sight view.old).database }
+    requires found { context.now.env.now.found < 2 ^ 16 }
+    requires table { table < 256 }
+    requires blank { IsBlank log.old }
+    ensures ok { OnOk result (log.new ≡ record log.old { effect = effect_unless (first_fault (delete_checks context.now.tables.now table rows) (applied (earlier context.now.number context.now.undo.now) (V.sight view.old).database)) (pred ∷ preds_up_to (delete_checks context.now.tables.now table rows) (applied (earlier context.now.number context.now.undo.now) (V.sight view.old).database)) (is_some_row rows) (map (λ item. write table item.key patch.Delete) rows) context.now.env.now }) }
+    ensures err { OnErr result (without_effect log.new ≡ without_effect log.old) }
+    ensures view { OnlyAsks (V.sight view.old) (V.sight view.new) result }
+    ensures looks { AskedFor (preds_up_to (delete_checks context.now.tables.now table rows) (applied (earlier context.now.number context.now.undo.now) (V.sight view.old).database)) (earlier context.now.number context.now.undo.now) (V.sight view.old) (V.sight view.new) }
+{
+    ask(log, pred)?;
+    if let Some(fault) = check_deletion(alloc, context, table, &rows, log, view)? {
+        end(log, fault)?;
+        return Ok(());
+    }
+    push_deletion(context.env, table, rows, log)?;
+    Ok(())
+}
+
+/// Writes the effect of DELETE: it deletes the rows that match, and sets `:found`. For each column with REFERENCES to
+/// their table and each of the rows, it asks for rows that hold its key. The call ends if a right side of WHERE is stopped,
+/// or if one of these rows stays.
 pub(crate) fn delete<V: View>(
     alloc: Global,
     context: &Context<'_>,
@@ -164,16 +242,14 @@ pub(crate) fn delete<V: View>(
     ensures rest { OnOk result (log.new ≡ record log.old { effect = log.new.effect }) }
     ensures err { OnErr result (without_effect log.new ≡ without_effect log.old) }
     ensures view { OnlyAsks (V.sight view.old) (V.sight view.new) result }
-    ensures bounded { AskedAtMost 1 (different (earlier context.now.number context.now.undo.now)) (V.sight view.old) (V.sight view.new) }
-    ensures looks { OnOk result (AskedFor log.new.effect.preds (earlier context.now.number context.now.undo.now) (V.sight view.old) (V.sight view.new)) }
+    ensures looks { AskedBy context.now.tables.now (layer.Delete table conds.now) context.now.env.now (earlier context.now.number context.now.undo.now) (V.sight view.old) (V.sight view.new) }
 {
     let pred = match pred_from(alloc, context.tables, table, conds, &[], context.env) {
         Ok(pred) => pred,
         Err(reason) => return stop_unasked(log, reason),
     };
     let rows = visible_rows(alloc, context, &pred, view)?;
-    delete_rows(context.env, table, pred, rows, log)?;
-    Ok(())
+    delete_rows(alloc, context, table, pred, rows, log, view)
 }
 
 /// Returns the columns of SET, with their values in the row after it.
@@ -256,8 +332,8 @@ fn push_sets(
     Ok(())
 }
 
-/// Writes the effect of an UPDATE that asked this and found these rows.
-fn update_rows(
+/// Writes the effect of an UPDATE that asked this and found these rows. It sets no column with REFERENCES.
+fn set_rows(
     alloc: Global,
     context: &Context<'_>,
     update: &Update<'_>,
@@ -269,7 +345,7 @@ fn update_rows(
     requires columns { All (λ (i : RSetItem). i.column < 256) update.now.items.now }
     requires found { context.now.env.now.found < 2 ^ 16 }
     requires blank { IsBlank log.old }
-    ensures ok { OnOk result (log.new ≡ record log.old { effect = effect_after pred (changes update.now.table update.now.items.now (new_of context.now.tables.now update.now.table context.now.env.now update.now.items.now) rows.now) (λ ws. effect_of_writes pred (is_some_row rows.now) ws context.now.env.now) }) }
+    ensures ok { OnOk result (log.new ≡ record log.old { effect = effect_after pred (changes update.now.table update.now.items.now (new_of context.now.tables.now update.now.table context.now.env.now update.now.items.now) rows.now) (λ ws. effect_of_writes (pred ∷ []) (is_some_row rows.now) ws context.now.env.now) }) }
     ensures err { OnErr result (without_effect log.new ≡ without_effect log.old) }
 {
     ask(log, pred)?;
@@ -279,8 +355,83 @@ fn update_rows(
     }
 }
 
-/// Writes the effect of UPDATE: it writes a new version of each row that matches, and sets `:found`. The call ends if
-/// a right side of WHERE or of SET is stopped, or if a text is longer than its column allows.
+/// Adds what SET writes to these rows to the open effect, which has no writes yet, and sets `:found`. No new row is
+/// stopped.
+fn push_update(
+    alloc: Global,
+    context: &Context<'_>,
+    update: &Update<'_>,
+    rows: &Rows,
+    log: &mut Log,
+) -> Result<(), NoMemory>
+    requires table { update.now.table < 256 }
+    requires columns { All (λ (i : RSetItem). i.column < 256) update.now.items.now }
+    requires found { context.now.env.now.found < 2 ^ 16 }
+    requires goes { HasValue (changes update.now.table update.now.items.now (new_of context.now.tables.now update.now.table context.now.env.now update.now.items.now) rows.now) }
+    requires writes { log.old.effect.writes ≡ [] }
+    requires sets { log.old.effect.sets ≡ [] }
+    ensures ok { OnOk result (log.new ≡ with_sets (with_writes log.old (on (changes update.now.table update.now.items.now (new_of context.now.tables.now update.now.table context.now.env.now update.now.items.now) rows.now) (λ ws. ws))) (slots_behind (with_found context.now.env.now (is_some_row rows.now)) (context.now.env.now.found ∷ []))) }
+    ensures err { OnErr result (without_effect log.new ≡ without_effect log.old) }
+{
+    match push_sets(alloc, context, update, rows.as_slice(), log) {
+        Ok(()) => push_found(context.env, is_any(rows), log),
+        Err(_) => Err(NoMemory),
+    }
+}
+
+/// Runs what UPDATE of these rows checks, and adds the predicates to the open effect. Returns the end if a check fails.
+fn check_update<V: View>(
+    alloc: Global,
+    context: &Context<'_>,
+    update: &Update<'_>,
+    rows: &Rows,
+    log: &mut Log,
+    view: &mut V,
+) -> Result<Option<End>, Refused>
+    requires stands { AreSoundTables context.now.tables.now (earlier context.now.number context.now.undo.now) (V.sight view.old).database }
+    requires begins { BeginsPred log.old }
+    ensures fault { IfOk result (λ o. o ≡ first_fault (update_checks context.now.tables.now update.now.table update.now.items.now context.now.env.now rows.now) (applied (earlier context.now.number context.now.undo.now) (V.sight view.old).database)) }
+    ensures asked { OnOk result (log.new ≡ with_preds log.old (log.old.effect.preds ++ preds_up_to (update_checks context.now.tables.now update.now.table update.now.items.now context.now.env.now rows.now) (applied (earlier context.now.number context.now.undo.now) (V.sight view.old).database))) }
+    ensures err { OnErr result (without_effect log.new ≡ without_effect log.old) }
+    ensures view { OnlyAsks (V.sight view.old) (V.sight view.new) result }
+    ensures looks { AskedFor (preds_up_to (update_checks context.now.tables.now update.now.table update.now.items.now context.now.env.now rows.now) (applied (earlier context.now.number context.now.undo.now) (V.sight view.old).database)) (earlier context.now.number context.now.undo.now) (V.sight view.old) (V.sight view.new) }
+{
+    let checks = update_checks(alloc, context.tables, context.env, update, rows.as_slice())?;
+    run_checks(alloc, context, &[], checks.as_slice(), log, view)
+}
+
+/// Writes the effect of an UPDATE that asked this and found these rows.
+fn update_rows<V: View>(
+    alloc: Global,
+    context: &Context<'_>,
+    update: &Update<'_>,
+    pred: Pred,
+    rows: &Rows,
+    log: &mut Log,
+    view: &mut V,
+) -> Result<(), Refused>
+    requires stands { AreSoundTables context.now.tables.now (earlier context.now.number context.now.undo.now) (V.sight view.old).database }
+    requires table { update.now.table < 256 }
+    requires columns { All (λ (i : RSetItem). i.column < 256) update.now.items.now }
+    requires found { context.now.env.now.found < 2 ^ 16 }
+    requires blank { IsBlank log.old }
+    ensures ok { OnOk result (log.new ≡ record log.old { effect = effect_unless (first_fault (update_checks context.now.tables.now update.now.table update.now.items.now context.now.env.now rows.now) (applied (earlier context.now.number context.now.undo.now) (V.sight view.old).database)) (pred ∷ preds_up_to (update_checks context.now.tables.now update.now.table update.now.items.now context.now.env.now rows.now) (applied (earlier context.now.number context.now.undo.now) (V.sight view.old).database)) (is_some_row rows.now) (on (changes update.now.table update.now.items.now (new_of context.now.tables.now update.now.table context.now.env.now update.now.items.now) rows.now) (λ ws. ws)) context.now.env.now }) }
+    ensures err { OnErr result (without_effect log.new ≡ without_effect log.old) }
+    ensures view { OnlyAsks (V.sight view.old) (V.sight view.new) result }
+    ensures looks { AskedFor (preds_up_to (update_checks context.now.tables.now update.now.table update.now.items.now context.now.env.now rows.now) (applied (earlier context.now.number context.now.undo.now) (V.sight view.old).database)) (earlier context.now.number context.now.undo.now) (V.sight view.old) (V.sight view.new) }
+{
+    ask(log, pred)?;
+    if let Some(fault) = check_update(alloc, context, update, rows, log, view)? {
+        end(log, fault)?;
+        return Ok(());
+    }
+    push_update(alloc, context, update, rows, log)?;
+    Ok(())
+}
+
+/// Writes the effect of UPDATE: it writes a new version of each row that matches, and sets `:found`. For each new value of
+/// a column with REFERENCES it asks for the parent. The call ends if a right side of WHERE or of SET is stopped, if a text
+/// is longer than its column allows, or if a parent isn't there.
 pub(crate) fn update<V: View>(
     alloc: Global,
     context: &Context<'_>,
@@ -297,14 +448,16 @@ pub(crate) fn update<V: View>(
     ensures rest { OnOk result (log.new ≡ record log.old { effect = log.new.effect }) }
     ensures err { OnErr result (without_effect log.new ≡ without_effect log.old) }
     ensures view { OnlyAsks (V.sight view.old) (V.sight view.new) result }
-    ensures bounded { AskedAtMost 1 (different (earlier context.now.number context.now.undo.now)) (V.sight view.old) (V.sight view.new) }
-    ensures looks { OnOk result (AskedFor log.new.effect.preds (earlier context.now.number context.now.undo.now) (V.sight view.old) (V.sight view.new)) }
+    ensures looks { AskedBy context.now.tables.now (layer.Update update.now.table update.now.items.now update.now.conds.now) context.now.env.now (earlier context.now.number context.now.undo.now) (V.sight view.old) (V.sight view.new) }
 {
     let pred = match update_pred(alloc, context.tables, update, context.env) {
         Ok(pred) => pred,
         Err(reason) => return stop_unasked(log, reason),
     };
     let rows = visible_rows(alloc, context, &pred, view)?;
-    update_rows(alloc, context, update, pred, &rows, log)?;
+    if sets_reference(context.tables, update.table, update.items) {
+        return update_rows(alloc, context, update, pred, &rows, log, view);
+    }
+    set_rows(alloc, context, update, pred, &rows, log)?;
     Ok(())
 }

@@ -3,8 +3,11 @@
 
 mod asking;
 mod changes;
+mod checks;
+mod children;
 mod context;
 mod numbers;
+mod parents;
 mod predicates;
 mod queries;
 mod rows;

@@ -17,7 +17,7 @@ ghost use Rattle.mv_undo.specs.Owning.{earlier};
 ghost use Rattle.mv_recorded.specs.Effects.{IsEffect, asks, pred_with, effect_after, row_number, effect_of_loop, effect_of_select, effect_of_aggregate};
 ghost use Rattle.mv_effect.specs.Logging.{IsBlank, without_effect};
 ghost use Rattle.mv_effect.specs.Stops.{GivesOrEnds};
-ghost use Rattle.mv_effect.specs.Looking.{AreSoundTables, OnlyAsks, different, AskedAtMost, AskedFor};
+ghost use Rattle.mv_effect.specs.Looking.{AreSoundTables, OnlyAsks, different, AskedAtMost, AskedBy};
 ghost use Rattle.mv_effect.specs.Naming.{Tests, AreColumns};
 ghost use Rattle.mv_effect.specs.Totalling.{total_asked};
 
@@ -187,8 +187,7 @@ pub(crate) fn select<V: View>(
     ensures rest { OnOk result (log.new ≡ record log.old { effect = log.new.effect }) }
     ensures err { OnErr result (without_effect log.new ≡ without_effect log.old) }
     ensures view { OnlyAsks (V.sight view.old) (V.sight view.new) result }
-    ensures bounded { AskedAtMost 1 (different (earlier context.now.number context.now.undo.now)) (V.sight view.old) (V.sight view.new) }
-    ensures looks { OnOk result (AskedFor log.new.effect.preds (earlier context.now.number context.now.undo.now) (V.sight view.old) (V.sight view.new)) }
+    ensures looks { AskedBy context.now.tables.now (layer.Select query.now.columns.now to.now query.now.table query.now.conds.now query.now.sorts.now at.now) context.now.env.now (earlier context.now.number context.now.undo.now) (V.sight view.old) (V.sight view.new) }
 {
     let asked = match row_query(alloc, context, query, at) {
         Ok(asked) => asked,
@@ -291,8 +290,7 @@ pub(crate) fn total<V: View>(
     ensures rest { OnOk result (log.new ≡ record log.old { effect = log.new.effect }) }
     ensures err { OnErr result (without_effect log.new ≡ without_effect log.old) }
     ensures view { OnlyAsks (V.sight view.old) (V.sight view.new) result }
-    ensures bounded { AskedAtMost 1 (different (earlier context.now.number context.now.undo.now)) (V.sight view.old) (V.sight view.new) }
-    ensures looks { OnOk result (AskedFor log.new.effect.preds (earlier context.now.number context.now.undo.now) (V.sight view.old) (V.sight view.new)) }
+    ensures looks { AskedBy context.now.tables.now (layer.Total agg to table conds.now) context.now.env.now (earlier context.now.number context.now.undo.now) (V.sight view.old) (V.sight view.new) }
 {
     let pred = match aggregate_pred(alloc, context.tables, agg, table, conds, context.env) {
         Ok(pred) => pred,
@@ -358,8 +356,7 @@ pub(crate) fn for_select<V: View>(
     ensures rest { OnOk result (log.new ≡ record log.old { effect = log.new.effect }) }
     ensures err { OnErr result (without_effect log.new ≡ without_effect log.old) }
     ensures view { OnlyAsks (V.sight view.old) (V.sight view.new) result }
-    ensures bounded { AskedAtMost 1 (different (earlier context.now.number context.now.undo.now)) (V.sight view.old) (V.sight view.new) }
-    ensures looks { OnOk result (AskedFor log.new.effect.preds (earlier context.now.number context.now.undo.now) (V.sight view.old) (V.sight view.new)) }
+    ensures looks { (row : ℕ) (body : List RStmt) → AskedBy context.now.tables.now (layer.ForSelect row once query.now.columns.now query.now.table query.now.conds.now query.now.sorts.now body) context.now.env.now (earlier context.now.number context.now.undo.now) (V.sight view.old) (V.sight view.new) }
 {
     let pred = match select_pred(alloc, context.tables, query, context.env) {
         Ok(pred) => pred,

@@ -7,7 +7,7 @@ ghost use Rattle.mv_undo.specs.Owning.{earlier};
 ghost use Rattle.mv_recorded.specs.Effects.{IsEffect};
 ghost use Rattle.mv_effect.specs.Choosing.{Chooses};
 ghost use Rattle.mv_effect.specs.Logging.{IsBlank, without_effect};
-ghost use Rattle.mv_effect.specs.Looking.{IsExecutable, OnlyAsks, different, AskedAtMost, AskedFor};
+ghost use Rattle.mv_effect.specs.Looking.{IsExecutable, OnlyAsks, AskedBy};
 
 use crate::changes::{delete, insert, update};
 use crate::context::Context;
@@ -38,8 +38,7 @@ fn write_effect<V: View>(
     ensures rest { OnOk result (log.new ≡ record log.old { effect = log.new.effect }) }
     ensures err { OnErr result (without_effect log.new ≡ without_effect log.old) }
     ensures view { OnlyAsks (V.sight view.old) (V.sight view.new) result }
-    ensures bounded { AskedAtMost 1 (different (earlier number undo.now)) (V.sight view.old) (V.sight view.new) }
-    ensures looks { OnOk result (AskedFor log.new.effect.preds (earlier number undo.now) (V.sight view.old) (V.sight view.new)) }
+    ensures looks { AskedBy tables.now (out-RStmt statement.now) env.now (earlier number undo.now) (V.sight view.old) (V.sight view.new) }
 {
     let context = Context {
         tables,
@@ -150,8 +149,7 @@ fn write_choice<V: View>(
     ensures branch { IfOk result (λ holds. Chooses env.now holds (out-RStmt statement.now)) }
     ensures err { OnErr result (without_effect log.new ≡ without_effect log.old) }
     ensures view { OnlyAsks (V.sight view.old) (V.sight view.new) result }
-    ensures bounded { AskedAtMost 1 (different (earlier number undo.now)) (V.sight view.old) (V.sight view.new) }
-    ensures looks { OnOk result (AskedFor log.new.effect.preds (earlier number undo.now) (V.sight view.old) (V.sight view.new)) }
+    ensures looks { AskedBy tables.now (out-RStmt statement.now) env.now (earlier number undo.now) (V.sight view.old) (V.sight view.new) }
 {
     if let RStmt::Branch { test, .. } = statement {
         return decide(alloc, test, env, log);
@@ -165,8 +163,8 @@ fn write_choice<V: View>(
 /// sees the view and the own writes of records with smaller numbers. An IF only evaluates its condition, once, and a FOR
 /// only fixes its rows.
 ///
-/// The view is asked at most once for the rows of the table that the statement reads, or for the first of them, and at
-/// most once for the row under each key that these writes are on.
+/// For each predicate of the statement the view is asked at most once for its rows, or for the first of them, and at most
+/// once for the row under each key that these writes are on.
 ///
 /// Fails with `NoMemory` if memory runs out, and with `Stale` if the view answers `Stale`. The log is then unchanged.
 #[tactic(auto, using(crate::proofs::Ends::taken_back))]
@@ -187,8 +185,7 @@ pub fn effect<V: View>(
     ensures branch { IfOk result (λ holds. Chooses env.now holds (out-RStmt statement.now)) }
     ensures err { OnErr result (log.new ≡ log.old) }
     ensures view { OnlyAsks (V.sight view.old) (V.sight view.new) result }
-    ensures bounded { AskedAtMost 1 (different (earlier number undo.now)) (V.sight view.old) (V.sight view.new) }
-    ensures looks { OnOk result (AskedFor log.new.effect.preds (earlier number undo.now) (V.sight view.old) (V.sight view.new)) }
+    ensures looks { AskedBy tables.now (out-RStmt statement.now) env.now (earlier number undo.now) (V.sight view.old) (V.sight view.new) }
 {
     match write_choice(alloc, tables, statement, env, undo, number, log, view) {
         Ok(holds) => Ok(holds),

@@ -7,11 +7,12 @@ use Rattle.mv_values.specs.Tables.{Tables}
 use Rattle.mv_catalog.specs.declared.resolved.ProcInfo.{ProcInfo}
 use Rattle.mv_catalog.specs.declared.resolved.RStmt.{RStmt, out-RStmt}
 use Rattle.mv_catalog.specs.Statements.{size}
+use Rattle.mv_alone.specs.declared.state.Env.{Env}
 use Rattle.mv_alone.specs.declared.state.State.{State}
 use Rattle.mv_record.specs.declared.record.Record.{Record}
 use Rattle.mv_record.specs.Runs.{writes_in}
 use Rattle.mv_record.specs.Writes.{AreRising}
-use Rattle.mv_recorded.specs.Asking.{on}
+use Rattle.mv_recorded.specs.Asking.{on, preds_of}
 use Rattle.mv_recorded.specs.Doing.{itself, effect_of}
 use Rattle.mv_recorded.specs.Effect.{HasColumns}
 use Rattle.mv_recorded.specs.Recorded.{Site, own_record, outside}
@@ -21,7 +22,10 @@ use Rattle.mv_log.specs.Logged.{Logged}
 use Rattle.mv_record.specs.declared.effect.Effect.{Effect}
 use Rattle.mv_record.specs.Effects.{record_of}
 use Rattle.mv_recorded.specs.Effects.{IsEffect}
-use Rattle.mv_effect.specs.Looking.{AskedFor}
+use Rattle.mv_effect.specs.Looking.{AskedBy, AskedFor}
+use Rattle.mv_graph.specs.declared.graph.Graph.{Graph}
+use Rattle.mv_graph.specs.declared.graph.Step.{Step}
+use Rattle.mv_graph.specs.Steps.{TellsOf}
 use Rattle.mv_exec.specs.declared.places.Place.{Place}
 use Rattle.mv_exec.specs.Foreseen.{Ahead}
 use Rattle.mv_exec.specs.declared.task.Task.{Task}
@@ -33,9 +37,10 @@ use Rattle.mv_exec.specs.declared.recording.Origin.TheVariants.{Executed}
 use Rattle.mv_exec.specs.Ahead.{ForeseesLeft, ahead_in}
 use Rattle.mv_exec.specs.Recording.{IsRecordOf, foreseen}
 use Rattle.mv_exec.specs.Steps.{HasAddedRecord, HasExecuted, with_log}
-use Rattle.mv_exec.specs.Running.{Foresees}
+use Rattle.mv_exec.specs.Running.{Foresees, first_preds, preds_ahead}
 use Rattle.mv_exec.proofs.Adding.{left_next}
 use Rattle.mv_exec.proofs.Adopting.{added_before}
+use Rattle.mv_exec.proofs.Held.{asked_told}
 use Rattle.mv_exec.proofs.Logs.{logged_before}
 use Rattle.mv_exec.proofs.Writing.{own_writes}
 
@@ -86,6 +91,27 @@ pub added_effect : (proc : ProcInfo) (old : Task) (log : Logged) (at : OpenState
 added_effect proc old log at new is added =
     added_before proc old (with_log old log) (record_in log at) new (logged_before proc old log (ap (λ (l : Logged). l.records) is)) (added (record_in log at) refl)
 
+-- What the view was asked
+
+-- it was asked for the predicates of the next record
+asked_next : (proc : ProcInfo) (tables : List TableInfo) (task : Task) (before after : Sight) (outer : List Place) (p : Place) (s : RStmt) → IsTask proc task → HoldsPlace proc (places_of task) outer p s
+    → AskedBy tables (out-RStmt s) task.variables.env (earlier (length task.log.records) task.undo) before after → AskedFor (first_preds (left_of proc tables task before.database)) (writes_in task.log.records) before after
+asked_next proc tables task before after outer p s t at asked =
+    let st : State = state_of task before.database in
+    subst (λ ps. AskedFor ps (writes_in task.log.records) before after) (sym (ap first_preds (left_next proc tables task before.database outer p s at)))
+    (subst (λ ws. AskedFor (preds_of tables (out-RStmt s) (record { env = task.variables.env; tables = applied ws before.database; lines = st.lines })) ws before after) (own_writes proc task t) (asked st.lines))
+
+-- the same by the step of the open statement
+pub asked_ahead : (g : Graph) (task : Task) (before after : Sight) (outer : List Place) (p : Place) (s : RStmt) (step : Step) (tables : List TableInfo) (env : Env) (n : ℕ) → IsTask g.procedure task → HoldsPlace g.procedure (places_of task) outer p s
+    → TellsOf g.procedure s step → tables ≡ g.tables → env ≡ task.variables.env → n ≡ length task.log.records → AskedBy tables (out-RStmt step.statement) env (earlier n task.undo) before after
+    → AskedFor (preds_ahead g before.database task) (writes_in task.log.records) before after
+asked_ahead g task before after outer p s step tables env n t at tells same_tables same_env same_number asked =
+    asked_next g.procedure g.tables task before after outer p s t at
+    (asked_told g.tables g.procedure s step task.variables.env (earlier (length task.log.records) task.undo) before after tells
+    (subst (λ ts. AskedBy ts (out-RStmt step.statement) task.variables.env (earlier (length task.log.records) task.undo) before after) same_tables
+    (subst (λ e. AskedBy tables (out-RStmt step.statement) e (earlier (length task.log.records) task.undo) before after) same_env
+    (subst (λ k. AskedBy tables (out-RStmt step.statement) env (earlier k task.undo) before after) same_number asked))))
+
 -- What was executed
 
 -- a record more was counted
@@ -103,7 +129,7 @@ recounted proc old r new n h = record { parameters = h.parameters; records = h.r
 pub executed_next : (proc : ProcInfo) (tables : List TableInfo) (old new : Task) (before after : Sight) (n : ℕ) (outer : List Place) (p : Place) (s : RStmt) (ahead : Ahead) (e : Effect) (r : Record)
     → IsTask proc old → HoldsPlace proc (places_of old) outer p s → HasColumns (out-RStmt s) → AreRising before.database → ForeseesLeft proc old (Some ahead)
     → IsEffect tables (out-RStmt s) old.variables.env (applied (earlier (length old.log.records) old.undo) before.database) e
-    → AskedFor e.preds (earlier (length old.log.records) old.undo) before after
+    → AskedFor (first_preds (left_of proc tables old before.database)) (writes_in old.log.records) before after
     → r ≡ record_of ahead.spot ahead.parent ahead.reads e → HasAddedRecord proc old r new → HasExecuted tables proc old (record new { executed = n }) before after
 executed_next proc tables old new before after n outer p s ahead e r t at has rise next effect asked is added =
     let it : LeavesNext proc tables old before.database (record_of ahead.spot ahead.parent ahead.reads e) = effect_next proc tables old before.database outer p s ahead e t at next effect in
@@ -112,5 +138,5 @@ executed_next proc tables old new before after n outer p s ahead e r t at has ri
       next = r;
       added = recounted proc old r new n added;
       left = left ∙ ap (λ rs. r ∷ rs) (sym (added.left tables before.database it.tail rise left));
-      asked = subst (λ (q : Record). AskedFor q.preds (writes_in old.log.records) before after) (sym is) (subst (λ ws. AskedFor e.preds ws before after) (own_writes proc old t) asked);
+      asked = subst (λ ps. AskedFor ps (writes_in old.log.records) before after) (ap first_preds left) asked;
     }

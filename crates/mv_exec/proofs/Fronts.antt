@@ -19,7 +19,7 @@ use Rattle.mv_graph.specs.Nodes.{IsSound, meaning_of}
 use Rattle.mv_exec.specs.Foreseen.{Ahead}
 use Rattle.mv_exec.specs.declared.task.Task.{Task}
 use Rattle.mv_exec.specs.Tasks.{left_of, run_of, IsTask, StandsAsBefore, BeginsCall, TellsEnd, fresh_task}
-use Rattle.mv_exec.specs.Running.{HasLeft, IsTaskOf, IsTaskOn, IsRunningOn, IsSameCall, IsSameCallOn, IsUnchanged, Foresees, IsAhead, HasContent, HasAdopted, GoesOnWith, HasRun, EndsExactly, count_left}
+use Rattle.mv_exec.specs.Running.{HasLeft, IsTaskOf, IsTaskOn, IsRunningOn, IsSameCall, IsSameCallOn, IsUnchanged, Foresees, IsAhead, HasContent, HasAdopted, GoesOnWith, HasRun, EndsExactly, count_left, first_preds}
 use Rattle.mv_exec.specs.Ahead.{ForeseesLeft, ahead_in}
 use Rattle.mv_exec.specs.Recording.{IsAtRest}
 use Rattle.mv_exec.specs.Steps.{HasAddedNext, HasAddedRecord, HasExecuted}
@@ -183,6 +183,19 @@ executed_before proc tables old mid new before after same it = record {
   left = sym (same.left tables before.database) ∙ it.left;
   asked = subst (λ (rs : List Record). AskedFor it.next.preds (writes_in rs) before after) same.records it.asked;
 }
+
+-- what was asked for the next record of a call that stands as before
+pub asked_before : (proc : ProcInfo) (tables : List TableInfo) (old mid : Task) (db : Tables) (before after : Sight) → StandsAsBefore proc old mid → AskedFor (first_preds (left_of proc tables mid db)) (writes_in mid.log.records) before after
+    → AskedFor (first_preds (left_of proc tables old db)) (writes_in old.log.records) before after
+asked_before proc tables old mid db before after same h =
+    subst (λ ps. AskedFor ps (writes_in old.log.records) before after) (ap first_preds (same.left tables db))
+    (subst (λ (rs : List Record). AskedFor (first_preds (left_of proc tables mid db)) (writes_in rs) before after) same.records h)
+
+pub asked_after : (proc : ProcInfo) (tables : List TableInfo) (old new : Task) (db : Tables) (before after : Sight) → StandsAsBefore proc old new → AskedFor (first_preds (left_of proc tables old db)) (writes_in old.log.records) before after
+    → AskedFor (first_preds (left_of proc tables new db)) (writes_in new.log.records) before after
+asked_after proc tables old new db before after same h =
+    subst (λ ps. AskedFor ps (writes_in new.log.records) before after) (ap first_preds (sym (same.left tables db)))
+    (subst (λ (rs : List Record). AskedFor (first_preds (left_of proc tables old db)) (writes_in rs) before after) (sym same.records) h)
 
 -- A record that is adopted
 

@@ -3,6 +3,7 @@ use Rattle.std.proofs.Common.{◌≡◌, ℕ, zero, suc, ◌+◌, ◌-◌, ◌<�
 use Rattle.std.proofs.lemmas.Bool.{lt-ltb, le-ltb}
 use Rattle.mv_values.specs.declared.schema.TableInfo.{TableInfo}
 use Rattle.mv_values.specs.declared.rows.Keyed.{Keyed}
+use Rattle.mv_values.specs.declared.patch.Write.{Write}
 use Rattle.mv_values.specs.declared.value.Value.{Value}
 use Rattle.mv_catalog.specs.Statements.{size, size_step, size_of}
 use Rattle.mv_catalog.specs.declared.resolved.ProcInfo.{ProcInfo}
@@ -12,7 +13,9 @@ use Rattle.mv_catalog.specs.declared.resolved.RStmt.TheOpen.{RStmt-F, Assign, Se
 use Rattle.mv_alone.specs.declared.state.Env.{Env}
 use Rattle.mv_record.specs.declared.effect.Effect.{Effect}
 use Rattle.mv_recorded.specs.Effects.{IsEffect}
+use Rattle.mv_view.specs.Viewing.{Sight}
 use Rattle.mv_effect.specs.Choosing.{Chooses}
+use Rattle.mv_effect.specs.Looking.{AskedBy}
 use Rattle.mv_effect.specs.Naming.{NamesColumns}
 use Rattle.mv_graph.specs.declared.graph.Step.{Step}
 use Rattle.mv_graph.specs.Steps.{own_part, skip_by, TellsOf}
@@ -41,6 +44,19 @@ own_effect tables (Update t items conds) env db f h = h
 own_effect tables (Delete t conds) env db f h = h
 own_effect tables (Print es) env db f h = h
 own_effect tables (Rollback reason) env db f h = h
+
+own_asked : (tables : List TableInfo) (y : RStmt-F RStmt) (env : Env) (ws : List Write) (before after : Sight) → AskedBy tables (own_part y) env ws before after → AskedBy tables y env ws before after
+own_asked tables (Assign x e) env ws before after h = h
+own_asked tables (Select cs xs t conds sorts offset) env ws before after h = h
+own_asked tables (Total agg x t conds) env ws before after h = h
+own_asked tables (ForSelect x once cs t conds sorts body) env ws before after h = h
+own_asked tables (ForRows x y body) env ws before after h = h
+own_asked tables (Branch e ys ns) env ws before after h = h
+own_asked tables (Insert t es) env ws before after h = h
+own_asked tables (Update t items conds) env ws before after h = h
+own_asked tables (Delete t conds) env ws before after h = h
+own_asked tables (Print es) env ws before after h = h
+own_asked tables (Rollback reason) env ws before after h = h
 
 own_chooses : (env : Env) (b : Bool) (y : RStmt-F RStmt) → Chooses env b (own_part y) → Chooses env b y
 own_chooses env b (Branch e ys ns) h = h
@@ -71,6 +87,10 @@ own_names tables (Rollback reason) h = h
 pub effect_told : (tables : List TableInfo) (proc : ProcInfo) (s : RStmt) (step : Step) (env : Env) (db : List (List Keyed)) (e : Effect) → TellsOf proc s step
     → IsEffect tables (out-RStmt step.statement) env db e → IsEffect tables (out-RStmt s) env db e
 effect_told tables proc s step env db e tells h = own_effect tables (out-RStmt s) env db e (subst (λ y. IsEffect tables y env db e) (out_own proc s step tells) h)
+
+pub asked_told : (tables : List TableInfo) (proc : ProcInfo) (s : RStmt) (step : Step) (env : Env) (ws : List Write) (before after : Sight) → TellsOf proc s step
+    → AskedBy tables (out-RStmt step.statement) env ws before after → AskedBy tables (out-RStmt s) env ws before after
+asked_told tables proc s step env ws before after tells h = own_asked tables (out-RStmt s) env ws before after (subst (λ y. AskedBy tables y env ws before after) (out_own proc s step tells) h)
 
 pub chooses_told : (proc : ProcInfo) (s : RStmt) (step : Step) (env : Env) (b : Bool) → TellsOf proc s step → Chooses env b (out-RStmt step.statement) → Chooses env b (out-RStmt s)
 chooses_told proc s step env b tells h = own_chooses env b (out-RStmt s) (subst (Chooses env b) (out_own proc s step tells) h)

@@ -1,5 +1,5 @@
 -- Defines all that public contracts say of running calls. This project's own.
-use Rattle.std.specs.Prelude.{◌≡◌, ◌↔◌, ◌+◌, ◌*◌, ℕ, Bool, true, false, List, [], ◌∷◌, ◌++◌, Option, Some, None, Result, Ok, Err, length}
+use Rattle.std.specs.Prelude.{◌≡◌, ◌↔◌, ◌+◌, ℕ, Bool, true, false, List, [], ◌∷◌, ◌++◌, Option, Some, None, Result, Ok, Err, length}
 use Rattle.std.specs.List.{flat_map}
 use Rattle.mv_values.specs.declared.calls.Call.{Call}
 use Rattle.mv_values.specs.declared.pred.Pred.{Pred}
@@ -12,7 +12,7 @@ use Rattle.mv_record.specs.Writes.{AreRising}
 use Rattle.mv_undo.specs.Owning.{HasWritesOf}
 use Rattle.mv_view.specs.Viewing.{Sight}
 use Rattle.mv_record.specs.Databases.{IsDatabaseOf}
-use Rattle.mv_effect.specs.Looking.{AskedAtMost, AskedFor, different}
+use Rattle.mv_effect.specs.Looking.{AskedFor}
 use Rattle.mv_graph.specs.declared.graph.Graph.{Graph}
 use Rattle.mv_graph.specs.Nodes.{meaning_of}
 use Rattle.mv_exec.specs.declared.step.Stepped.{Stepped}
@@ -116,22 +116,31 @@ pub record HasRun (old new : Task) (before after : Sight) : Type 0 where
   pub executed : new.executed ≡ old.executed + 1
   pub asked : AskedFor next.preds (writes_in old.log.records) before after
 
--- 1 if it was refused, else 0
-abbrev pub refusals : {A E : Type 0} → Result A E → ℕ
-refusals (Ok x) = 0
-refusals (Err e) = 1
+-- the predicates of the first of these records
+abbrev pub first_preds : List Record → List Pred
+first_preds [] = []
+first_preds (r ∷ rs) = r.preds
+
+-- the predicates of the next record of the call on a database
+abbrev pub preds_ahead : Graph → Tables → Task → List Pred
+preds_ahead g db task = first_preds (left_of g.procedure g.tables task db)
+
+-- the predicates of a record that was tried, if it was refused
+abbrev pub if_refused : {A E : Type 0} → Result A E → List Pred → List Pred
+if_refused (Ok x) ps = []
+if_refused (Err e) ps = ps
 
 -- the predicates of these records
 abbrev pub preds_in : List Record → List Pred
 preds_in rs = flat_map (λ r. r.preds) rs
 
--- records were added by executing their statements, and then this many more were tried and refused; the view was asked
--- at most once for each predicate of these records and for each refusal, and then for each key that the call has written
-pub record HasRunTo (old new : Task) (vain : ℕ) (before after : Sight) : Type 0 where
+-- records were added by executing their statements, and then one with these predicates may have been tried in vain; the
+-- view was asked at most once for each predicate of all of them, and then for each key that the call has written
+pub record HasRunTo (old new : Task) (vain : List Pred) (before after : Sight) : Type 0 where
   pub more : List Record
   pub records : new.log.records ≡ old.log.records ++ more
   pub executed : new.executed ≡ old.executed + length more
-  pub asked : AskedAtMost (length (preds_in more) + vain) ((length (preds_in more) + vain) * different (writes_in new.log.records)) before after
+  pub asked : AskedFor (preds_in more ++ vain) (writes_in new.log.records) before after
 
 -- Laws
 

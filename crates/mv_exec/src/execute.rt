@@ -5,14 +5,13 @@ ghost use Rattle.mv_values.specs.Patching.{applied};
 ghost use Rattle.mv_values.specs.Tables.{KeysStand};
 ghost use Rattle.mv_record.specs.Databases.{IsDatabaseOf};
 ghost use Rattle.mv_record.specs.Runs.{writes_in};
-ghost use Rattle.mv_undo.specs.Owning.{earlier};
 ghost use Rattle.mv_graph.specs.Nodes.{IsSound};
 ghost use Rattle.mv_effect.specs.Logging.{IsBlank};
-ghost use Rattle.mv_effect.specs.Looking.{OnlyAsks, AskedAtMost, different};
+ghost use Rattle.mv_effect.specs.Looking.{AskedFor, OnlyAsks};
 ghost use Rattle.mv_exec.specs.Ahead.{ForeseesLeft};
 ghost use Rattle.mv_exec.specs.Places.{IsAtStep};
 ghost use Rattle.mv_exec.specs.Recording.{IsAtRest, foreseen};
-ghost use Rattle.mv_exec.specs.Running.{stepped};
+ghost use Rattle.mv_exec.specs.Running.{preds_ahead, stepped};
 ghost use Rattle.mv_exec.specs.Steps.{HasExecuted};
 ghost use Rattle.mv_exec.specs.Tasks.{places_of, IsTask, StandsAsBefore};
 
@@ -56,7 +55,7 @@ fn execute<V: View>(
     ensures kept { task.new.log.kept ≡ task.old.log.kept }
     ensures err { OnErr result (StandsAsBefore graph.now.procedure task.old task.new) }
     ensures view { OnlyAsks (V.sight view.old) (V.sight view.new) result }
-    ensures bounded { AskedAtMost 1 (different (earlier (length task.old.log.records) task.old.undo)) (V.sight view.old) (V.sight view.new) }
+    ensures bounded { AskedFor (preds_ahead graph.now (V.sight view.old).database task.old) (writes_in task.old.log.records) (V.sight view.old) (V.sight view.new) }
 {
     let number = task.log.len();
     let holds = effect(
@@ -100,7 +99,7 @@ pub(crate) fn execute_next<V: View>(
     ensures kept { task.new.log.kept ≡ task.old.log.kept }
     ensures err { OnErr result (StandsAsBefore graph.now.procedure task.old task.new) }
     ensures view { OnlyAsks (V.sight view.old) (V.sight view.new) result }
-    ensures bounded { AskedAtMost 1 (different (writes_in task.old.log.records)) (V.sight view.old) (V.sight view.new) }
+    ensures bounded { AskedFor (preds_ahead graph.now (V.sight view.old).database task.old) (writes_in task.old.log.records) (V.sight view.old) (V.sight view.new) }
 {
     let (at, position) = come_to(alloc, graph, task)?;
     execute(alloc, graph, task, at, position, view)

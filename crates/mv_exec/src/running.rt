@@ -8,9 +8,9 @@ ghost use Rattle.mv_record.specs.Databases.{IsDatabaseOf};
 ghost use Rattle.mv_record.specs.Runs.{writes_in};
 ghost use Rattle.mv_log.specs.Logged.{empty as no_records};
 ghost use Rattle.mv_graph.specs.Nodes.{IsSound, meaning_of};
-ghost use Rattle.mv_effect.specs.Looking.{AskedAtMost, OnlyAsks, different};
+ghost use Rattle.mv_effect.specs.Looking.{AskedFor, OnlyAsks};
 ghost use Rattle.mv_exec.specs.Recording.{IsAtRest};
-ghost use Rattle.mv_exec.specs.Running.{IsRunning, IsRunningOn, IsSameCall, IsSameCallOn, IsTaskOf, IsTaskOn, IsUnchanged, IsAhead, GoesOnWith, HasAdopted, HasRun, HasRunTo, refusals, stepped, EndsExactly};
+ghost use Rattle.mv_exec.specs.Running.{IsRunning, IsRunningOn, IsSameCall, IsSameCallOn, IsTaskOf, IsTaskOn, IsUnchanged, IsAhead, GoesOnWith, HasAdopted, HasRun, HasRunTo, if_refused, preds_ahead, stepped, EndsExactly};
 ghost use Rattle.mv_exec.specs.Steps.{HasAddedNext};
 ghost use Rattle.mv_exec.specs.Tasks.{IsTask, StandsAsBefore};
 
@@ -112,7 +112,8 @@ pub fn adopt(alloc: Global, graph: &Graph, task: &mut Task, old: u32) -> Result<
 
 /// Executes the next statement over the view and the call's own writes, and adds its record. An IF only evaluates its
 /// condition, and a FOR only fixes its rows. The statements inside them come next. Returns whether the call has ended.
-/// A call that had already ended is unchanged, and doesn't query the view. On an error the call is unchanged.
+/// A call that had already ended is unchanged, and doesn't query the view. On an error the call is unchanged, and the view
+/// was queried for no more than the predicates of the record that was tried.
 ///
 /// Fails with `NoMemory` if memory runs out, and with `Stale` if the view reports it.
 pub fn next<V: View>(
@@ -135,7 +136,7 @@ pub fn next<V: View>(
     ensures tells { IfOk result (λ it. it ≡ stepped task.new.ended) }
     ensures err { OnErr result (IsUnchanged task.old task.new) }
     ensures view { OnlyAsks (V.sight view.old) (V.sight view.new) result }
-    ensures bounded { AskedAtMost 1 (different (writes_in task.old.log.records)) (V.sight view.old) (V.sight view.new) }
+    ensures tried { OnErr result (AskedFor (preds_ahead graph.now (V.sight view.old).database task.new) (writes_in task.new.log.records) (V.sight view.old) (V.sight view.new)) }
 {
     if task.ended {
         return Ok(Stepped::Ended);
@@ -168,7 +169,7 @@ pub fn finish<V: View>(
     ensures goes_on { IsSameCallOn graph.now (V.sight view.old).database task.old task.new }
     ensures records { OnOk result ((call : Call) → IsTaskOf graph.now call task.old → task.new.log.records ≡ (meaning_of graph.now call (V.sight view.old).database).records) }
     ensures ended { OnOk result (task.new.ended ≡ true) }
-    ensures ran { HasRunTo task.old task.new (refusals result) (V.sight view.old) (V.sight view.new) }
+    ensures ran { HasRunTo task.old task.new (if_refused result (preds_ahead graph.now (V.sight view.old).database task.new)) (V.sight view.old) (V.sight view.new) }
     ensures view { OnlyAsks (V.sight view.old) (V.sight view.new) result }
 {
     while !task.ended() {

@@ -2,7 +2,7 @@
 -- graph means.
 use Rattle.std.specs.Prelude.{◌≡◌, ◌≤◌, ℕ, ◌+◌, Bool, List, [], ◌∷◌, ◌++◌, Option, Some, None, All, map, length}
 use Rattle.mv_catalog.specs.Statements.{size, total_size}
-use Rattle.mv_catalog.specs.Text.{IsTable, IsProcedure}
+use Rattle.mv_catalog.specs.Text.{IsTable, HaveParents, IsProcedure}
 use Rattle.mv_catalog.specs.declared.resolved.ProcInfo.{ProcInfo}
 use Rattle.mv_catalog.specs.declared.resolved.RStmt.{RStmt, out-RStmt}
 use Rattle.mv_catalog.specs.declared.resolved.RStmt.TheOpen.{RStmt-F, Assign, Select, Total, ForSelect, ForRows, Branch, Insert, Update, Delete, Print, Rollback}
@@ -157,6 +157,7 @@ is_read_only g = g.procedure.read_only
 pub record IsSound (g : Graph) : Type 0 where
   pub few : length g.tables ≤ 64
   pub tables : All IsTable g.tables
+  pub parents : HaveParents g.tables
   pub procedure : IsProcedure g.tables g.procedure
   pub nodes : IsGraph g
 

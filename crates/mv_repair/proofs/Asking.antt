@@ -1,7 +1,6 @@
 -- How often a repair queries its view.
-use Rattle.std.proofs.Common.{◌≡◌, ◌≤◌, ℕ, suc, ◌+◌, ◌*◌, Bool, true, false, not, List, [], ◌∷◌, ◌++◌, length, if◌then◌else◌, refl, sym, ap, subst, ◌∙◌, arith, append_assoc, length-append, mul-le-mul_left, mul-le-mul_right, add-mul}
-use Rattle.std.specs.Prelude.{◌&&◌}
-use Rattle.std.specs.List.{filter}
+use Rattle.std.proofs.Common.{◌≡◌, ◌≤◌, ℕ, suc, ◌*◌, Bool, true, false, not, List, [], ◌∷◌, ◌++◌, length, if◌then◌else◌, refl, sym, ap, subst, ◌∙◌, arith, append_assoc, append-nil, mul-le-mul_left}
+use Rattle.std.specs.List.{filter, flat_map}
 use Rattle.std.proofs.lemmas.Grind.{flat_map-append}
 use Rattle.std.proofs.lemmas.List.Elements.{filter-append}
 use Rattle.mv_values.specs.declared.pred.Pred.{Pred}
@@ -11,11 +10,11 @@ use Rattle.mv_record.specs.Runs.{writes_in}
 use Rattle.mv_recorded.specs.Own.{Each}
 use Rattle.mv_undo.specs.Owning.{touches}
 use Rattle.mv_view.specs.Viewing.{Sight}
-use Rattle.mv_effect.specs.Looking.{AskedAtMost, AskedFor, different}
+use Rattle.mv_effect.specs.Looking.{AskedFor, different}
 use Rattle.mv_effect.proofs.Different.{different_more}
 use Rattle.mv_history.specs.declared.change.Change.{Change}
 use Rattle.mv_history.specs.Kept.{Path, Placed, with_paths, next_placed, is_path, among, kept_paths}
-use Rattle.mv_repair.specs.Repairing.{is_some, queried, QueriedTimes}
+use Rattle.mv_repair.specs.Repairing.{queried}
 use Rattle.mv_repair.proofs.Placing.{placed_more}
 use Rattle.mv_repair.proofs.Marking.{among_still}
 
@@ -43,10 +42,14 @@ pub keys_more : (os ns : List Record) (r : Record) → different (writes_in (os 
 keys_more os ns r =
     subst (λ ws. different (writes_in (os ++ ns)) ≤ different ws) (sym (writes_both (os ++ ns) (r ∷ [])) ∙ ap writes_in (append_assoc os ns (r ∷ []))) (different_more (writes_in (os ++ ns)) (writes_in (r ∷ [])))
 
--- Records with a predicate
+-- Predicates
 
+-- a record isn't kept
 abbrev test : List Path → Placed → Bool
-test kept r = not (among kept r.path) && is_some r.it.preds
+test kept r = not (among kept r.path)
+
+abbrev asked_by : List Placed → List Pred
+asked_by rs = flat_map (λ r. r.it.preds) rs
 
 filter_same : (p q : Placed → Bool) (xs : List Placed) → Each (λ x. p x ≡ q x) xs → filter p xs ≡ filter q xs
 filter_same p q [] h = refl
@@ -58,59 +61,39 @@ filter_same p q (x ∷ xs) h = by (p x) refl (filter_same p q xs h.1)
 
 same_tests : (kept : List Path) (p : Path) (xs : List Placed) → Each (λ (a : Placed). is_path a.path p ≡ false) xs → Each (λ a. test (kept ++ p ∷ []) a ≡ test kept a) xs
 same_tests kept p [] h = tt
-same_tests kept p (x ∷ xs) h = (ap (λ b. not b && is_some x.it.preds) (among_still kept p x.path h.0), same_tests kept p xs h.1)
+same_tests kept p (x ∷ xs) h = (ap not (among_still kept p x.path h.0), same_tests kept p xs h.1)
 
-abbrev pub one : List Pred → ℕ
-one ps = if is_some ps then 1 else 0
-
-filter_one : (p : Placed → Bool) (x : Placed) (b : Bool) → p x ≡ b → length (filter p (x ∷ [])) ≡ (if b then 1 else 0)
-filter_one p x true e = rw e refl
+filter_one : (p : Placed → Bool) (x : Placed) (b : Bool) → p x ≡ b → asked_by (filter p (x ∷ [])) ≡ (if b then x.it.preds else [])
+filter_one p x true e = rw e (append-nil x.it.preds)
 filter_one p x false e = rw e refl
 
-counted_more : (p : Placed → Bool) (xs : List Placed) (x : Placed) (b : Bool) → p x ≡ b → length (filter p (xs ++ x ∷ [])) ≡ length (filter p xs) + (if b then 1 else 0)
-counted_more p xs x b h = ap length (filter-append p xs (x ∷ [])) ∙ (length-append (filter p xs) (filter p (x ∷ [])) ∙ ap (λ n. length (filter p xs) + n) (filter_one p x b h))
+asked_more : (p : Placed → Bool) (xs : List Placed) (x : Placed) (b : Bool) → p x ≡ b → asked_by (filter p (xs ++ x ∷ [])) ≡ asked_by (filter p xs) ++ (if b then x.it.preds else [])
+asked_more p xs x b h = ap asked_by (filter-append p xs (x ∷ [])) ∙ (flat_map-append (λ (r : Placed). r.it.preds) (filter p xs) (filter p (x ∷ [])) ∙ ap (λ ps. asked_by (filter p xs) ++ ps) (filter_one p x b h))
 
--- a record that is executed counts if it has a predicate
-pub executed_counts : (os ns : List Record) (r : Record) (changes : List Change) → kept_paths os (ns ++ r ∷ []) changes ≡ kept_paths os ns changes → among (kept_paths os ns changes) (next_placed ns r).path ≡ false
-    → length (queried os (ns ++ r ∷ []) changes) ≡ length (queried os ns changes) + one r.preds
-executed_counts os ns r changes same fresh =
-    ap (λ k. length (filter (test k) (with_paths (ns ++ r ∷ [])))) same
-    ∙ (ap (λ l. length (filter (test (kept_paths os ns changes)) l)) (placed_more ns r)
-    ∙ counted_more (test (kept_paths os ns changes)) (with_paths ns) (next_placed ns r) (is_some r.preds) (ap (λ b. not b && is_some r.preds) fresh))
+-- those of a record that is executed come after the others
+pub executed_asks : (os ns : List Record) (r : Record) (changes : List Change) → kept_paths os (ns ++ r ∷ []) changes ≡ kept_paths os ns changes → among (kept_paths os ns changes) (next_placed ns r).path ≡ false
+    → queried os (ns ++ r ∷ []) changes ≡ queried os ns changes ++ r.preds
+executed_asks os ns r changes same fresh =
+    ap (λ k. asked_by (filter (test k) (with_paths (ns ++ r ∷ [])))) same
+    ∙ (ap (λ l. asked_by (filter (test (kept_paths os ns changes)) l)) (placed_more ns r)
+    ∙ asked_more (test (kept_paths os ns changes)) (with_paths ns) (next_placed ns r) true (ap not fresh))
 
--- a record that is kept doesn't
-pub kept_counts : (os ns : List Record) (r : Record) (changes : List Change) → kept_paths os (ns ++ r ∷ []) changes ≡ kept_paths os ns changes ++ (next_placed ns r).path ∷ []
+-- a record that is kept adds none
+pub kept_asks : (os ns : List Record) (r : Record) (changes : List Change) → kept_paths os (ns ++ r ∷ []) changes ≡ kept_paths os ns changes ++ (next_placed ns r).path ∷ []
     → among (kept_paths os ns changes ++ (next_placed ns r).path ∷ []) (next_placed ns r).path ≡ true
-    → Each (λ (a : Placed). is_path a.path (next_placed ns r).path ≡ false) (with_paths ns) → length (queried os (ns ++ r ∷ []) changes) ≡ length (queried os ns changes)
-kept_counts os ns r changes more so apart =
+    → Each (λ (a : Placed). is_path a.path (next_placed ns r).path ≡ false) (with_paths ns) → queried os (ns ++ r ∷ []) changes ≡ queried os ns changes
+kept_asks os ns r changes more so apart =
     let k : List Path = kept_paths os ns changes in
     let p : Path = (next_placed ns r).path in
-    let counts : length (filter (test (k ++ p ∷ [])) (with_paths ns ++ next_placed ns r ∷ [])) ≡ length (filter (test (k ++ p ∷ [])) (with_paths ns)) + 0 =
-    counted_more (test (k ++ p ∷ [])) (with_paths ns) (next_placed ns r) false (ap (λ b. not b && is_some r.preds) so) in
-    let same : length (filter (test (k ++ p ∷ [])) (with_paths ns)) ≡ length (filter (test k) (with_paths ns)) = ap length (filter_same (test (k ++ p ∷ [])) (test k) (with_paths ns) (same_tests k p (with_paths ns) apart)) in
-    ap (λ k. length (filter (test k) (with_paths (ns ++ r ∷ [])))) more
-    ∙ (ap (λ l. length (filter (test (k ++ p ∷ [])) l)) (placed_more ns r)
-    ∙ omega (arith, counts, same))
+    ap (λ k. asked_by (filter (test k) (with_paths (ns ++ r ∷ [])))) more
+    ∙ (ap (λ l. asked_by (filter (test (k ++ p ∷ [])) l)) (placed_more ns r)
+    ∙ (asked_more (test (k ++ p ∷ [])) (with_paths ns) (next_placed ns r) false (ap not so)
+    ∙ (append-nil (asked_by (filter (test (k ++ p ∷ [])) (with_paths ns))) ∙ ap asked_by (filter_same (test (k ++ p ∷ [])) (test k) (with_paths ns) (same_tests k p (with_paths ns) apart)))))
 
 -- Queries
 
-times_more : (n m a b : ℕ) → n ≤ m → a ≤ b → n * a ≤ m * b
-times_more n m a b h k = let left : n * a ≤ n * b = mul-le-mul_left n k in let right : n * b ≤ m * b = mul-le-mul_right b h in omega (arith, left, right)
-
 -- no more was queried than may be now
-pub still_queried : (n m : ℕ) (ws vs : List Write) (start now : Sight) → n ≤ m → different ws ≤ different vs → QueriedTimes n ws start now → QueriedTimes m vs start now
-still_queried n m ws vs start now h k q =
-    let more : n * different ws ≤ m * different vs = times_more n m (different ws) (different vs) h k in
-    record { for_rows = omega (arith, q.for_rows, h); for_row = omega (arith, q.for_row, more) }
-
--- one query more, of the predicates of a record
-pub queried_once : (n m k : ℕ) (a b : ℕ) (start before after : Sight) → AskedAtMost n (n * b) start before → AskedAtMost k (k * a) before after → a ≤ b → n + k ≡ m → AskedAtMost m (m * b) start after
-queried_once n m k a b start before after first last le is =
-    let here : k * a ≤ k * b = mul-le-mul_left k le in
-    let all : m * b ≡ n * b + k * b = ap (λ x. x * b) (sym is) ∙ add-mul n k b in
-    record { for_rows = omega (arith, first.for_rows, last.for_rows, is); for_row = omega (arith, first.for_row, last.for_row, here, all) }
-
--- a record that was executed was queried for once, if it has a predicate
-pub asked_one : (ps : List Pred) (ws : List Write) (before after : Sight) → AskedFor ps ws before after → AskedAtMost 1 (different ws) before after → AskedAtMost (one ps) (one ps * different ws) before after
-asked_one [] ws before after h k = h
-asked_one (p ∷ ps) ws before after h k = record { for_rows = k.for_rows; for_row = let same : 1 * different ws ≡ different ws = omega arith in omega (arith, k.for_row, same) }
+pub still_queried : (ps : List Pred) (ws vs : List Write) (start now : Sight) → different ws ≤ different vs → AskedFor ps ws start now → AskedFor ps vs start now
+still_queried ps ws vs start now le q =
+    let more : length ps * different ws ≤ length ps * different vs = mul-le-mul_left (length ps) le in
+    record { for_rows = q.for_rows; for_row = omega (arith, q.for_row, more) }

@@ -2,11 +2,12 @@
 use Rattle.std.proofs.Common.{◌≡◌, ℕ, ◌+◌, ◌*◌, Bool, true, Option, List, [], ◌++◌, length, refl, sym, ap, subst, ◌∙◌, arith, append-nil}
 use Rattle.mv_values.specs.declared.calls.Call.{Call}
 use Rattle.mv_values.specs.Tables.{Tables}
+use Rattle.mv_values.specs.declared.pred.Pred.{Pred}
 use Rattle.mv_record.specs.declared.record.Record.{Record}
 use Rattle.mv_record.specs.Runs.{writes_in}
 use Rattle.mv_record.specs.Writes.{AreRising}
 use Rattle.mv_view.specs.Viewing.{Sight}
-use Rattle.mv_effect.specs.Looking.{AskedAtMost, different}
+use Rattle.mv_effect.specs.Looking.{AskedFor}
 use Rattle.mv_graph.specs.declared.graph.Graph.{Graph}
 use Rattle.mv_graph.specs.Nodes.{meaning_of}
 use Rattle.mv_exec.specs.declared.task.Task.{Task}
@@ -20,7 +21,8 @@ use Rattle.mv_repair.specs.declared.walk.NewRun.{NewRun}
 use Rattle.mv_repair.specs.Keys.{TableKeys}
 use Rattle.mv_repair.specs.Repairing.{IsRepairable, queried, HasQueried}
 use Rattle.mv_repair.specs.Walking.{hits_in, IsOld, IsNew, IsUnderway}
-use Rattle.mv_repair.proofs.Asking.{keys_within, queried_once}
+use Rattle.mv_effect.proofs.Asked.{asked_both, none_asked}
+use Rattle.mv_repair.proofs.Asking.{keys_within, still_queried}
 
 -- A call that has ended has all records of its full run
 
@@ -92,8 +94,8 @@ begun g changes db was task hs ns us ks ms vs r same none zero past kept c d u f
     begins g changes db was task _ _ r same none zero past kept (same_old hs (hits_in changes [] was.log.records) ns us c d u) (same_new ks ms vs f h v)
 
 -- nothing was queried yet
-pub none_queried : (os ns : List Record) (changes : List Change) (vain : ℕ) (now : Sight) → HasQueried os ns changes vain now now
-none_queried os ns changes vain now = record { for_rows = omega arith; for_row = omega arith }
+pub none_queried : (os ns : List Record) (changes : List Change) (vain : List Pred) (now : Sight) → HasQueried os ns changes vain now now
+none_queried os ns changes vain now = none_asked (queried os ns changes ++ vain) (writes_in (os ++ ns)) now
 
 -- The end
 
@@ -111,10 +113,10 @@ all_counted g changes db os task old new u = omega (arith, u.count)
 
 -- A record that was tried in vain
 
-pub tried : (os : List Record) (task task' : Task) (changes : List Change) (start now after : Sight) → HasQueried os task.log.records changes 0 start now → IsUnchanged task task' → AskedAtMost 1 (different (writes_in task.log.records)) now after
-    → HasQueried os task'.log.records changes 1 start after
-tried os task task' changes start now after q same last =
-    subst (λ (rs : List Record). HasQueried os rs changes 1 start after) (sym same.records)
-    (queried_once (length (queried os task.log.records changes) + 0) (length (queried os task.log.records changes) + 1) 1 (different (writes_in task.log.records)) (different (writes_in (os ++ task.log.records))) start now after q
-    (record { for_rows = last.for_rows; for_row = let one : 1 * different (writes_in task.log.records) ≡ different (writes_in task.log.records) = omega arith in omega (arith, last.for_row, one) })
-    (keys_within os task.log.records) (omega arith))
+pub tried : (os : List Record) (task task' : Task) (changes : List Change) (ps : List Pred) (start now after : Sight) → HasQueried os task.log.records changes [] start now → IsUnchanged task task' → AskedFor ps (writes_in task'.log.records) now after
+    → HasQueried os task'.log.records changes ps start after
+tried os task task' changes ps start now after q same last =
+    let rs : List Record = task'.log.records in
+    let before : HasQueried os rs changes [] start now = subst (λ (l : List Record). HasQueried os l changes [] start now) (sym same.records) q in
+    subst (λ qs. AskedFor (qs ++ ps) (writes_in (os ++ rs)) start after) (append-nil (queried os rs changes))
+    (asked_both (queried os rs changes ++ []) ps (writes_in (os ++ rs)) (writes_in (os ++ rs)) start now after (omega arith) before (still_queried ps (writes_in rs) (writes_in (os ++ rs)) now after (keys_within os rs) last))

@@ -6,6 +6,8 @@ use Rattle.std.proofs.lemmas.List.{append_cancel_left, take_all, length_push}
 use Rattle.std.proofs.lemmas.Option.{slice_get_within, slice_get-map}
 use Rattle.std.proofs.lemmas.Bool.{both_ways}
 use Rattle.mv_values.specs.Tables.{Tables}
+use Rattle.mv_values.specs.declared.pred.Pred.{Pred}
+use Rattle.mv_values.specs.declared.patch.Write.{Write}
 use Rattle.mv_record.specs.declared.record.Record.{Record}
 use Rattle.mv_record.specs.declared.record.Spot.{Spot}
 use Rattle.mv_record.specs.Effects.{record_of, effect_in}
@@ -19,13 +21,14 @@ use Rattle.mv_recorded.specs.Posts.{IsRecordAt, path_above}
 use Rattle.mv_recorded.specs.Recorded.{recorded}
 use Rattle.mv_recorded.proofs.Posting.{one_path}
 use Rattle.mv_view.specs.Viewing.{Sight}
-use Rattle.mv_effect.specs.Looking.{AskedAtMost, different}
+use Rattle.mv_effect.specs.Looking.{AskedFor, different}
 use Rattle.mv_graph.specs.declared.graph.Graph.{Graph}
 use Rattle.mv_graph.specs.Nodes.{meaning_of}
 use Rattle.mv_exec.specs.declared.task.Task.{Task}
 use Rattle.mv_exec.specs.Foreseen.{Ahead}
 use Rattle.mv_exec.specs.Running.{IsTaskOf, IsTaskOn, IsSameCall, IsSameCallOn, HasLeft, Foresees, IsAhead, HasContent, HasRun}
 use Rattle.mv_exec.proofs.Adding.{first_same}
+use Rattle.mv_effect.proofs.Asked.{asked_both}
 use Rattle.mv_exec.proofs.Fronts.{fewer_left}
 use Rattle.mv_history.specs.declared.change.Change.{Change}
 use Rattle.mv_history.specs.Kept.{Path, Placed, with_paths, next_placed, is_path, among, at, stays, keep, kept_paths, other_writes}
@@ -40,7 +43,7 @@ use Rattle.mv_repair.specs.Keys.{TableKeys}
 use Rattle.mv_repair.specs.Repairing.{queried, HasQueried}
 use Rattle.mv_repair.specs.Walking.{path_behind, is_before, is_in_place, writes_of, next_stays, stays_at, left_behind, added, renewed, IsOld, AreMarked, IsNew, IsUnderway, HasPassed, IsComeTo, HasKept, any_write, writes_at, AreKnown, AreKnownIfMany, HasLearnt, HasCaughtUp}
 use Rattle.mv_repair.specs.Stepping.{HasStepped, IsOnWay}
-use Rattle.mv_repair.proofs.Asking.{one, keys_within, keys_more, executed_counts, kept_counts, still_queried, queried_once, asked_one}
+use Rattle.mv_repair.proofs.Asking.{keys_within, keys_more, executed_asks, kept_asks, still_queried}
 use Rattle.mv_repair.proofs.Deciding.{Decides, Found, decided, found_old, names_at, not_before, in_own_place, in_place_is}
 use Rattle.mv_recorded.proofs.Inverting.{each_join, each_map}
 use Rattle.mv_alike.proofs.Walking.{climbs_parts}
@@ -433,11 +436,11 @@ kept_step g db task old mid new ahead task' old' new' now k w = record {
   queried = λ changes os start u q.
       let it : Kept g changes db os task old new u ahead task' old' new' = it_kept g changes db os task old mid new u ahead task' old' new' k in
       let b : Placed = next_placed task.log.records it.c.r in
-      let count : length (queried os (task.log.records ++ it.c.r ∷ []) changes) ≡ length (queried os task.log.records changes) =
-      kept_counts os task.log.records it.c.r changes it.kept (among_new (kept_paths os task.log.records changes) b.path) (all_apart b.path (with_paths task.log.records) it.c.before) in
-      subst (λ (l : List Record). HasQueried os l changes 0 start now) (sym it.records)
-      (still_queried (length (queried os task.log.records changes) + 0) (length (queried os (task.log.records ++ it.c.r ∷ []) changes) + 0) (writes_in (os ++ task.log.records)) (writes_in (os ++ (task.log.records ++ it.c.r ∷ []))) start now
-      (omega (arith, count)) (keys_more os task.log.records it.c.r) q);
+      let same : queried os (task.log.records ++ it.c.r ∷ []) changes ≡ queried os task.log.records changes =
+      kept_asks os task.log.records it.c.r changes it.kept (among_new (kept_paths os task.log.records changes) b.path) (all_apart b.path (with_paths task.log.records) it.c.before) in
+      subst (λ (l : List Record). HasQueried os l changes [] start now) (sym it.records)
+      (subst (λ ps. AskedFor (ps ++ []) (writes_in (os ++ (task.log.records ++ it.c.r ∷ []))) start now) (sym same)
+      (still_queried (queried os task.log.records changes ++ []) (writes_in (os ++ task.log.records)) (writes_in (os ++ (task.log.records ++ it.c.r ∷ []))) start now (keys_more os task.log.records it.c.r) q));
   less =
       let u : IsUnderway g w.changes db w.os task old new = w.underway in
       let it : Kept g w.changes db w.os task old new u ahead task' old' new' = it_kept g w.changes db w.os task old mid new u ahead task' old' new' k in
@@ -458,7 +461,6 @@ pub record Renews (g : Graph) (db : Tables) (task : Task) (old mid : OldRun) (ne
   pub kept : task'.log.kept ≡ task.log.kept
   pub on : old.at ≤ mid.at
   pub new_is : new' ≡ renewed (length task.log.records) (any_write (writes_of (slice_get task'.log.records (length task.log.records)))) new
-  pub bounded : AskedAtMost 1 (different (writes_in task.log.records)) now after
 
 -- what that leaves
 record Renewed (g : Graph) (changes : List Change) (db : Tables) (os : List Record) (task : Task) (old : OldRun) (new : NewRun) (u : IsUnderway g changes db os task old new) (ahead : Ahead) (task' : Task) (old' : OldRun) (new' : NewRun) (r : Record) : Type 0 where
@@ -519,15 +521,16 @@ renewed_step g db task old mid new ahead met task' old' new' now after k w = rec
   queried = λ changes os start u q.
       let it : Renewed g changes db os task old new u ahead task' old' new' k.ran.next = it_renewed g changes db os task old mid new u ahead met task' old' new' now after k in
       let b : Placed = next_placed task.log.records it.c.r in
-      let count : length (queried os (task.log.records ++ it.c.r ∷ []) changes) ≡ length (queried os task.log.records changes) + one it.c.r.preds =
-      executed_counts os task.log.records it.c.r changes it.kept (not_among (kept_paths os task.log.records changes) b.path it.behind) in
-      let asked : AskedAtMost (one it.c.r.preds) (one it.c.r.preds * different (writes_in task.log.records)) now after =
-      subst (λ (r : Record). AskedAtMost (one r.preds) (one r.preds * different (writes_in task.log.records)) now after) it.is (asked_one k.ran.next.preds (writes_in task.log.records) now after k.ran.asked k.bounded) in
-      let wide : different (writes_in task.log.records) ≤ different (writes_in (os ++ (task.log.records ++ it.c.r ∷ []))) = (let a = keys_within os task.log.records in let e = keys_more os task.log.records it.c.r in omega (arith, a, e)) in
-      subst (λ (l : List Record). HasQueried os l changes 0 start after) (sym it.records)
-      (queried_once (length (queried os task.log.records changes) + 0) (length (queried os (task.log.records ++ it.c.r ∷ []) changes) + 0) (one it.c.r.preds) (different (writes_in task.log.records)) (different (writes_in (os ++ (task.log.records ++ it.c.r ∷ [])))) start now after
-      (still_queried (length (queried os task.log.records changes) + 0) (length (queried os task.log.records changes) + 0) (writes_in (os ++ task.log.records)) (writes_in (os ++ (task.log.records ++ it.c.r ∷ []))) start now (omega arith) (keys_more os task.log.records it.c.r) q)
-      asked wide (omega (arith, count)));
+      let ps : List Pred = queried os task.log.records changes in
+      let vs : List Write = writes_in (os ++ (task.log.records ++ it.c.r ∷ [])) in
+      let more : queried os (task.log.records ++ it.c.r ∷ []) changes ≡ ps ++ it.c.r.preds = executed_asks os task.log.records it.c.r changes it.kept (not_among (kept_paths os task.log.records changes) b.path it.behind) in
+      let asked : AskedFor it.c.r.preds (writes_in task.log.records) now after = subst (λ (r : Record). AskedFor r.preds (writes_in task.log.records) now after) it.is k.ran.asked in
+      let all : different (writes_in (os ++ task.log.records)) ≤ different vs = keys_more os task.log.records it.c.r in
+      let wide : different (writes_in task.log.records) ≤ different vs = (let a = keys_within os task.log.records in omega (arith, a, all)) in
+      let together : (ps ++ []) ++ it.c.r.preds ≡ queried os (task.log.records ++ it.c.r ∷ []) changes ++ [] = ap (λ qs. qs ++ it.c.r.preds) (append-nil ps) ∙ (sym more ∙ sym (append-nil (queried os (task.log.records ++ it.c.r ∷ []) changes))) in
+      subst (λ (l : List Record). HasQueried os l changes [] start after) (sym it.records)
+      (subst (λ qs. AskedFor qs vs start after) together
+      (asked_both (ps ++ []) it.c.r.preds vs vs start now after (omega arith) (still_queried (ps ++ []) (writes_in (os ++ task.log.records)) vs start now all q) (still_queried it.c.r.preds (writes_in task.log.records) vs now after wide asked)));
   less =
       let u : IsUnderway g w.changes db w.os task old new = w.underway in
       let it : Renewed g w.changes db w.os task old new u ahead task' old' new' k.ran.next = it_renewed g w.changes db w.os task old mid new u ahead met task' old' new' now after k in

@@ -1,21 +1,20 @@
 -- Defines what the contract of a repair says: the runs that it needs, and how often it queries the view. That a repair
 -- executes only what depends on a change is the paper's (Dashti, Basil John, Shaikhha and Koch, SIGMOD 2017). The
 -- bounds on the queries are this project's own.
-use Rattle.std.specs.Prelude.{◌≡◌, ℕ, ◌+◌, ◌*◌, Bool, true, false, not, ◌&&◌, List, [], ◌∷◌, ◌++◌, All, length}
+use Rattle.std.specs.Prelude.{◌≡◌, true, not, List, ◌++◌, All}
 use Rattle.std.specs.List.{filter, flat_map}
 use Rattle.mv_values.specs.declared.calls.Call.{Call}
 use Rattle.mv_values.specs.declared.pred.Pred.{Pred}
-use Rattle.mv_values.specs.declared.patch.Write.{Write}
 use Rattle.mv_values.specs.Tables.{Tables}
 use Rattle.mv_record.specs.declared.record.Record.{Record}
 use Rattle.mv_record.specs.Runs.{writes_in}
 use Rattle.mv_view.specs.Viewing.{Sight}
-use Rattle.mv_effect.specs.Looking.{AskedAtMost, different}
+use Rattle.mv_effect.specs.Looking.{AskedFor}
 use Rattle.mv_graph.specs.declared.graph.Graph.{Graph}
 use Rattle.mv_exec.specs.declared.task.Task.{Task}
 use Rattle.mv_exec.specs.Running.{IsTaskOn}
 use Rattle.mv_history.specs.declared.change.Change.{Change}
-use Rattle.mv_history.specs.Kept.{Placed, with_paths, among, kept_paths}
+use Rattle.mv_history.specs.Kept.{with_paths, among, kept_paths}
 use Rattle.mv_alike.specs.Laws.{AreRuns}
 use Rattle.mv_changes.specs.declared.recent.Committed.{Committed}
 use Rattle.mv_changes.specs.Admitting.{AreAdmitted}
@@ -35,21 +34,11 @@ pub record IsRepairable (g : Graph) (task : Task) (changes : List Change) (new :
   pub runs : AreRuns g.tables g.procedure call old new changes
   pub admitted : All (AreAdmitted changes) task.log.records
 
--- there is a predicate
-abbrev pub is_some : List Pred → Bool
-is_some [] = false
-is_some (p ∷ ps) = true
+-- the predicates of the records of the new run that a repair executes
+abbrev pub queried : List Record → List Record → List Change → List Pred
+queried old new changes = flat_map (λ r. r.it.preds) (filter (λ r. not (among (kept_paths old new changes) r.path)) (with_paths new))
 
--- the records of the new run that a repair executes and that have a predicate
-abbrev pub queried : List Record → List Record → List Change → List Placed
-queried old new changes = filter (λ r. not (among (kept_paths old new changes) r.path) && is_some r.it.preds) (with_paths new)
-
--- the view was queried so many times for rows at most, and each time at most once for the row of each key that these
--- writes are on
-abbrev pub QueriedTimes : ℕ → List Write → Sight → Sight → Type 0
-QueriedTimes times ws before after = AskedAtMost times (times * different ws) before after
-
--- the view was queried at most once for each such record, over the keys that records of either run wrote, and once more
--- for each refusal
-abbrev pub HasQueried : List Record → List Record → List Change → ℕ → Sight → Sight → Type 0
-HasQueried old new changes refusals before after = QueriedTimes (length (queried old new changes) + refusals) (writes_in (old ++ new)) before after
+-- the view was queried at most once for each of them and for each of those of a record that was tried in vain, and then
+-- for each key that records of either run wrote
+abbrev pub HasQueried : List Record → List Record → List Change → List Pred → Sight → Sight → Type 0
+HasQueried old new changes vain before after = AskedFor (queried old new changes ++ vain) (writes_in (old ++ new)) before after

@@ -1,5 +1,5 @@
 -- Defines one step of a repair. This project's own.
-use Rattle.std.specs.Prelude.{◌<◌, List}
+use Rattle.std.specs.Prelude.{◌<◌, List, []}
 use Rattle.mv_values.specs.Tables.{Tables}
 use Rattle.mv_record.specs.declared.record.Record.{Record}
 use Rattle.mv_view.specs.Viewing.{Sight}
@@ -22,5 +22,5 @@ pub record IsOnWay (g : Graph) (db : Tables) (task : Task) (old : OldRun) (new :
 pub record HasStepped (g : Graph) (db : Tables) (task : Task) (old : OldRun) (new : NewRun) (task' : Task) (old' : OldRun) (new' : NewRun) (before after : Sight) : Type 0 where
   pub went : (changes : List Change) (os : List Record) → IsUnderway g changes db os task old new → IsUnderway g changes db os task' old' new'
   pub queried : (changes : List Change) (os : List Record) (start : Sight) → IsUnderway g changes db os task old new
-      → HasQueried os task.log.records changes 0 start before → HasQueried os task'.log.records changes 0 start after
+      → HasQueried os task.log.records changes [] start before → HasQueried os task'.log.records changes [] start after
   pub less : count_left g db task' < count_left g db task

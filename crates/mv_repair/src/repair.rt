@@ -4,9 +4,9 @@ ghost use Rattle.std.specs.Prelude.{◌≡◌, ◌<◌, ◌≤◌, false, true, 
 ghost use Rattle.mv_values.specs.declared.calls.Call.{Call};
 ghost use Rattle.mv_record.specs.Runs.{writes_in};
 ghost use Rattle.mv_record.specs.Databases.{IsDatabaseOf};
-ghost use Rattle.mv_effect.specs.Looking.{AskedAtMost, OnlyAsks, different};
+ghost use Rattle.mv_effect.specs.Looking.{AskedFor, OnlyAsks};
 ghost use Rattle.mv_graph.specs.Nodes.{IsSound, meaning_of};
-ghost use Rattle.mv_exec.specs.Running.{IsRunning, IsRunningOn, IsSameCall, IsSameCallOn, IsTaskOf, IsTaskOn, IsUnchanged, HasRun, refusals};
+ghost use Rattle.mv_exec.specs.Running.{IsRunning, IsRunningOn, IsSameCall, IsSameCallOn, IsTaskOf, IsTaskOn, IsUnchanged, HasRun, if_refused, preds_ahead};
 ghost use Rattle.mv_history.specs.Kept.{executions};
 ghost use Rattle.mv_repair.specs.Repairing.{changes_since, IsRepairable, HasQueried};
 ghost use Rattle.mv_repair.specs.Walking.{any_write, writes_of, renewed, HasKept};
@@ -79,7 +79,7 @@ fn renew<V: View>(
     ensures kept { task.new.log.kept ≡ task.old.log.kept }
     ensures err { OnErr result (IsUnchanged task.old task.new) }
     ensures view { OnlyAsks (V.sight view.old) (V.sight view.new) result }
-    ensures bounded { AskedAtMost 1 (different (writes_in task.old.log.records)) (V.sight view.old) (V.sight view.new) }
+    ensures tried { OnErr result (AskedFor (preds_ahead graph.now (V.sight view.old).database task.new) (writes_in task.new.log.records) (V.sight view.old) (V.sight view.new)) }
 {
     let number = task.records().len();
     new.add_executed(number)?;
@@ -104,7 +104,7 @@ fn step<V: View>(
     ensures stepped { OnOk result (HasStepped graph.now (V.sight view.old).database task.old old.old new.old task.new old.new new.new (V.sight view.old) (V.sight view.new)) }
     ensures err { OnErr result (IsUnchanged task.old task.new) }
     ensures view { OnlyAsks (V.sight view.old) (V.sight view.new) result }
-    ensures bounded { AskedAtMost 1 (different (writes_in task.old.log.records)) (V.sight view.old) (V.sight view.new) }
+    ensures tried { OnErr result (AskedFor (preds_ahead graph.now (V.sight view.old).database task.new) (writes_in task.new.log.records) (V.sight view.old) (V.sight view.new)) }
 {
     let Some(ahead) = peek(graph, task) else {
         unreachable!();
@@ -153,7 +153,7 @@ pub fn repair<V: View>(
     ensures ended { OnOk result (task.new.ended ≡ true) }
     ensures executed { OnOk result (task.new.executed ≡ executions task.old.log.records task.new.log.records (changes_since since.now)) }
     ensures answer { IfOk result (λ count. count ≡ task.new.executed) }
-    ensures queried { HasQueried task.old.log.records task.new.log.records (changes_since since.now) (refusals result) (V.sight view.old) (V.sight view.new) }
+    ensures queried { HasQueried task.old.log.records task.new.log.records (changes_since since.now) (if_refused result (preds_ahead graph.now (V.sight view.old).database task.new)) (V.sight view.old) (V.sight view.new) }
     ensures view { OnlyAsks (V.sight view.old) (V.sight view.new) result }
 {
     let hits = hits_of(alloc, &task.records(), task.undo(), since)?;

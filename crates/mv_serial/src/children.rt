@@ -2,22 +2,17 @@
 
 ghost use Rattle.std.specs.Prelude.{◌≡◌, ◌≤◌, ◌∷◌, [], All, IfOk, length, map};
 ghost use Rattle.std.specs.List.{filter, list_any};
-ghost use Rattle.mv_values.specs.declared.op.Op.TheVariants.{Eq};
 ghost use Rattle.mv_values.specs.References.{reference, references_from, references_to};
 ghost use Rattle.mv_values.specs.Tables.{rows_at, KeysStand};
 ghost use Rattle.mv_table.specs.Entries.{seen};
 ghost use Rattle.mv_catalog.specs.Text.{IsTable};
 ghost use Rattle.mv_alone.specs.FirstRows.{AdmitMatches};
 ghost use Rattle.mv_alone.specs.References.{holds_key, left_in};
-ghost use Rattle.mv_alone.specs.Rows.{test_on};
 ghost use Rattle.mv_serial.specs.Removing.{stays, to_table, have_children};
 
-use mv_alone::find::{key_in, matches_in, test_on};
+use mv_alone::find::{key_in, matches_in, tests_of_key};
 use mv_table::table::{Entry, Tables};
-use mv_values::copied::Copied;
-use mv_values::list::List;
 use mv_values::memory::NoMemory;
-use mv_values::op::Op;
 use mv_values::pred::{Test, meets};
 use mv_values::schema::{Column, TableInfo};
 use mv_values::value::{Key, Value};
@@ -47,18 +42,6 @@ fn one_stays(removed: &Removed<'_>, table: u16, rows: &[Entry<'_>]) -> bool
         }
     }
     false
-}
-
-/// Returns the tests that a column holds a key.
-fn tests_of_key(alloc: Global, keys: &[u8], column: u8, key: &Key) -> Result<List<Test>, NoMemory>
-    requires { length keys.now ≤ 256 }
-    ensures { IfOk result (λ tests. tests ≡ map (λ v. test_on keys.now column Eq v) key.now) }
-{
-    let mut tests = List::with_room(alloc, key.len())?;
-    for value in key.as_slice() {
-        tests.push(test_on(keys, column, Op::Eq, value.copy(alloc)?))?;
-    }
-    Ok(tests)
 }
 
 /// Borrows the rows of a table that hold the key in this column. Visits the rows in the span of keys that the value

@@ -1,17 +1,17 @@
 //! Whether the parents of rows are there.
 
-ghost use Rattle.std.specs.Prelude.{◌≡◌, ◌∷◌, [], IfOk, slice_get};
+ghost use Rattle.std.specs.Prelude.{◌≡◌, ◌∷◌, [], IfOk};
 ghost use Rattle.std.specs.List.{AllByRecursion};
 ghost use Rattle.std.specs.Option.{is_some};
 ghost use Rattle.mv_values.specs.Columns.{column_of};
 ghost use Rattle.mv_values.specs.Patching.{row_of};
-ghost use Rattle.mv_values.specs.References.{Reference, reference, references, references_from, parent_in, has_key, is_there, HaveOneKey, ParentsHaveOneKey};
+ghost use Rattle.mv_values.specs.References.{Reference, reference, references, references_from, is_there, HaveOneKey, ParentsHaveOneKey};
 ghost use Rattle.mv_values.specs.Tables.{rows_at};
 ghost use Rattle.mv_alone.specs.Outcome.{Gives};
 ghost use Rattle.mv_alone.specs.References.{has_parents, with_parent, fit_in};
 ghost use Rattle.mv_serial.specs.Referring.{IsOneKeyed};
 
-use mv_alone::find::columns_in;
+use mv_alone::find::{columns_in, is_under, parent_in};
 use mv_alone::made::fit_at;
 use mv_alone::state::Stop;
 use mv_table::table::{Table, Tables};
@@ -52,13 +52,6 @@ fn is_there(alloc: Global, tables: &Tables, table: u8, value: &Value) -> Result<
 
 // INSERT
 
-/// Whether the row's key is the value.
-fn has_key(value: &Value, item: &Keyed) -> bool
-    ensures { result ≡ has_key value.now item.now }
-{
-    item.key.as_slice().iter().all(|w| w.order(value).is_eq())
-}
-
 /// Returns the value of a column. A column that the row lacks counts as 0.
 fn value_of(alloc: Global, row: &[Value], column: usize) -> Result<Value, NoMemory>
     ensures { IfOk result (λ v. v ≡ column_of row.now column) }
@@ -82,7 +75,7 @@ fn has_parent(
     ensures { IfOk result (λ b. b ≡ has_parents (record { table = table; column = column; parent = parent } ∷ []) item.now tables.now) }
 {
     let value = value_of(alloc, item.row.as_slice(), column)?;
-    if parent as u16 == table && has_key(&value, item) {
+    if parent as u16 == table && is_under(item, &value) {
         return Ok(true);
     }
     is_there(alloc, tables, parent, &value)
@@ -141,16 +134,6 @@ pub(crate) fn has_parents(
 }
 
 // UPDATE
-
-/// Returns the number of the parent table of a column, if it has REFERENCES.
-fn parent_in(columns: &[Column], column: u16) -> Option<u8>
-    ensures { result ≡ parent_in (slice_get columns.now column) }
-{
-    match columns.get(column as usize) {
-        Some(column) => column.refers,
-        None => None,
-    }
-}
 
 /// Returns the value if its parent is there, and ends the call with `MissingParent` otherwise. Costs one look-up, if
 /// there is a parent table.

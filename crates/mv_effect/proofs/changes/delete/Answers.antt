@@ -1,21 +1,79 @@
-use Rattle.std.proofs.Common.{ap, ◌∙◌}
-use Rattle.mv_values.specs.Patching.{applied}
+use Rattle.std.proofs.Common.{◌≡◌, ◌∷◌, List, OnOk, map, refl, sym, ap, subst, ◌∙◌}
+use Rattle.std.proofs.lemmas.Result.{on_ok_weaker}
+use Rattle.mv_values.specs.declared.pred.Pred.{Pred}
+use Rattle.mv_values.specs.declared.rows.Keyed.{Keyed}
+use Rattle.mv_values.specs.declared.patch.Patch.TheVariants as patch
+use Rattle.mv_values.specs.Patching.{applied, found_by}
+use Rattle.mv_catalog.specs.declared.resolved.RStmt.TheOpen.{Delete}
+use Rattle.mv_alone.specs.Rows.{is_some_row}
 use Rattle.mv_log.specs.Logged.{Logged}
+use Rattle.mv_record.proofs.Patching.{rising_applied}
+use Rattle.mv_recorded.specs.Asking.{first_fault, preds_up_to, delete_checks}
+use Rattle.mv_recorded.specs.Doing.{write}
+use Rattle.mv_recorded.specs.Effects.{effect_unless}
+use Rattle.mv_recorded.proofs.Told.{delete_done}
 use Rattle.mv_undo.specs.Owning.{earlier}
-use Rattle.mv_effect.proofs.Asked.{asked_one}
-use Rattle.mv_recorded.proofs.Altered.{delete_goes}
+use Rattle.mv_effect.specs.Looking.{AreSoundTables, AskedFor}
+use Rattle.mv_effect.proofs.Asked.{asked_all, asked_by, asked_first, none_asked_by}
+use Rattle.mv_effect.proofs.Checking.{unless_preds}
+use Rattle.mv_effect.proofs.Ends.{effect_alone}
 use Rattle.mv_effect.proofs.changes.delete.Goals as goal
 
+pub delete_rows-requires-clause-stands : goal.delete_rows-requires-clause-stands
+delete_rows-requires-clause-stands g c = subst (λ (d : List (List Keyed)). AreSoundTables c.args.context.now.tables.now (earlier c.args.context.now.number c.args.context.now.undo.now) d) (sym c.in_ok-rows.ensures.view.same.database) c.requires.stands
+
 pub returns-clause-effect : goal.returns-clause-effect
-returns-clause-effect g c = λ lines.
-    let db = applied (earlier c.args.context.now.number c.args.context.now.undo.now) (g.V.View.sight c.args.view.now).database in
-    ap (λ (l : Logged). l.effect) c.in_ok-delete_rows.ensures.ok
-    ∙ delete_goes c.args.context.now.tables.now c.args.table c.args.conds.now c.args.context.now.env.now db c.in-Ok.pred c.in_ok-rows.rows c.in-Ok.ensures.asks c.in_ok-rows.ensures.found lines
+returns-clause-effect g c =
+    let tables = c.args.context.now.tables.now in
+    let env = c.args.context.now.env.now in
+    let ws = earlier c.args.context.now.number c.args.context.now.undo.now in
+    let before = g.V.View.sight c.args.view.now in
+    let mid = g.V.View.sight c.visible_rows.new.view in
+    let t = c.args.table in
+    let rows = c.in_ok-rows.rows in
+    let made = λ (rows : List Keyed) (db : List (List Keyed)). effect_unless (first_fault (delete_checks tables t rows) db) (c.in-Ok.pred ∷ preds_up_to (delete_checks tables t rows) db) (is_some_row rows) (map (λ (item : Keyed). write t item.key patch.Delete) rows) env in
+    let rises = rising_applied ws before.database c.requires.stands.database.rising t in
+    let log : Logged = c.args.log.now in
+    let ok = subst (λ (d : List (List Keyed)). OnOk c.delete_rows.result (c.delete_rows.new.log ≡ record log { effect = made rows (applied ws d) })) c.in_ok-rows.ensures.view.same.database c.delete_rows.ensures.ok in
+    on_ok_weaker c.delete_rows.result
+    (λ is lines. ap (λ (l : Logged). l.effect) is ∙ delete_done tables t c.args.conds.now env (applied ws before.database) c.in-Ok.pred rows rises c.in-Ok.ensures.asks c.in_ok-rows.ensures.found lines) ok
+
+pub returns-clause-rest : goal.returns-clause-rest
+returns-clause-rest g c = on_ok_weaker c.delete_rows.result (λ is. effect_alone c.args.log.now c.delete_rows.new.log _ is) c.delete_rows.ensures.ok
 
 pub returns-clause-looks : goal.returns-clause-looks
 returns-clause-looks g c =
-    asked_one c.delete_rows.new.log.effect.preds c.in-Ok.pred (earlier c.args.context.now.number c.args.context.now.undo.now) (g.V.View.sight c.args.view.now) (g.V.View.sight c.visible_rows.new.view)
-    (ap (λ (l : Logged). l.effect.preds) c.in_ok-delete_rows.ensures.ok) c.in_ok-rows.ensures.looks
+    let tables = c.args.context.now.tables.now in
+    let env = c.args.context.now.env.now in
+    let ws = earlier c.args.context.now.number c.args.context.now.undo.now in
+    let before = g.V.View.sight c.args.view.now in
+    let mid = g.V.View.sight c.visible_rows.new.view in
+    let t = c.args.table in
+    let rows = c.in_ok-rows.rows in
+    let made = λ (rows : List Keyed) (db : List (List Keyed)). effect_unless (first_fault (delete_checks tables t rows) db) (c.in-Ok.pred ∷ preds_up_to (delete_checks tables t rows) db) (is_some_row rows) (map (λ (item : Keyed). write t item.key patch.Delete) rows) env in
+    let rises = rising_applied ws before.database c.requires.stands.database.rising t in
+    let db = applied ws before.database in
+    let after = g.V.View.sight c.delete_rows.new.view in
+    let ps = preds_up_to (delete_checks tables t rows) db in
+    let later = subst (λ (d : List (List Keyed)). AskedFor (preds_up_to (delete_checks tables t rows) (applied ws d)) ws mid after) c.in_ok-rows.ensures.view.same.database c.delete_rows.ensures.looks in
+    asked_by tables (Delete t c.args.conds.now) env ws before after (made rows db) (delete_done tables t c.args.conds.now env db c.in-Ok.pred rows rises c.in-Ok.ensures.asks c.in_ok-rows.ensures.found)
+    (subst (λ (qs : List Pred). AskedFor qs ws before after) (sym (unless_preds _ _ _ _ env)) (asked_all c.in-Ok.pred ps ws before mid after c.in_ok-rows.ensures.looks later))
+
+pub returns-in_err-rows-clause-looks : goal.returns-in_err-rows-clause-looks
+returns-in_err-rows-clause-looks g c =
+    let tables = c.args.context.now.tables.now in
+    let env = c.args.context.now.env.now in
+    let ws = earlier c.args.context.now.number c.args.context.now.undo.now in
+    let before = g.V.View.sight c.args.view.now in
+    let after = g.V.View.sight c.visible_rows.new.view in
+    let t = c.args.table in
+    let db = applied ws before.database in
+    let rows = found_by c.in-Ok.pred db in
+    asked_by tables (Delete t c.args.conds.now) env ws before after _ (delete_done tables t c.args.conds.now env db c.in-Ok.pred rows (rising_applied ws before.database c.requires.stands.database.rising t) c.in-Ok.ensures.asks refl)
+    (subst (λ (qs : List Pred). AskedFor qs ws before after) (sym (unless_preds _ _ _ _ env)) (asked_first c.in-Ok.pred (preds_up_to (delete_checks tables t rows) db) ws before after c.visible_rows.ensures.looks))
+
+pub returns-in-Err-clause-looks : goal.returns-in-Err-clause-looks
+returns-in-Err-clause-looks g c = none_asked_by c.args.context.now.tables.now (Delete c.args.table c.args.conds.now) c.args.context.now.env.now (earlier c.args.context.now.number c.args.context.now.undo.now) (g.V.View.sight c.args.view.now)
 
 pub returns-in-Err-clause-view : goal.returns-in-Err-clause-view
 returns-in-Err-clause-view g c = c.stop_unasked.ensures.view (g.V.View.sight c.args.view.now)

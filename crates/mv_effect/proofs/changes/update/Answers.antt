@@ -1,27 +1,146 @@
-use Rattle.std.proofs.Common.{ap, refl, ◌∙◌}
-use Rattle.mv_values.specs.Patching.{applied}
+use Rattle.std.proofs.Common.{◌≡◌, ◌∷◌, List, OnOk, refl, sym, ap, subst, ◌∙◌}
+use Rattle.std.proofs.lemmas.Result.{on_ok_weaker}
+use Rattle.mv_values.specs.declared.pred.Pred.{Pred}
+use Rattle.mv_values.specs.declared.rows.Keyed.{Keyed}
+use Rattle.mv_values.specs.Patching.{applied, found_by}
 use Rattle.mv_catalog.specs.declared.resolved.RSetItem.{RSetItem}
+use Rattle.mv_catalog.specs.declared.resolved.RStmt.TheOpen.{Update}
+use Rattle.mv_alone.specs.Rows.{is_some_row}
 use Rattle.mv_log.specs.Logged.{Logged}
+use Rattle.mv_recorded.specs.Asking.{on, first_fault, preds_up_to, update_checks}
+use Rattle.mv_recorded.specs.Effects.{changes, effect_unless, new_of}
+use Rattle.mv_recorded.proofs.Checked.{update_plain}
+use Rattle.mv_recorded.proofs.Told.{update_done}
 use Rattle.mv_undo.specs.Owning.{earlier}
-use Rattle.mv_effect.proofs.Asked.{asked_one}
+use Rattle.mv_effect.specs.Looking.{AreSoundTables, AskedFor}
+use Rattle.mv_effect.proofs.Asked.{asked_all, asked_by, asked_first, none_asked_by}
+use Rattle.mv_effect.proofs.Checking.{unless_preds}
+use Rattle.mv_effect.proofs.Ends.{effect_alone, plain_after}
 use Rattle.mv_effect.proofs.Few.{bytes_of}
-use Rattle.mv_recorded.proofs.Altered.{update_done}
-use Rattle.mv_recorded.proofs.Congruent.{then_preds}
+use Rattle.mv_effect.proofs.Referring.{none_set}
 use Rattle.mv_effect.proofs.changes.update.Goals as goal
+
+pub set_rows-requires-clause-columns : goal.set_rows-requires-clause-columns
+set_rows-requires-clause-columns g c = bytes_of (λ (i : RSetItem). i.column) c.args.context.now.tables.now c.args.update.now.table c.args.update.now.items.now c.requires.stands.each c.requires.sets.columns
 
 pub update_rows-requires-clause-columns : goal.update_rows-requires-clause-columns
 update_rows-requires-clause-columns g c = bytes_of (λ (i : RSetItem). i.column) c.args.context.now.tables.now c.args.update.now.table c.args.update.now.items.now c.requires.stands.each c.requires.sets.columns
 
+pub update_rows-requires-clause-stands : goal.update_rows-requires-clause-stands
+update_rows-requires-clause-stands g c = subst (λ (d : List (List Keyed)). AreSoundTables c.args.context.now.tables.now (earlier c.args.context.now.number c.args.context.now.undo.now) d) (sym c.in_ok-rows.ensures.view.same.database) c.requires.stands
+
+-- a column with REFERENCES is set
+
+pub returns-then-sets_reference-clause-effect : goal.returns-then-sets_reference-clause-effect
+returns-then-sets_reference-clause-effect g c =
+    let tables = c.args.context.now.tables.now in
+    let env = c.args.context.now.env.now in
+    let ws = earlier c.args.context.now.number c.args.context.now.undo.now in
+    let before = g.V.View.sight c.args.view.now in
+    let mid = g.V.View.sight c.visible_rows.new.view in
+    let t = c.args.update.now.table in
+    let items = c.args.update.now.items.now in
+    let db = applied ws before.database in
+    let rows = c.in_ok-rows.rows in
+    let made =
+    λ (db : List (List Keyed)). effect_unless (first_fault (update_checks tables t items env rows) db) (c.in-Ok.pred ∷ preds_up_to (update_checks tables t items env rows) db) (is_some_row rows) (on (changes t items (new_of tables t env items) rows) (λ vs. vs)) env in
+    let log : Logged = c.args.log.now in
+    let ok = subst (λ (d : List (List Keyed)). OnOk c.update_rows.result (c.update_rows.new.log ≡ record log { effect = made (applied ws d) })) c.in_ok-rows.ensures.view.same.database c.update_rows.ensures.ok in
+    on_ok_weaker c.update_rows.result (λ is lines. ap (λ (l : Logged). l.effect) is ∙ update_done tables t items c.args.update.now.conds.now env db c.in-Ok.pred rows c.requires.stands.behind c.in-Ok.ensures.asks c.in_ok-rows.ensures.found lines) ok
+
+pub returns-then-sets_reference-clause-rest : goal.returns-then-sets_reference-clause-rest
+returns-then-sets_reference-clause-rest g c = on_ok_weaker c.update_rows.result (λ is. effect_alone c.args.log.now c.update_rows.new.log _ is) c.update_rows.ensures.ok
+
+pub returns-then-sets_reference-clause-looks : goal.returns-then-sets_reference-clause-looks
+returns-then-sets_reference-clause-looks g c =
+    let tables = c.args.context.now.tables.now in
+    let env = c.args.context.now.env.now in
+    let ws = earlier c.args.context.now.number c.args.context.now.undo.now in
+    let before = g.V.View.sight c.args.view.now in
+    let mid = g.V.View.sight c.visible_rows.new.view in
+    let t = c.args.update.now.table in
+    let items = c.args.update.now.items.now in
+    let db = applied ws before.database in
+    let rows = c.in_ok-rows.rows in
+    let made =
+    λ (db : List (List Keyed)). effect_unless (first_fault (update_checks tables t items env rows) db) (c.in-Ok.pred ∷ preds_up_to (update_checks tables t items env rows) db) (is_some_row rows) (on (changes t items (new_of tables t env items) rows) (λ vs. vs)) env in
+    let after = g.V.View.sight c.update_rows.new.view in
+    let later = subst (λ (d : List (List Keyed)). AskedFor (preds_up_to (update_checks tables t items env rows) (applied ws d)) ws mid after) c.in_ok-rows.ensures.view.same.database c.update_rows.ensures.looks in
+    asked_by tables (Update t items c.args.update.now.conds.now) env ws before after (made db) (update_done tables t items c.args.update.now.conds.now env db c.in-Ok.pred rows c.requires.stands.behind c.in-Ok.ensures.asks c.in_ok-rows.ensures.found)
+    (subst (λ (qs : List Pred). AskedFor qs ws before after) (sym (unless_preds _ _ _ _ env)) (asked_all c.in-Ok.pred (preds_up_to (update_checks tables t items env rows) db) ws before mid after c.in_ok-rows.ensures.looks later))
+
+-- none is set
+
 pub returns-clause-effect : goal.returns-clause-effect
 returns-clause-effect g c = λ lines.
-    let db = applied (earlier c.args.context.now.number c.args.context.now.undo.now) (g.V.View.sight c.args.view.now).database in
-    ap (λ (l : Logged). l.effect) c.in_ok-update_rows.ensures.ok
-    ∙ update_done c.args.context.now.tables.now c.args.update.now.table c.args.update.now.items.now c.args.update.now.conds.now c.args.context.now.env.now db c.in-Ok.pred c.in_ok-rows.rows c.in-Ok.ensures.asks c.in_ok-rows.ensures.found lines
+    let tables = c.args.context.now.tables.now in
+    let env = c.args.context.now.env.now in
+    let ws = earlier c.args.context.now.number c.args.context.now.undo.now in
+    let before = g.V.View.sight c.args.view.now in
+    let mid = g.V.View.sight c.visible_rows.new.view in
+    let t = c.args.update.now.table in
+    let items = c.args.update.now.items.now in
+    let db = applied ws before.database in
+    let rows = c.in_ok-rows.rows in
+    let made =
+    λ (db : List (List Keyed)). effect_unless (first_fault (update_checks tables t items env rows) db) (c.in-Ok.pred ∷ preds_up_to (update_checks tables t items env rows) db) (is_some_row rows) (on (changes t items (new_of tables t env items) rows) (λ vs. vs)) env in
+    let plain = update_plain tables t db env items rows (none_set tables t items (sym c.sets_reference.ensures ∙ c.if-sets_reference.false)) in
+    ap (λ (l : Logged). l.effect) c.in_ok-set_rows.ensures.ok
+    ∙ (plain_after c.in-Ok.pred (changes t items (new_of tables t env items) rows) (first_fault (update_checks tables t items env rows) db) (preds_up_to (update_checks tables t items env rows) db) (is_some_row rows) env plain.0 plain.1
+    ∙ update_done tables t items c.args.update.now.conds.now env db c.in-Ok.pred rows c.requires.stands.behind c.in-Ok.ensures.asks c.in_ok-rows.ensures.found lines)
 
 pub returns-clause-looks : goal.returns-clause-looks
 returns-clause-looks g c =
-    asked_one c.update_rows.new.log.effect.preds c.in-Ok.pred (earlier c.args.context.now.number c.args.context.now.undo.now) (g.V.View.sight c.args.view.now) (g.V.View.sight c.visible_rows.new.view)
-    (ap (λ (l : Logged). l.effect.preds) c.in_ok-update_rows.ensures.ok ∙ then_preds c.in-Ok.pred _ _ (λ ws. refl)) c.in_ok-rows.ensures.looks
+    let tables = c.args.context.now.tables.now in
+    let env = c.args.context.now.env.now in
+    let ws = earlier c.args.context.now.number c.args.context.now.undo.now in
+    let before = g.V.View.sight c.args.view.now in
+    let mid = g.V.View.sight c.visible_rows.new.view in
+    let t = c.args.update.now.table in
+    let items = c.args.update.now.items.now in
+    let db = applied ws before.database in
+    let rows = c.in_ok-rows.rows in
+    let made =
+    λ (db : List (List Keyed)). effect_unless (first_fault (update_checks tables t items env rows) db) (c.in-Ok.pred ∷ preds_up_to (update_checks tables t items env rows) db) (is_some_row rows) (on (changes t items (new_of tables t env items) rows) (λ vs. vs)) env in
+    asked_by tables (Update t items c.args.update.now.conds.now) env ws before mid (made db) (update_done tables t items c.args.update.now.conds.now env db c.in-Ok.pred rows c.requires.stands.behind c.in-Ok.ensures.asks c.in_ok-rows.ensures.found)
+    (subst (λ (qs : List Pred). AskedFor qs ws before mid) (sym (unless_preds _ _ _ _ env)) (asked_first c.in-Ok.pred (preds_up_to (update_checks tables t items env rows) db) ws before mid c.in_ok-rows.ensures.looks))
+
+pub returns-in_err-set_rows-clause-looks : goal.returns-in_err-set_rows-clause-looks
+returns-in_err-set_rows-clause-looks g c =
+    let tables = c.args.context.now.tables.now in
+    let env = c.args.context.now.env.now in
+    let ws = earlier c.args.context.now.number c.args.context.now.undo.now in
+    let before = g.V.View.sight c.args.view.now in
+    let mid = g.V.View.sight c.visible_rows.new.view in
+    let t = c.args.update.now.table in
+    let items = c.args.update.now.items.now in
+    let db = applied ws before.database in
+    let rows = c.in_ok-rows.rows in
+    let made =
+    λ (db : List (List Keyed)). effect_unless (first_fault (update_checks tables t items env rows) db) (c.in-Ok.pred ∷ preds_up_to (update_checks tables t items env rows) db) (is_some_row rows) (on (changes t items (new_of tables t env items) rows) (λ vs. vs)) env in
+    asked_by tables (Update t items c.args.update.now.conds.now) env ws before mid (made db) (update_done tables t items c.args.update.now.conds.now env db c.in-Ok.pred rows c.requires.stands.behind c.in-Ok.ensures.asks c.in_ok-rows.ensures.found)
+    (subst (λ (qs : List Pred). AskedFor qs ws before mid) (sym (unless_preds _ _ _ _ env)) (asked_first c.in-Ok.pred (preds_up_to (update_checks tables t items env rows) db) ws before mid c.in_ok-rows.ensures.looks))
+
+-- the rows weren't found
+
+pub returns-in_err-rows-clause-looks : goal.returns-in_err-rows-clause-looks
+returns-in_err-rows-clause-looks g c =
+    let tables = c.args.context.now.tables.now in
+    let env = c.args.context.now.env.now in
+    let ws = earlier c.args.context.now.number c.args.context.now.undo.now in
+    let before = g.V.View.sight c.args.view.now in
+    let mid = g.V.View.sight c.visible_rows.new.view in
+    let t = c.args.update.now.table in
+    let items = c.args.update.now.items.now in
+    let db = applied ws before.database in
+    let rows = found_by c.in-Ok.pred db in
+    let made =
+    λ (db : List (List Keyed)). effect_unless (first_fault (update_checks tables t items env rows) db) (c.in-Ok.pred ∷ preds_up_to (update_checks tables t items env rows) db) (is_some_row rows) (on (changes t items (new_of tables t env items) rows) (λ vs. vs)) env in
+    asked_by tables (Update t items c.args.update.now.conds.now) env ws before mid (made db) (update_done tables t items c.args.update.now.conds.now env db c.in-Ok.pred rows c.requires.stands.behind c.in-Ok.ensures.asks refl)
+    (subst (λ (qs : List Pred). AskedFor qs ws before mid) (sym (unless_preds _ _ _ _ env)) (asked_first c.in-Ok.pred (preds_up_to (update_checks tables t items env rows) db) ws before mid c.visible_rows.ensures.looks))
+
+pub returns-in-Err-clause-looks : goal.returns-in-Err-clause-looks
+returns-in-Err-clause-looks g c = none_asked_by c.args.context.now.tables.now (Update c.args.update.now.table c.args.update.now.items.now c.args.update.now.conds.now) c.args.context.now.env.now (earlier c.args.context.now.number c.args.context.now.undo.now) (g.V.View.sight c.args.view.now)
 
 pub returns-in-Err-clause-view : goal.returns-in-Err-clause-view
 returns-in-Err-clause-view g c = c.stop_unasked.ensures.view (g.V.View.sight c.args.view.now)

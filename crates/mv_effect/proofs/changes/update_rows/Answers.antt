@@ -1,32 +1,55 @@
-use Rattle.std.proofs.Common.{◌∷◌, [], refl, ap, subst, sym, ◌∙◌}
-use Rattle.mv_alone.specs.Rows.{is_some_row}
-use Rattle.mv_alone.specs.Env.{with_found}
-use Rattle.mv_alone.specs.Outcome.{Fails}
+use Rattle.std.proofs.Common.{◌∷◌, [], ◌<◌, map, true, sym, ap, ◌∙◌, arith}
+use Rattle.mv_values.specs.Patching.{applied}
 use Rattle.mv_log.specs.Logged.{Logged}
-use Rattle.mv_record.specs.declared.effect.Effect.{Effect}
-use Rattle.mv_recorded.specs.Effects.{changes, new_of, only_asks, effect_of_writes, slots_behind}
-use Rattle.mv_effect.specs.Logging.{with_sets, with_writes}
-use Rattle.mv_effect.proofs.Ends.{goes_on, ends_there}
+use Rattle.mv_undo.specs.Owning.{earlier}
+use Rattle.mv_alone.specs.Rows.{is_some_row}
+use Rattle.mv_recorded.specs.Asking.{on, first_fault, update_checks}
+use Rattle.mv_recorded.specs.Effects.{changes, new_of}
+use Rattle.mv_recorded.proofs.Checked.{update_checked}
+use Rattle.mv_effect.proofs.Referring.{follows_on}
+use Rattle.mv_effect.proofs.Asked.{none_asked}
+use Rattle.mv_effect.proofs.Checking.{asks_nothing, checked_ends, checked_passes, no_sets, no_writes}
 use Rattle.mv_effect.proofs.changes.update_rows.Goals as goal
 
-pub returns-in-Ok-clause-ok : goal.returns-in-Ok-clause-ok
-returns-in-Ok-clause-ok c =
-    let log : Logged = c.args.log.now in
-    let env = c.args.context.now.env.now in
-    let meant = changes c.args.update.now.table c.args.update.now.items.now (new_of c.args.context.now.tables.now c.args.update.now.table env c.args.update.now.items.now) in
-    let ws = c.push_sets.new.log.effect.writes in
-    let slots = slots_behind (with_found env c.is_any.result) (env.found ∷ []) in
-    goes_on c.args.pred (meant c.args.rows.now) (λ ws. effect_of_writes c.args.pred (is_some_row c.args.rows.now) ws env) ws log c.push_found.new.log (with_sets c.push_sets.new.log slots) c.push_found.result
-    (sym (ap meant c.as_slice.ensures.items) ∙ c.in-Ok.ensures.writes) c.push_found.ensures.ok
-    (ap (λ (l : Logged). with_sets l slots) (c.push_sets.ensures.rest ∙ ap (λ (l : Logged). with_writes l ws) c.in_ok-ask.ensures.ok) ∙ ap (λ b. record log { effect = effect_of_writes c.args.pred b ws env }) c.is_any.ensures)
+pub check_update-requires-clause-begins : goal.check_update-requires-clause-begins
+check_update-requires-clause-begins g c = record { tests = ap (λ (l : Logged). l.tests) c.in_ok-ask.ensures.ok ∙ c.requires.blank.tests; columns = ap (λ (l : Logged). l.columns) c.in_ok-ask.ensures.ok ∙ c.requires.blank.columns }
 
-pub returns-in-Err-clause-ok : goal.returns-in-Err-clause-ok
-returns-in-Err-clause-ok c =
-    let log : Logged = c.args.log.now in
-    let env = c.args.context.now.env.now in
-    let meant = changes c.args.update.now.table c.args.update.now.items.now (new_of c.args.context.now.tables.now c.args.update.now.table env c.args.update.now.items.now) in
-    let ws = c.push_sets.new.log.effect.writes in
-    let asked : Effect = only_asks c.args.pred in
-    ends_there c.args.pred (meant c.args.rows.now) (λ ws. effect_of_writes c.args.pred (is_some_row c.args.rows.now) ws env) (record asked { writes = ws }) log c.push_sets.new.log c.stop.new.log c.in-Err.reason c.stop.result
-    (c.push_sets.ensures.rest ∙ ap (λ (l : Logged). with_writes l ws) c.in_ok-ask.ensures.ok) refl c.stop.ensures.ended
-    (subst (Fails c.in-Err.reason) (ap meant c.as_slice.ensures.items) c.in-Err.ensures.writes)
+pub returns-in-Some-clause-ok : goal.returns-in-Some-clause-ok
+returns-in-Some-clause-ok g c =
+    let ws = earlier c.args.context.now.number c.args.context.now.undo.now in
+    let db = applied ws (g.V.View.sight c.args.view.now).database in
+    let cs = update_checks c.args.context.now.tables.now c.args.update.now.table c.args.update.now.items.now c.args.context.now.env.now c.args.rows.now in
+    checked_ends c.args.log.now c.ask.new.log c.check_update.new.log c.end.new.log (c.args.pred ∷ []) cs db c.in-Some.fault (is_some_row c.args.rows.now) (on (changes c.args.update.now.table c.args.update.now.items.now (new_of c.args.context.now.tables.now c.args.update.now.table c.args.context.now.env.now c.args.update.now.items.now) c.args.rows.now) (λ ws. ws)) c.args.context.now.env.now c.in_ok-ask.ensures.ok c.in_ok-fault.ensures.asked
+    (sym c.in-Some.is ∙ c.in_ok-fault.ensures.fault) c.in_ok-end.ensures.ok
+
+pub push_update-requires-clause-writes : goal.push_update-requires-clause-writes
+push_update-requires-clause-writes g c =
+    let ws = earlier c.args.context.now.number c.args.context.now.undo.now in
+    let db = applied ws (g.V.View.sight c.args.view.now).database in
+    let cs = update_checks c.args.context.now.tables.now c.args.update.now.table c.args.update.now.items.now c.args.context.now.env.now c.args.rows.now in
+    no_writes c.args.log.now c.ask.new.log c.check_update.new.log (c.args.pred ∷ []) cs db c.in_ok-ask.ensures.ok c.in_ok-fault.ensures.asked
+
+pub push_update-requires-clause-sets : goal.push_update-requires-clause-sets
+push_update-requires-clause-sets g c =
+    let ws = earlier c.args.context.now.number c.args.context.now.undo.now in
+    let db = applied ws (g.V.View.sight c.args.view.now).database in
+    let cs = update_checks c.args.context.now.tables.now c.args.update.now.table c.args.update.now.items.now c.args.context.now.env.now c.args.rows.now in
+    no_sets c.args.log.now c.ask.new.log c.check_update.new.log (c.args.pred ∷ []) cs db c.in_ok-ask.ensures.ok c.in_ok-fault.ensures.asked
+
+pub returns-clause-ok : goal.returns-clause-ok
+returns-clause-ok g c =
+    let ws = earlier c.args.context.now.number c.args.context.now.undo.now in
+    let db = applied ws (g.V.View.sight c.args.view.now).database in
+    let cs = update_checks c.args.context.now.tables.now c.args.update.now.table c.args.update.now.items.now c.args.context.now.env.now c.args.rows.now in
+    checked_passes c.args.log.now c.ask.new.log c.check_update.new.log c.push_update.new.log (c.args.pred ∷ []) cs db (is_some_row c.args.rows.now) (on (changes c.args.update.now.table c.args.update.now.items.now (new_of c.args.context.now.tables.now c.args.update.now.table c.args.context.now.env.now c.args.update.now.items.now) c.args.rows.now) (λ ws. ws)) c.args.context.now.env.now c.in_ok-ask.ensures.ok c.in_ok-fault.ensures.asked
+    (sym c.in_default.is ∙ c.in_ok-fault.ensures.fault) c.in_ok-push_update.ensures.ok
+
+pub returns-in_err-ask-clause-looks : goal.returns-in_err-ask-clause-looks
+returns-in_err-ask-clause-looks g c = none_asked _ _ (g.V.View.sight c.args.view.now)
+
+pub push_update-requires-clause-goes : goal.push_update-requires-clause-goes
+push_update-requires-clause-goes g c =
+    let ws = earlier c.args.context.now.number c.args.context.now.undo.now in
+    let db = applied ws (g.V.View.sight c.args.view.now).database in
+    let cs = update_checks c.args.context.now.tables.now c.args.update.now.table c.args.update.now.items.now c.args.context.now.env.now c.args.rows.now in
+    follows_on (first_fault cs db) _ (changes c.args.update.now.table c.args.update.now.items.now (new_of c.args.context.now.tables.now c.args.update.now.table c.args.context.now.env.now c.args.update.now.items.now) c.args.rows.now) (update_checked c.args.context.now.tables.now c.args.update.now.table db c.args.context.now.env.now c.args.update.now.items.now c.args.rows.now c.requires.stands.behind) (sym c.in_default.is ∙ c.in_ok-fault.ensures.fault)

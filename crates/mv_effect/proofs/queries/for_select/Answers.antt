@@ -1,8 +1,9 @@
-use Rattle.std.proofs.Common.{ap, ◌∙◌}
-use Rattle.mv_values.specs.Patching.{applied}
+use Rattle.std.proofs.Common.{ap, refl, ◌∙◌}
+use Rattle.mv_values.specs.Patching.{applied, found_by}
+use Rattle.mv_catalog.specs.declared.resolved.RStmt.TheOpen.{ForSelect}
 use Rattle.mv_log.specs.Logged.{Logged}
 use Rattle.mv_undo.specs.Owning.{earlier}
-use Rattle.mv_effect.proofs.Asked.{asked_one}
+use Rattle.mv_effect.proofs.Asked.{asked_by_one, none_asked_by}
 use Rattle.mv_recorded.proofs.Chosen.{for_goes}
 use Rattle.mv_effect.proofs.queries.for_select.Goals as goal
 
@@ -16,9 +17,34 @@ returns-clause-effect g c = λ row body lines.
     ∙ for_goes tables row c.args.once c.args.query.now.columns.now c.args.query.now.table c.args.query.now.conds.now c.args.query.now.sorts.now body env db c.in-Ok.pred c.as_slice.result.now c.in-Ok.ensures.asks found lines
 
 pub returns-clause-looks : goal.returns-clause-looks
-returns-clause-looks g c =
-    asked_one c.loop_rows.new.log.effect.preds c.in-Ok.pred (earlier c.args.context.now.number c.args.context.now.undo.now) (g.V.View.sight c.args.view.now) (g.V.View.sight c.visible_rows.new.view)
-    (ap (λ (l : Logged). l.effect.preds) c.in_ok-loop_rows.ensures.ok) c.in_ok-rows.ensures.looks
+returns-clause-looks g c = λ row body.
+    let tables = c.args.context.now.tables.now in
+    let env = c.args.context.now.env.now in
+    let ws = earlier c.args.context.now.number c.args.context.now.undo.now in
+    let before = g.V.View.sight c.args.view.now in
+    let db = applied ws before.database in
+    asked_by_one tables (ForSelect row c.args.once c.args.query.now.columns.now c.args.query.now.table c.args.query.now.conds.now c.args.query.now.sorts.now body) env ws before (g.V.View.sight c.visible_rows.new.view) _ c.in-Ok.pred (for_goes tables row c.args.once c.args.query.now.columns.now c.args.query.now.table c.args.query.now.conds.now c.args.query.now.sorts.now body env db c.in-Ok.pred (found_by c.in-Ok.pred db) c.in-Ok.ensures.asks refl) refl c.in_ok-rows.ensures.looks
+
+pub returns-in_err-loop_rows-clause-looks : goal.returns-in_err-loop_rows-clause-looks
+returns-in_err-loop_rows-clause-looks g c = λ row body.
+    let tables = c.args.context.now.tables.now in
+    let env = c.args.context.now.env.now in
+    let ws = earlier c.args.context.now.number c.args.context.now.undo.now in
+    let before = g.V.View.sight c.args.view.now in
+    let db = applied ws before.database in
+    asked_by_one tables (ForSelect row c.args.once c.args.query.now.columns.now c.args.query.now.table c.args.query.now.conds.now c.args.query.now.sorts.now body) env ws before (g.V.View.sight c.visible_rows.new.view) _ c.in-Ok.pred (for_goes tables row c.args.once c.args.query.now.columns.now c.args.query.now.table c.args.query.now.conds.now c.args.query.now.sorts.now body env db c.in-Ok.pred (found_by c.in-Ok.pred db) c.in-Ok.ensures.asks refl) refl c.in_ok-rows.ensures.looks
+
+pub returns-in_err-rows-clause-looks : goal.returns-in_err-rows-clause-looks
+returns-in_err-rows-clause-looks g c = λ row body.
+    let tables = c.args.context.now.tables.now in
+    let env = c.args.context.now.env.now in
+    let ws = earlier c.args.context.now.number c.args.context.now.undo.now in
+    let before = g.V.View.sight c.args.view.now in
+    let db = applied ws before.database in
+    asked_by_one tables (ForSelect row c.args.once c.args.query.now.columns.now c.args.query.now.table c.args.query.now.conds.now c.args.query.now.sorts.now body) env ws before (g.V.View.sight c.visible_rows.new.view) _ c.in-Ok.pred (for_goes tables row c.args.once c.args.query.now.columns.now c.args.query.now.table c.args.query.now.conds.now c.args.query.now.sorts.now body env db c.in-Ok.pred (found_by c.in-Ok.pred db) c.in-Ok.ensures.asks refl) refl c.visible_rows.ensures.looks
+
+pub returns-in-Err-clause-looks : goal.returns-in-Err-clause-looks
+returns-in-Err-clause-looks g c = λ row body. none_asked_by c.args.context.now.tables.now (ForSelect row c.args.once c.args.query.now.columns.now c.args.query.now.table c.args.query.now.conds.now c.args.query.now.sorts.now body) c.args.context.now.env.now (earlier c.args.context.now.number c.args.context.now.undo.now) (g.V.View.sight c.args.view.now)
 
 pub returns-in-Err-clause-view : goal.returns-in-Err-clause-view
 returns-in-Err-clause-view g c = c.stop_unasked.ensures.view (g.V.View.sight c.args.view.now)

@@ -42,17 +42,11 @@ returns-in-Rollback-clause-view g c = c.rollback.ensures.view (g.V.View.sight c.
 pub returns-in-Select-clause-view : goal.returns-in-Select-clause-view
 returns-in-Select-clause-view g c = c.select.ensures.view
 
-pub returns-in-Select-clause-bounded : goal.returns-in-Select-clause-bounded
-returns-in-Select-clause-bounded g c = c.select.ensures.bounded
-
 pub returns-in-Select-clause-looks : goal.returns-in-Select-clause-looks
 returns-in-Select-clause-looks g c = c.select.ensures.looks
 
 pub returns-in-Total-clause-view : goal.returns-in-Total-clause-view
 returns-in-Total-clause-view g c = c.total.ensures.view
-
-pub returns-in-Total-clause-bounded : goal.returns-in-Total-clause-bounded
-returns-in-Total-clause-bounded g c = c.total.ensures.bounded
 
 pub returns-in-Total-clause-looks : goal.returns-in-Total-clause-looks
 returns-in-Total-clause-looks g c = c.total.ensures.looks
@@ -60,17 +54,11 @@ returns-in-Total-clause-looks g c = c.total.ensures.looks
 pub returns-in-ForSelect-clause-view : goal.returns-in-ForSelect-clause-view
 returns-in-ForSelect-clause-view g c = c.for_select.ensures.view
 
-pub returns-in-ForSelect-clause-bounded : goal.returns-in-ForSelect-clause-bounded
-returns-in-ForSelect-clause-bounded g c = c.for_select.ensures.bounded
-
 pub returns-in-ForSelect-clause-looks : goal.returns-in-ForSelect-clause-looks
 returns-in-ForSelect-clause-looks g c = c.for_select.ensures.looks
 
 pub returns-in-Insert-clause-view : goal.returns-in-Insert-clause-view
 returns-in-Insert-clause-view g c = c.insert.ensures.view
-
-pub returns-in-Insert-clause-bounded : goal.returns-in-Insert-clause-bounded
-returns-in-Insert-clause-bounded g c = c.insert.ensures.bounded
 
 pub returns-in-Insert-clause-looks : goal.returns-in-Insert-clause-looks
 returns-in-Insert-clause-looks g c = c.insert.ensures.looks
@@ -78,17 +66,11 @@ returns-in-Insert-clause-looks g c = c.insert.ensures.looks
 pub returns-in-Update-clause-view : goal.returns-in-Update-clause-view
 returns-in-Update-clause-view g c = c.update.ensures.view
 
-pub returns-in-Update-clause-bounded : goal.returns-in-Update-clause-bounded
-returns-in-Update-clause-bounded g c = c.update.ensures.bounded
-
 pub returns-in-Update-clause-looks : goal.returns-in-Update-clause-looks
 returns-in-Update-clause-looks g c = c.update.ensures.looks
 
 pub returns-in-Delete-clause-view : goal.returns-in-Delete-clause-view
 returns-in-Delete-clause-view g c = c.delete.ensures.view
-
-pub returns-in-Delete-clause-bounded : goal.returns-in-Delete-clause-bounded
-returns-in-Delete-clause-bounded g c = c.delete.ensures.bounded
 
 pub returns-in-Delete-clause-looks : goal.returns-in-Delete-clause-looks
 returns-in-Delete-clause-looks g c = c.delete.ensures.looks

@@ -7,12 +7,12 @@ use Rattle.mv_alone.specs.declared.state.Env.{Env}
 use Rattle.mv_log.specs.Logged.{Logged}
 use Rattle.mv_undo.specs.Owning.{earlier}
 use Rattle.mv_recorded.specs.Effects.{IsEffect}
-use Rattle.mv_effect.specs.Looking.{AskedFor, IsExecutable}
+use Rattle.mv_effect.specs.Looking.{IsExecutable}
 use Rattle.mv_effect.proofs.WellNamed.{well_named}
 use Rattle.mv_exec.specs.declared.recording.Origin.TheVariants.{Executed}
 use Rattle.mv_exec.specs.Recording.{foreseen}
 use Rattle.mv_exec.specs.Tasks.{places_of}
-use Rattle.mv_exec.proofs.Executing.{counts_one, executed_next, record_in, as_foreseen, added_effect}
+use Rattle.mv_exec.proofs.Executing.{asked_ahead, counts_one, executed_next, record_in, as_foreseen, added_effect}
 use Rattle.mv_exec.proofs.Held.{effect_told, names_told}
 use Rattle.mv_exec.proofs.Logs.{closed_rests, logged_task}
 use Rattle.mv_exec.proofs.Wellness.{well_at, columns_at}
@@ -29,6 +29,7 @@ effect-requires-clause-executable g c =
       stands = record {
         few = c.requires.sound.few;
         each = c.requires.sound.tables;
+        parents = c.requires.sound.parents;
         database = c.requires.database;
         behind = keys_before c.args.graph.now.procedure c.args.graph.now.tables c.args.task.now (g.V.View.sight c.args.view.now).database c.requires.task c.requires.keys;
       };
@@ -63,9 +64,25 @@ returns-clause-executed g c =
     c.len-number.ensures
     (subst (λ (e : Env). IsEffect c.as_slice.result.now (out-RStmt c.args.position.step.now.statement) e (applied (earlier c.len-number.result c.args.task.now.undo) (g.V.View.sight c.args.view.now).database) c.effect.new.log.effect)
     c.env.ensures c.in_ok-holds.ensures.effect))))
-    (subst (λ n. AskedFor c.effect.new.log.effect.preds (earlier n c.args.task.now.undo) (g.V.View.sight c.args.view.now) (g.V.View.sight c.effect.new.view)) c.len-number.ensures c.in_ok-holds.ensures.looks)
+    (asked_ahead c.args.graph.now c.args.task.now (g.V.View.sight c.args.view.now) (g.V.View.sight c.effect.new.view) c.requires.at.at.0 c.args.position.place c.requires.at.s c.args.position.step.now _ _ _
+    c.requires.task c.requires.at.at.1 c.requires.at.tells c.as_slice.ensures c.env.ensures c.len-number.ensures c.effect.ensures.looks)
     (as_foreseen c.args.task.now.log c.effect.new.log c.args.at c.in_ok-holds.ensures.rest)
     (added_effect c.args.graph.now.procedure c.args.task.now c.effect.new.log c.args.at c.add.new.task c.in_ok-holds.ensures.rest c.in_ok-stepped.ensures.added)
+
+pub returns-clause-bounded : goal.returns-clause-bounded
+returns-clause-bounded g c =
+    asked_ahead c.args.graph.now c.args.task.now (g.V.View.sight c.args.view.now) (g.V.View.sight c.effect.new.view) c.requires.at.at.0 c.args.position.place c.requires.at.s c.args.position.step.now _ _ _
+    c.requires.task c.requires.at.at.1 c.requires.at.tells c.as_slice.ensures c.env.ensures c.len-number.ensures c.effect.ensures.looks
+
+pub returns-in_err-holds-clause-bounded : goal.returns-in_err-holds-clause-bounded
+returns-in_err-holds-clause-bounded g c =
+    asked_ahead c.args.graph.now c.args.task.now (g.V.View.sight c.args.view.now) (g.V.View.sight c.effect.new.view) c.requires.at.at.0 c.args.position.place c.requires.at.s c.args.position.step.now _ _ _
+    c.requires.task c.requires.at.at.1 c.requires.at.tells c.as_slice.ensures c.env.ensures c.len-number.ensures c.effect.ensures.looks
+
+pub returns-in_err-stepped-clause-bounded : goal.returns-in_err-stepped-clause-bounded
+returns-in_err-stepped-clause-bounded g c =
+    asked_ahead c.args.graph.now c.args.task.now (g.V.View.sight c.args.view.now) (g.V.View.sight c.effect.new.view) c.requires.at.at.0 c.args.position.place c.requires.at.s c.args.position.step.now _ _ _
+    c.requires.task c.requires.at.at.1 c.requires.at.tells c.as_slice.ensures c.env.ensures c.len-number.ensures c.effect.ensures.looks
 
 pub returns-clause-counted : goal.returns-clause-counted
 returns-clause-counted g c =

@@ -1,18 +1,16 @@
 use Rattle.std.proofs.Common.{◌≡◌, ◌<◌, ◌^◌, ◌+◌, List, refl, sym, ap, subst, ◌∙◌}
 use Rattle.std.proofs.lemmas.Result.{err_from_is_err_and}
-use Rattle.mv_values.specs.declared.patch.Write.{Write}
 use Rattle.mv_values.specs.Patching.{applied}
 use Rattle.mv_values.specs.Tables.{KeysStand}
 use Rattle.mv_values.proofs.Deciding.{always_err}
 use Rattle.mv_record.specs.declared.record.Record.{Record}
 use Rattle.mv_record.specs.Runs.{writes_in}
 use Rattle.mv_log.specs.Logged.{Logged}
-use Rattle.mv_effect.specs.Looking.{AskedAtMost, different}
 use Rattle.mv_exec.specs.Steps.{HasExecuted}
 use Rattle.mv_exec.specs.Tasks.{StandsAsBefore}
-use Rattle.mv_exec.proofs.Fronts.{on_err, on_ok, executed_before}
+use Rattle.mv_effect.proofs.Asked.{none_asked}
+use Rattle.mv_exec.proofs.Fronts.{asked_before, on_err, on_ok, executed_before}
 use Rattle.mv_exec.proofs.Logs.{before_both, opened_blank}
-use Rattle.mv_exec.proofs.Writing.{own_writes}
 use Rattle.mv_exec.proofs.execute.execute_next.Goals as goal
 use Rattle.mv_exec.proofs.execute.execute_next.Goals.{After-execute, After-from_residual}
 
@@ -52,8 +50,8 @@ returns-clause-err g c =
 
 pub returns-clause-bounded : goal.returns-clause-bounded
 returns-clause-bounded g c =
-    subst (λ (ws : List Write). AskedAtMost 1 (different ws) (g.V.View.sight c.args.view.now) (g.V.View.sight c.execute.new.view))
-    (own_writes c.args.graph.now.procedure c.come_to.new.task c.come_to.ensures.task ∙ ap writes_in c.come_to.ensures.same.records) c.execute.ensures.bounded
+    asked_before c.args.graph.now.procedure c.args.graph.now.tables c.args.task.now c.come_to.new.task (g.V.View.sight c.args.view.now).database (g.V.View.sight c.args.view.now) (g.V.View.sight c.execute.new.view)
+    c.come_to.ensures.same c.execute.ensures.bounded
 
 -- Where no memory was found before the view was asked
 
@@ -65,6 +63,9 @@ returns-in_err-at-clause-kept g c = ap (λ (l : Logged). l.kept) c.come_to.ensur
 
 pub returns-in_err-at-clause-err : goal.returns-in_err-at-clause-err
 returns-in_err-at-clause-err g c = always_err c.from_residual.result (StandsAsBefore c.args.graph.now.procedure c.args.task.now c.come_to.new.task) c.come_to.ensures.same
+
+pub returns-in_err-at-clause-bounded : goal.returns-in_err-at-clause-bounded
+returns-in_err-at-clause-bounded g c = none_asked _ _ (g.V.View.sight c.args.view.now)
 
 pub returns-in_err-at-clause-view : goal.returns-in_err-at-clause-view
 returns-in_err-at-clause-view g c =

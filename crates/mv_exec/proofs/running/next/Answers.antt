@@ -1,7 +1,7 @@
 use Rattle.std.proofs.Common.{ap, ◌∙◌}
 use Rattle.mv_log.specs.Logged.{Logged}
 use Rattle.mv_exec.specs.Running.{IsSameCall, IsSameCallOn}
-use Rattle.mv_exec.proofs.Fronts.{stays, stays_on, grows, unchanged, executed_on, running_on, has_run, small_found, params_of}
+use Rattle.mv_exec.proofs.Fronts.{asked_after, stays, stays_on, grows, unchanged, executed_on, running_on, has_run, small_found, params_of}
 use Rattle.mv_exec.proofs.Logs.{IsCleaned, cleaned}
 use Rattle.mv_exec.proofs.running.next.Goals as goal
 use Rattle.mv_exec.proofs.running.next.Goals.{In-Ok, After-truncate}
@@ -67,6 +67,11 @@ returns-in-Err-clause-running g c = running_on c.args.graph.now (g.V.View.sight 
 
 pub returns-in-Err-clause-err : goal.returns-in-Err-clause-err
 returns-in-Err-clause-err g c = unchanged c.args.graph.now.procedure c.args.task.now _ c.requires.running.1.is.whole (is g c).whole (is g c).before
+
+pub returns-in-Err-clause-tried : goal.returns-in-Err-clause-tried
+returns-in-Err-clause-tried g c =
+    asked_after c.args.graph.now.procedure c.args.graph.now.tables c.args.task.now _ (g.V.View.sight c.args.view.now).database (g.V.View.sight c.args.view.now) (g.V.View.sight c.execute_next.new.view) (is g c).before
+    c.execute_next.ensures.bounded
 
 pub returns-in-Err-clause-past : goal.returns-in-Err-clause-past
 returns-in-Err-clause-past g c = ap (λ (l : Logged). l.past) c.truncate.ensures ∙ c.execute_next.ensures.past

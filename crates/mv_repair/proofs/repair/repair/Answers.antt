@@ -1,9 +1,12 @@
 use Rattle.std.proofs.Common.{◌≡◌, true, [], List, All, refl, sym, ap, rules, subst, ◌∙◌}
 use Rattle.mv_values.specs.Tables.{Tables}
+use Rattle.mv_values.specs.declared.pred.Pred.{Pred}
 use Rattle.mv_record.specs.declared.record.Record.{Record}
+use Rattle.mv_record.specs.Runs.{writes_in}
 use Rattle.mv_undo.specs.declared.owned.Owned.{Owned}
 use Rattle.mv_undo.specs.Owning.{HasWritesOf}
-use Rattle.mv_exec.specs.Running.{refusals}
+use Rattle.mv_effect.specs.Looking.{AskedFor}
+use Rattle.mv_exec.specs.Running.{if_refused, preds_ahead}
 use Rattle.mv_exec.proofs.Viewing.{never_on, same_on}
 use Rattle.mv_changes.specs.Admitting.{AreAdmitted}
 use Rattle.mv_repair.specs.Repairing.{changes_since, HasQueried}
@@ -29,7 +32,7 @@ loop-alloc-init g c = record {
       (c.in_ok-hits.ensures ∙ ap (λ (rs : List Record). hits_in (changes_since c.args.since.now) [] rs) c.records.ensures) c.new.ensures c.new-2.ensures c.new-3.ensures c.new-4.ensures
       c.new-5.ensures;
   call = λ call is. c.begin_repair.ensures.call c.args.graph.now call is;
-  queried = none_queried c.args.task.now.log.records c.begin_repair.new.self.log.records (changes_since c.args.since.now) 0 (g.V.View.sight c.args.view.now);
+  queried = none_queried c.args.task.now.log.records c.begin_repair.new.self.log.records (changes_since c.args.since.now) [] (g.V.View.sight c.args.view.now);
   same = record { database = refl; start = refl; may_be_stale = refl };
   never = record { answers = refl; last_low = refl };
 }
@@ -64,7 +67,11 @@ returns-clause-past g c = c.loop-alloc.invariant.underway.past
 
 pub returns-in_err-step-clause-queried : goal.returns-in_err-step-clause-queried
 returns-in_err-step-clause-queried g c =
-    let one : refusals c.from_residual-in_err-step.result ≡ 1 = search rules in
-    subst (λ n. HasQueried c.args.task.now.log.records c.step.new.task.log.records (changes_since c.args.since.now) n (g.V.View.sight c.args.view.now) (g.V.View.sight c.step.new.view)) (sym one)
-    (tried c.args.task.now.log.records c.loop-alloc.task c.step.new.task (changes_since c.args.since.now) (g.V.View.sight c.args.view.now) (g.V.View.sight c.loop-alloc.view) (g.V.View.sight c.step.new.view)
-    c.loop-alloc.invariant.queried c.in_err-step.ensures.err c.step.ensures.bounded)
+    let start = g.V.View.sight c.args.view.now in
+    let now = g.V.View.sight c.loop-alloc.view in
+    let after = g.V.View.sight c.step.new.view in
+    let ps = preds_ahead c.args.graph.now start.database c.step.new.task in
+    let tells : if_refused c.from_residual-in_err-step.result ps ≡ ps = search rules in
+    subst (λ (qs : List Pred). HasQueried c.args.task.now.log.records c.step.new.task.log.records (changes_since c.args.since.now) qs start after) (sym tells)
+    (tried c.args.task.now.log.records c.loop-alloc.task c.step.new.task (changes_since c.args.since.now) ps start now after c.loop-alloc.invariant.queried c.in_err-step.ensures.err
+    (subst (λ (db : Tables). AskedFor (preds_ahead c.args.graph.now db c.step.new.task) (writes_in c.step.new.task.log.records) now after) c.loop-alloc.invariant.same.database c.in_err-step.ensures.tried))

@@ -71,6 +71,5 @@ returns-clause-stepped g c =
       kept = c.renew.ensures.kept;
       on = c.in_ok-is_there.ensures.on;
       new_is = new_is;
-      bounded = c.renew.ensures.bounded;
     })
     (caught_way graph before.database task c.args.old.now c.args.new.now c.catch_up.new.self caught c.requires.on_way))) c.renew.ensures.ran c.renew.ensures.new

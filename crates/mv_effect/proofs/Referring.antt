@@ -1,0 +1,207 @@
+-- What statements check of parents and children, as the code puts it together.
+use Rattle.std.proofs.Common.{◌≡◌, ◌<◌, ◌≤◌, ◌+◌, ℕ, zero, suc, ◌==◌, Bool, true, false, not, List, [], ◌∷◌, ◌++◌, Option, Some, None, Result, Ok, Err, All, map, length, slice_get, if◌then◌else◌, refl, sym, ap, subst, ◌∙◌, arith, append_assoc, append-nil}
+use Rattle.std.specs.Prelude.{◌&&◌, ◌||◌}
+use Rattle.std.specs.List.{filter, flat_map, list_any}
+use Rattle.std.specs.Option.{is_some}
+use Rattle.std.proofs.lemmas.Grind.{flat_map-append}
+use Rattle.std.proofs.lemmas.List.{map-append}
+use Rattle.std.proofs.lemmas.List.Elements.{All-map, filter-append}
+use Rattle.mv_values.specs.declared.value.Value.{Value}
+use Rattle.mv_values.specs.declared.op.Op.TheVariants.{Eq}
+use Rattle.mv_values.specs.declared.rows.Keyed.{Keyed}
+use Rattle.mv_values.specs.declared.schema.Column.{Column}
+use Rattle.mv_values.specs.declared.schema.TableInfo.{TableInfo}
+use Rattle.mv_values.specs.declared.calls.End.{End}
+use Rattle.mv_values.specs.declared.calls.End.TheVariants.{MissingParent, HasChildren}
+use Rattle.mv_values.specs.Columns.{column_of}
+use Rattle.mv_values.specs.Keys.{keys}
+use Rattle.mv_values.specs.References.{Reference, parent_in, parent_of, has_key, reference, references, references_from, all_references, references_to}
+use Rattle.mv_values.specs.Tables.{columns_at, key_columns}
+use Rattle.mv_catalog.specs.declared.resolved.RSetItem.{RSetItem}
+use Rattle.mv_catalog.specs.Text.{HaveParents}
+use Rattle.mv_catalog.proofs.References.{parents_within}
+use Rattle.mv_alone.specs.declared.state.Env.{Env}
+use Rattle.mv_alone.specs.References.{is_own_parent}
+use Rattle.mv_alone.specs.Rows.{test_on, IsPlaced}
+use Rattle.mv_alone.proofs.Holding.{key_tests_placed}
+use Rattle.mv_recorded.specs.Asking.{Check, faults, needs, forbids, parent_pred, child_pred, value_checks, item_checks, update_checks, delete_checks}
+use Rattle.mv_recorded.specs.Own.{Each}
+use Rattle.mv_recorded.proofs.Checked.{Follows}
+use Rattle.mv_recorded.proofs.Inverting.{each_join}
+use Rattle.mv_recorded.proofs.Matching.{key_placed}
+use Rattle.mv_effect.specs.declared.checks.Check as code
+use Rattle.mv_effect.specs.declared.checks.Check.TheVariants as code'
+use Rattle.mv_effect.specs.Stops.{HasValue}
+use Rattle.mv_effect.specs.Checking.{meant, parent_checks, row_checks, child_checks, children_checks, MayAsk}
+
+-- Lists of checks
+
+meant_push : (found : List (List Value)) (old new : List code.Check) (c : code.Check) → new ≡ old ++ c ∷ [] → map (meant found) new ≡ map (meant found) old ++ meant found c ∷ []
+meant_push found old new c is = ap (map (meant found)) is ∙ map-append (meant found) old (c ∷ [])
+
+-- what is added comes off what is left
+pub added_on : (old new a rest all whole : List Check) → new ≡ old ++ a → all ≡ a ++ rest → old ++ all ≡ whole → new ++ rest ≡ whole
+added_on old new a rest all whole is splits h = ap (λ l. l ++ rest) is ∙ (append_assoc old a rest ∙ (ap (λ l. old ++ l) (sym splits) ∙ h))
+
+-- INSERT: parents of a new row
+
+parent_one : (tables : List TableInfo) (item : Keyed) (r : Reference) (b : Bool) → is_own_parent item r ≡ b
+    → parent_checks tables item (r ∷ []) ≡ (if b then [] else needs (parent_pred tables r.parent (column_of item.row r.column)) MissingParent ∷ [])
+parent_one tables item r true e = rw e refl
+parent_one tables item r false e = rw e refl
+
+pub parent_none : (tables : List TableInfo) (item : Keyed) (t c : ℕ) (o : Option ℕ) (cs : List Check) → o ≡ None → cs ≡ cs ++ parent_checks tables item (reference t c o)
+parent_none tables item t c o cs is = subst (λ p. cs ≡ cs ++ parent_checks tables item (reference t c p)) (sym is) (sym (append-nil cs))
+
+pub parent_own : (tables : List TableInfo) (item : Keyed) (t c p : ℕ) (o : Option ℕ) (v : Value) (cs : List Check) → o ≡ Some p → v ≡ column_of item.row c → ((p == t) && has_key v item) ≡ true
+    → cs ≡ cs ++ parent_checks tables item (reference t c o)
+parent_own tables item t c p o v cs is at own =
+    let r : Reference = record { table = t; column = c; parent = p } in
+    let here : is_own_parent item r ≡ true = ap (λ w. (p == t) && has_key w item) (sym at) ∙ own in
+    subst (λ q. cs ≡ cs ++ parent_checks tables item (reference t c q)) (sym is) (sym (append-nil cs) ∙ ap (λ l. cs ++ l) (sym (parent_one tables item r true here)))
+
+pub parent_needed : (tables : List TableInfo) (item : Keyed) (t c p : ℕ) (o : Option ℕ) (v : Value) (old new : List code.Check) → o ≡ Some p → v ≡ column_of item.row c → ((p == t) && has_key v item) ≡ false
+    → new ≡ old ++ code'.Needs (parent_pred tables p v) MissingParent ∷ [] → map (meant []) new ≡ map (meant []) old ++ parent_checks tables item (reference t c o)
+parent_needed tables item t c p o v old new is at own pushed =
+    let r : Reference = record { table = t; column = c; parent = p } in
+    let here : is_own_parent item r ≡ false = ap (λ w. (p == t) && has_key w item) (sym at) ∙ own in
+    let one : needs (parent_pred tables p v) MissingParent ∷ [] ≡ parent_checks tables item (r ∷ []) = ap (λ w. needs (parent_pred tables p w) MissingParent ∷ []) at ∙ sym (parent_one tables item r false here) in
+    subst (λ q. map (meant []) new ≡ map (meant []) old ++ parent_checks tables item (reference t c q)) (sym is)
+    (meant_push [] old new (code'.Needs (parent_pred tables p v) MissingParent) pushed ∙ ap (λ l. map (meant []) old ++ l) one)
+
+pub parents_both : (tables : List TableInfo) (item : Keyed) (xs ys : List Reference) → parent_checks tables item (xs ++ ys) ≡ parent_checks tables item xs ++ parent_checks tables item ys
+parents_both tables item xs ys =
+    let other : Reference → Bool = λ r. not (is_own_parent item r) in
+    let check : Reference → Check = λ r. needs (parent_pred tables r.parent (column_of item.row r.column)) MissingParent in
+    ap (map check) (filter-append other xs ys) ∙ map-append check (filter other xs) (filter other ys)
+
+-- UPDATE: values
+
+pub value_faults : (tables : List TableInfo) (o : Option ℕ) (r : Result Value End) (e : End) (old new : List code.Check) → r ≡ Err e → new ≡ old ++ code'.Faults e ∷ [] → map (meant []) new ≡ map (meant []) old ++ value_checks tables o r
+value_faults tables o r e old new is pushed = subst (λ q. map (meant []) new ≡ map (meant []) old ++ value_checks tables o q) (sym is) (meant_push [] old new (code'.Faults e) pushed)
+
+pub value_free : (tables : List TableInfo) (o : Option ℕ) (r : Result Value End) (v : Value) (cs : List Check) → r ≡ Ok v → o ≡ None → cs ≡ cs ++ value_checks tables o r
+value_free tables o r v cs is none =
+    subst (λ q. cs ≡ cs ++ value_checks tables o q) (sym is) (subst (λ p. cs ≡ cs ++ value_checks tables p (Ok v)) (sym none) (sym (append-nil cs)))
+
+pub value_needs : (tables : List TableInfo) (o : Option ℕ) (r : Result Value End) (v : Value) (p : ℕ) (old new : List code.Check) → r ≡ Ok v → o ≡ Some p → new ≡ old ++ code'.Needs (parent_pred tables p v) MissingParent ∷ []
+    → map (meant []) new ≡ map (meant []) old ++ value_checks tables o r
+value_needs tables o r v p old new is some pushed =
+    subst (λ q. map (meant []) new ≡ map (meant []) old ++ value_checks tables o q) (sym is)
+    (subst (λ u. map (meant []) new ≡ map (meant []) old ++ value_checks tables u (Ok v)) (sym some) (meant_push [] old new (code'.Needs (parent_pred tables p v) MissingParent) pushed))
+
+-- no column with REFERENCES is set
+pub none_set : (tables : List TableInfo) (t : ℕ) (items : List RSetItem) → list_any (λ (i : RSetItem). is_some (parent_of tables t i.column)) items ≡ false → Each (λ (i : RSetItem). parent_of tables t i.column ≡ None) items
+none_set tables t [] h = tt
+none_set tables t (i ∷ is) h = by (parent_of tables t i.column) refl h
+  where
+    by : (o : Option ℕ) → parent_of tables t i.column ≡ o → (is_some o || list_any (λ (j : RSetItem). is_some (parent_of tables t j.column)) is) ≡ false → Each (λ (j : RSetItem). parent_of tables t j.column ≡ None) (i ∷ is)
+    by None e k = (e, none_set tables t is k)
+    by (Some p) e k = cc
+
+-- where no check fails there are values without parents too
+pub follows_on : {A : Type 0} (o : Option End) (checked plain : Result A End) → Follows o checked plain → None ≡ o → HasValue plain
+follows_on None checked plain h is = (h.0, h.2)
+follows_on (Some e) checked plain h is = cc
+
+-- DELETE: children
+
+module _ (tables : List TableInfo) (t : ℕ) (found : List (List Value)) (rows : List Keyed) where
+  pub children_none : (u c : ℕ) (o : Option ℕ) (cs : List Check) → o ≡ None → cs ≡ cs ++ children_checks tables t found rows (reference u c o)
+  children_none u c o cs is = subst (λ p. cs ≡ cs ++ children_checks tables t found rows (reference u c p)) (sym is) (sym (append-nil cs))
+
+  children_one : (r : Reference) (b : Bool) → (r.parent == t) ≡ b → children_checks tables t found rows (r ∷ []) ≡ (if b then child_checks tables t found rows r else [])
+  children_one r true e = rw e (append-nil (child_checks tables t found rows r))
+  children_one r false e = rw e refl
+
+  pub children_elsewhere : (u c p : ℕ) (o : Option ℕ) (cs : List Check) → o ≡ Some p → (p == t) ≡ false → cs ≡ cs ++ children_checks tables t found rows (reference u c o)
+  children_elsewhere u c p o cs is off =
+      let r : Reference = record { table = u; column = c; parent = p } in
+      subst (λ q. cs ≡ cs ++ children_checks tables t found rows (reference u c q)) (sym is) (sym (append-nil cs) ∙ ap (λ l. cs ++ l) (sym (children_one r false off)))
+
+  pub children_here : (u c p : ℕ) (o : Option ℕ) (old new : List Check) → o ≡ Some p → (p == t) ≡ true → new ≡ old ++ child_checks tables t found rows (record { table = u; column = c; parent = t })
+      → new ≡ old ++ children_checks tables t found rows (reference u c o)
+  children_here u c p o old new is on h =
+      let r : Reference = record { table = u; column = c; parent = p } in
+      subst (λ q. new ≡ old ++ children_checks tables t found rows (reference u c q)) (sym is) (h ∙ ap (λ l. old ++ l) (sym (children_one r true on)))
+
+  pub children_both : (xs ys : List Reference) → children_checks tables t found rows (xs ++ ys) ≡ children_checks tables t found rows xs ++ children_checks tables t found rows ys
+  children_both xs ys =
+      let here : Reference → Bool = λ r. r.parent == t in
+      ap (flat_map (child_checks tables t found rows)) (filter-append here xs ys) ∙ flat_map-append (child_checks tables t found rows) (filter here xs) (filter here ys)
+
+-- What may be asked
+
+each_filter : {A : Type 0} (P : A → Type 0) (p : A → Bool) (xs : List A) → Each P xs → Each P (filter p xs)
+each_filter P p [] h = tt
+each_filter P p (x ∷ xs) h = by (p x) (each_filter P p xs h.1)
+  where
+    by : (b : Bool) → Each P (filter p xs) → Each P (if b then x ∷ filter p xs else filter p xs)
+    by true k = (h.0, k)
+    by false k = k
+
+each_mapped : {A B : Type 0} (P : A → Type 0) (Q : B → Type 0) (f : A → B) (xs : List A) → ((x : A) → P x → Q (f x)) → Each P xs → Each Q (map f xs)
+each_mapped P Q f [] g h = tt
+each_mapped P Q f (x ∷ xs) g h = (g x h.0, each_mapped P Q f xs g h.1)
+
+each_flat : {A B : Type 0} (P : A → Type 0) (Q : B → Type 0) (f : A → List B) (xs : List A) → ((x : A) → P x → Each Q (f x)) → Each P xs → Each Q (flat_map f xs)
+each_flat P Q f [] g h = tt
+each_flat P Q f (x ∷ xs) g h = each_join Q (f x) (flat_map f xs) (g x h.0) (each_flat P Q f xs g h.1)
+
+each_any : {A : Type 0} (P : A → Type 0) (xs : List A) → ((x : A) → P x) → Each P xs
+each_any P [] h = tt
+each_any P (x ∷ xs) h = (h x, each_any P xs h)
+
+module _ (tables : List TableInfo) (h : HaveParents tables) where
+  parent_may : (p : ℕ) (v : Value) → p < length tables → MayAsk tables (needs (parent_pred tables p v) MissingParent)
+  parent_may p v within = record { table = within; places = All-map (IsPlaced (key_columns tables p)) (λ c. test_on (key_columns tables p) c Eq v) (key_columns tables p) (λ k d lt. refl) }
+
+  refs_within : (t n : ℕ) (columns : List Column) → ((c p : ℕ) → parent_in (slice_get columns c) ≡ Some p → p < length tables) → Each (λ (r : Reference). r.parent < length tables) (references_from t n columns)
+  refs_within t n [] each = tt
+  refs_within t n (d ∷ ds) each = by d.refers refl (refs_within t (n + 1) ds (λ c p is. each (suc c) p is))
+    where
+      by : (o : Option ℕ) → d.refers ≡ o → Each (λ (r : Reference). r.parent < length tables) (references_from t (n + 1) ds) → Each (λ (r : Reference). r.parent < length tables) (reference t n o ++ references_from t (n + 1) ds)
+      by None e k = k
+      by (Some p) e k = (each zero p e, k)
+
+  pub row_may : (t : ℕ) (item : Keyed) → t < length tables → Each (MayAsk tables) (row_checks tables t item)
+  row_may t item within = (
+    record { table = within; places = key_placed (key_columns tables t) item.row },
+    each_mapped (λ (r : Reference). r.parent < length tables) (MayAsk tables) (λ r. needs (parent_pred tables r.parent (column_of item.row r.column)) MissingParent) (filter (λ r. not (is_own_parent item r)) (references tables t)) (λ r lt. parent_may r.parent (column_of item.row r.column) lt)
+        (each_filter (λ (r : Reference). r.parent < length tables) (λ r. not (is_own_parent item r)) (references tables t) (refs_within t 0 (columns_at tables t) (λ c p is. parents_within tables h t c p is))),
+  )
+
+  value_may : (o : Option ℕ) (r : Result Value End) → ((p : ℕ) → o ≡ Some p → p < length tables) → Each (MayAsk tables) (value_checks tables o r)
+  value_may o (Err e) within = (tt, tt)
+  value_may None (Ok v) within = tt
+  value_may (Some p) (Ok v) within = (parent_may p v (within p refl), tt)
+
+  pub update_may : (t : ℕ) (items : List RSetItem) (env : Env) (rows : List Keyed) → Each (MayAsk tables) (update_checks tables t items env rows)
+  update_may t items env rows =
+      each_flat (λ (item : Keyed). Unit {0}) (MayAsk tables) (λ item. flat_map (item_checks tables t env item.row) items) rows (λ item u.
+      each_flat (λ (i : RSetItem). Unit {0}) (MayAsk tables) (item_checks tables t env item.row) items (λ i w. value_may (parent_of tables t i.column) _ (λ p is. parents_within tables h t i.column p is)) (each_any (λ (i : RSetItem). Unit {0}) items (λ i. tt)))
+      (each_any (λ (item : Keyed). Unit {0}) rows (λ item. tt))
+
+  child_may : (found : List (List Value)) (r : Reference) (rows : List Keyed) → r.table < length tables → Each (MayAsk tables) (map (λ (item : Keyed). forbids (child_pred tables r.table r.column item.key) found HasChildren) rows)
+  child_may found r rows within =
+      each_mapped (λ (item : Keyed). Unit {0}) (MayAsk tables) (λ item. forbids (child_pred tables r.table r.column item.key) found HasChildren) rows
+      (λ item u. record { table = within; places = key_tests_placed (key_columns tables r.table) r.column item.key }) (each_any (λ (item : Keyed). Unit {0}) rows (λ item. tt))
+
+  columns_named : (n t c : ℕ) (columns : List Column) → t < n → Each (λ (r : Reference). r.table < n) (references_from t c columns)
+  columns_named n t c [] lt = tt
+  columns_named n t c (d ∷ ds) lt = by d.refers (columns_named n t (c + 1) ds lt)
+    where
+      by : (o : Option ℕ) → Each (λ (r : Reference). r.table < n) (references_from t (c + 1) ds) → Each (λ (r : Reference). r.table < n) (reference t c o ++ references_from t (c + 1) ds)
+      by None k = k
+      by (Some p) k = (lt, k)
+
+  tables_named : (n t : ℕ) (infos : List TableInfo) → t + length infos ≤ n → Each (λ (r : Reference). r.table < n) (all_references t infos)
+  tables_named n t [] le = tt
+  tables_named n t (i ∷ is) le =
+      each_join (λ (r : Reference). r.table < n) (references_from t 0 i.columns) (all_references (t + 1) is) (columns_named n t 0 i.columns (omega (arith, le))) (tables_named n (t + 1) is (omega (arith, le)))
+
+  pub delete_may : (t : ℕ) (rows : List Keyed) → Each (MayAsk tables) (delete_checks tables t rows)
+  delete_may t rows =
+      each_flat (λ (r : Reference). r.table < length tables) (MayAsk tables) (λ r. map (λ (item : Keyed). forbids (child_pred tables r.table r.column item.key) (if r.table == t then keys rows else []) HasChildren) rows) (references_to tables t)
+      (λ r within. child_may (if r.table == t then keys rows else []) r rows within)
+      (each_filter (λ (r : Reference). r.table < length tables) (λ r. r.parent == t) (all_references 0 tables) (tables_named (length tables) 0 tables (omega arith)))

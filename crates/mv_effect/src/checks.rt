@@ -1,0 +1,180 @@
+//! What statements check after they made a row or found rows.
+
+ghost use Rattle.std.specs.Prelude.{◌≡◌, ◌∷◌, [], ◌++◌, map, not, IfOk, OnOk, OnErr, Some, None, if◌then◌else◌};
+ghost use Rattle.std.specs.List.{list_all};
+ghost use Rattle.mv_values.specs.Keys.{keys};
+ghost use Rattle.mv_values.specs.Patching.{applied, found_by};
+ghost use Rattle.mv_alone.specs.Rows.{is_some_row};
+ghost use Rattle.mv_undo.specs.Owning.{earlier};
+ghost use Rattle.mv_recorded.specs.Asking.{is_among, fault_of, first_fault, asked_in, preds_up_to, KnowsKey};
+ghost use Rattle.mv_recorded.specs.Own.{Each};
+ghost use Rattle.mv_effect.specs.Checking.{meant, MayAsk};
+ghost use Rattle.mv_effect.specs.Logging.{BeginsPred, with_preds, without_effect};
+ghost use Rattle.mv_effect.specs.Looking.{AreSoundTables, OnlyAsks, AskedFor};
+
+use crate::asking::ask_more;
+use crate::context::Context;
+use crate::rows::{first_visible, visible_rows};
+use mv_log::log::Log;
+use mv_table::scan::Direction;
+use mv_values::calls::End;
+use mv_values::copied::Copied;
+use mv_values::pred::Pred;
+use mv_values::rows::Keyed;
+use mv_values::value::{Key, compare_keys};
+use mv_view::view::{Refused, View};
+use std::alloc::Global;
+
+/// A check of a statement, and how the call ends if it fails.
+#[derive(Drop)]
+pub(crate) enum Check {
+    /// A value has a fault, so this one always fails.
+    Faults(End),
+    /// The predicate finds a row.
+    Needs(Pred, End),
+    /// The predicate finds no row. If the flag is set, it may find rows that the statement itself found.
+    Forbids(Pred, bool, End),
+}
+
+/// Whether one of the rows has this key.
+#[tactic(auto, using(crate::proofs::Checking::any_key))]
+fn has_key(rows: &[Keyed], key: &Key) -> bool
+    ensures { result ≡ is_among (keys rows.now) key.now }
+{
+    rows.iter().any(|item| compare_keys(item.key.as_slice(), key.as_slice()).is_eq())
+}
+
+/// Whether each of the found rows has the key of one of the rows.
+#[tactic(auto, using(crate::proofs::Checking::all_keys))]
+fn have_keys(rows: &[Keyed], found: &[Keyed]) -> bool
+    ensures { result ≡ list_all (is_among (keys rows.now)) (keys found.now) }
+{
+    found.iter().all(|item| has_key(rows, &item.key))
+}
+
+/// Whether the predicate finds a row after the call's own writes that the statement sees. Asks the view for the first one.
+#[tactic(auto, using(mv_alone::proofs::FirstRows::some_foremost))]
+fn finds_some<V: View>(
+    alloc: Global,
+    context: &Context<'_>,
+    pred: &Pred,
+    view: &mut V,
+) -> Result<bool, Refused>
+    requires stands { AreSoundTables context.now.tables.now (earlier context.now.number context.now.undo.now) (V.sight view.old).database }
+    requires knows { KnowsKey context.now.tables.now pred.now }
+    ensures found { IfOk result (λ b. b ≡ is_some_row (found_by pred.now (applied (earlier context.now.number context.now.undo.now) (V.sight view.old).database))) }
+    ensures view { OnlyAsks (V.sight view.old) (V.sight view.new) result }
+    ensures looks { AskedFor (pred.now ∷ []) (earlier context.now.number context.now.undo.now) (V.sight view.old) (V.sight view.new) }
+{
+    let row = first_visible(alloc, context, pred, Direction::Forward, view)?;
+    Ok(row.is_some())
+}
+
+/// Whether the predicate finds no rows but those with the keys of these.
+fn finds_only<V: View>(
+    alloc: Global,
+    context: &Context<'_>,
+    pred: &Pred,
+    rows: &[Keyed],
+    view: &mut V,
+) -> Result<bool, Refused>
+    requires stands { AreSoundTables context.now.tables.now (earlier context.now.number context.now.undo.now) (V.sight view.old).database }
+    requires knows { KnowsKey context.now.tables.now pred.now }
+    ensures found { IfOk result (λ b. b ≡ list_all (is_among (keys rows.now)) (keys (found_by pred.now (applied (earlier context.now.number context.now.undo.now) (V.sight view.old).database)))) }
+    ensures view { OnlyAsks (V.sight view.old) (V.sight view.new) result }
+    ensures looks { AskedFor (pred.now ∷ []) (earlier context.now.number context.now.undo.now) (V.sight view.old) (V.sight view.new) }
+{
+    let found = visible_rows(alloc, context, pred, view)?;
+    Ok(have_keys(rows, found.as_slice()))
+}
+
+/// Whether the predicate finds no row; if `may_be_own`, none but those with the keys of these rows.
+#[tactic(auto, using(crate::proofs::Checking::none_among))]
+fn finds_no_other<V: View>(
+    alloc: Global,
+    context: &Context<'_>,
+    pred: &Pred,
+    may_be_own: bool,
+    rows: &[Keyed],
+    view: &mut V,
+) -> Result<bool, Refused>
+    requires stands { AreSoundTables context.now.tables.now (earlier context.now.number context.now.undo.now) (V.sight view.old).database }
+    requires knows { KnowsKey context.now.tables.now pred.now }
+    ensures found { IfOk result (λ b. b ≡ list_all (is_among (if may_be_own then keys rows.now else [])) (keys (found_by pred.now (applied (earlier context.now.number context.now.undo.now) (V.sight view.old).database)))) }
+    ensures view { OnlyAsks (V.sight view.old) (V.sight view.new) result }
+    ensures looks { AskedFor (pred.now ∷ []) (earlier context.now.number context.now.undo.now) (V.sight view.old) (V.sight view.new) }
+{
+    if may_be_own {
+        return finds_only(alloc, context, pred, rows, view);
+    }
+    let some = finds_some(alloc, context, pred, view)?;
+    Ok(!some)
+}
+
+/// Returns the end, unless all is right.
+fn unless(right: bool, end: End) -> Option<End>
+    ensures { result ≡ (if right then None else Some end) }
+{
+    if right { None } else { Some(end) }
+}
+
+/// Runs a check of a statement that found these rows, and adds its predicate to the open effect. Returns the end if it
+/// fails.
+fn run_one<V: View>(
+    alloc: Global,
+    context: &Context<'_>,
+    rows: &[Keyed],
+    check: &Check,
+    log: &mut Log,
+    view: &mut V,
+) -> Result<Option<End>, Refused>
+    requires stands { AreSoundTables context.now.tables.now (earlier context.now.number context.now.undo.now) (V.sight view.old).database }
+    requires may_ask { MayAsk context.now.tables.now (meant (keys rows.now) check.now) }
+    requires begins { BeginsPred log.old }
+    ensures fault { IfOk result (λ o. o ≡ fault_of (meant (keys rows.now) check.now) (applied (earlier context.now.number context.now.undo.now) (V.sight view.old).database)) }
+    ensures asked { OnOk result (log.new ≡ with_preds log.old (log.old.effect.preds ++ asked_in (meant (keys rows.now) check.now))) }
+    ensures err { OnErr result (without_effect log.new ≡ without_effect log.old) }
+    ensures view { OnlyAsks (V.sight view.old) (V.sight view.new) result }
+    ensures looks { AskedFor (asked_in (meant (keys rows.now) check.now)) (earlier context.now.number context.now.undo.now) (V.sight view.old) (V.sight view.new) }
+{
+    match check {
+        Check::Faults(end) => Ok(Some(end.copy(alloc)?)),
+        Check::Needs(pred, end) => {
+            let is_right = finds_some(alloc, context, pred, view)?;
+            ask_more(log, pred.copy(alloc)?)?;
+            Ok(unless(is_right, end.copy(alloc)?))
+        }
+        Check::Forbids(pred, may_be_own, end) => {
+            let is_right = finds_no_other(alloc, context, pred, *may_be_own, rows, view)?;
+            ask_more(log, pred.copy(alloc)?)?;
+            Ok(unless(is_right, end.copy(alloc)?))
+        }
+    }
+}
+
+/// Runs checks of a statement that found these rows, up to the first that fails, and adds their predicates to the open
+/// effect. Returns the end if one fails.
+pub(crate) fn run_checks<V: View>(
+    alloc: Global,
+    context: &Context<'_>,
+    rows: &[Keyed],
+    checks: &[Check],
+    log: &mut Log,
+    view: &mut V,
+) -> Result<Option<End>, Refused>
+    requires stands { AreSoundTables context.now.tables.now (earlier context.now.number context.now.undo.now) (V.sight view.old).database }
+    requires may_ask { Each (MayAsk context.now.tables.now) (map (meant (keys rows.now)) checks.now) }
+    requires begins { BeginsPred log.old }
+    ensures fault { IfOk result (λ o. o ≡ first_fault (map (meant (keys rows.now)) checks.now) (applied (earlier context.now.number context.now.undo.now) (V.sight view.old).database)) }
+    ensures asked { OnOk result (log.new ≡ with_preds log.old (log.old.effect.preds ++ preds_up_to (map (meant (keys rows.now)) checks.now) (applied (earlier context.now.number context.now.undo.now) (V.sight view.old).database))) }
+    ensures err { OnErr result (without_effect log.new ≡ without_effect log.old) }
+    ensures view { OnlyAsks (V.sight view.old) (V.sight view.new) result }
+    ensures looks { AskedFor (preds_up_to (map (meant (keys rows.now)) checks.now) (applied (earlier context.now.number context.now.undo.now) (V.sight view.old).database)) (earlier context.now.number context.now.undo.now) (V.sight view.old) (V.sight view.new) }
+{
+    for check in checks {
+        if let Some(end) = run_one(alloc, context, rows, check, log, view)? {
+            return Ok(Some(end));
+        }
+    }
+    Ok(None)
+}
