@@ -18,6 +18,7 @@ use Rattle.mv_catalog.specs.Text.{IsTable}
 use Rattle.mv_alone.proofs.Few.{Each, Pairs, NotBoth, without, pairs_of, each_weaker, pairs_weaker, each_kept, pairs_kept, one_goes}
 use Rattle.mv_record.specs.Writes.{is_on}
 use Rattle.mv_undo.specs.Owning.{touches, is_among, AreSought}
+use Rattle.mv_checks.proofs.Referring.{columns_few}
 use Rattle.mv_effect.specs.Looking.{different}
 
 -- Different keys
@@ -71,12 +72,6 @@ sought_few pred ws ks h = keys_few pred.table ws ks (pairs_of (λ a b. key_order
     touched [] sub = tt
     touched (k ∷ l) sub =
         ((and_parts (touches pred.table k ws) (admits pred k) (sym (h.are k) ∙ sub k (among_first k l))).0, touched l (λ z e. sub z (among_later z k l e)))
-
--- a table has no more than 32 columns
-pub columns_few : (tables : List TableInfo) (t : ℕ) → All IsTable tables → length (columns_at tables t) ≤ 32
-columns_few [] t h = omega arith
-columns_few (x ∷ tables) zero h = (h 0 x (omega arith)).narrow
-columns_few (x ∷ tables) (suc t) h = columns_few tables t (λ k d lt. h (suc k) d (omega (arith, lt)))
 
 -- so their numbers are bytes
 pub bytes_of : {A : Type 0} (number : A → ℕ) (tables : List TableInfo) (t : ℕ) (xs : List A) → All IsTable tables → All (λ x. number x < length (columns_at tables t)) xs → All (λ x. number x < 256) xs

@@ -13,4 +13,3 @@ pub mod Foremost
 pub mod OwnKeys
 pub mod Whole
 pub mod Checking
-pub mod Referring

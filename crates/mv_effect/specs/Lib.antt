@@ -6,4 +6,3 @@ pub mod Looking
 pub mod Choosing
 pub mod Totalling
 pub mod Firsts
-pub mod Checking

@@ -2,9 +2,11 @@
 
 ghost use Rattle.std.specs.Prelude.{◌≡◌, ◌<◌, ◌≤◌, ◌^◌, ◌∷◌, ◌++◌, [], ℕ, true, IfOk, OnOk, OnErr, Ok, All, map, length};
 ghost use Rattle.mv_values.specs.declared.patch.Patch.TheVariants as patch;
+ghost use Rattle.mv_values.specs.Keys.{keys};
 ghost use Rattle.mv_values.specs.Patching.{applied};
 ghost use Rattle.mv_catalog.specs.declared.resolved.RSetItem.{RSetItem};
 ghost use Rattle.mv_catalog.specs.declared.resolved.RStmt.TheOpen as layer;
+ghost use Rattle.mv_catalog.specs.Text.{IsTable};
 ghost use Rattle.mv_alone.specs.Env.{with_found};
 ghost use Rattle.mv_alone.specs.Outcome.{Gives, then_do};
 ghost use Rattle.mv_alone.specs.Rows.{is_some_row};
@@ -12,7 +14,7 @@ ghost use Rattle.mv_recorded.specs.Asking.{on, first_fault, preds_up_to, update_
 ghost use Rattle.mv_recorded.specs.Doing.{set_patch, write};
 ghost use Rattle.mv_recorded.specs.Effects.{IsEffect, effect_after, effect_unless, changes, new_of, effect_of_writes, slots_behind};
 ghost use Rattle.mv_undo.specs.Owning.{earlier};
-ghost use Rattle.mv_effect.specs.Checking.{row_checks};
+ghost use Rattle.mv_checks.specs.Checking.{meant, row_checks};
 ghost use Rattle.mv_effect.specs.Logging.{BeginsPred, IsBlank, without_effect, with_preds, with_sets, with_writes};
 ghost use Rattle.mv_effect.specs.Stops.{HasValue, leaving};
 ghost use Rattle.mv_effect.specs.Looking.{AreSoundTables, OnlyAsks, AskedBy, AskedFor};
@@ -20,10 +22,8 @@ ghost use Rattle.mv_effect.specs.Naming.{Tests, Sets};
 
 use crate::asking::{ask, end, stop, stop_unasked};
 use crate::checks::run_checks;
-use crate::children::{Deleted, delete_checks};
 use crate::context::Context;
 use crate::numbers::narrow;
-use crate::parents::{row_checks, sets_reference, update_checks};
 use crate::predicates::{pred_from, update_pred};
 use crate::rows::{is_any, visible_rows};
 use crate::slots::push_found;
@@ -32,6 +32,9 @@ use mv_alone::find::{columns_in, key_in};
 use mv_alone::made::{made_row, row_after_set, under_key};
 use mv_alone::state::{Env, Stop};
 use mv_catalog::resolved::{RCond, RExpr, RSetItem, Update};
+use mv_checks::check::Check;
+use mv_checks::children::{children_of, delete_checks};
+use mv_checks::parents::{push_items, row_checks, sets_reference};
 use mv_log::log::Log;
 use mv_values::calls::End;
 use mv_values::copied::Copied;
@@ -170,6 +173,17 @@ fn push_deletion(env: &Env, table: u16, rows: Rows, log: &mut Log) -> Result<(),
     push_found(env, found, log)
 }
 
+/// Returns the keys of these rows.
+fn keys_of(alloc: Global, rows: &[Keyed]) -> Result<List<Key>, NoMemory>
+    ensures { IfOk result (λ all. all ≡ keys rows.now) }
+{
+    let mut all = List::with_room(alloc, rows.len())?;
+    for item in rows {
+        all.push(item.key.copy(alloc)?)?;
+    }
+    Ok(all)
+}
+
 /// Runs what DELETE of these rows checks, and adds the predicates to the open effect. Returns the end if a check fails.
 fn check_deletion<V: View>(
     alloc: Global,
@@ -187,12 +201,16 @@ fn check_deletion<V: View>(
     ensures view { OnlyAsks (V.sight view.old) (V.sight view.new) result }
     ensures looks { AskedFor (preds_up_to (delete_checks context.now.tables.now table rows.now) (applied (earlier context.now.number context.now.undo.now) (V.sight view.old).database)) (earlier context.now.number context.now.undo.now) (V.sight view.old) (V.sight view.new) }
 {
-    let deleted = Deleted {
-        table,
-        rows: rows.as_slice(),
-    };
-    let checks = delete_checks(alloc, context.tables, &deleted)?;
-    run_checks(alloc, context, deleted.rows, checks.as_slice(), log, view)
+    let children = children_of(alloc, context.tables, table)?;
+    let children = children.as_slice();
+    if children.is_empty() {
+        return Ok(None);
+    }
+    let own = keys_of(alloc, rows.as_slice())?;
+    let own = own.as_slice();
+    let checks = delete_checks(alloc, context.tables, table, own, children)?;
+    let checks = checks.as_slice();
+    run_checks(alloc, context, own, checks, log, view)
 }
 
 /// Writes the effect of a DELETE that asked this and found these rows.
@@ -379,6 +397,24 @@ fn push_update(
     }
 }
 
+/// Returns what UPDATE of these rows checks.
+fn update_checks(
+    alloc: Global,
+    context: &Context<'_>,
+    update: &Update<'_>,
+    rows: &[Keyed],
+) -> Result<List<Check>, NoMemory>
+    requires { All IsTable context.now.tables.now }
+    ensures { IfOk result (λ checks. map (meant []) checks ≡ update_checks context.now.tables.now update.now.table update.now.items.now context.now.env.now rows.now) }
+{
+    let mut checks = List::new(alloc);
+    for item in rows {
+        let row = item.row.as_slice();
+        push_items(alloc, context.tables, context.env, update, row, &mut checks)?;
+    }
+    Ok(checks)
+}
+
 /// Runs what UPDATE of these rows checks, and adds the predicates to the open effect. Returns the end if a check fails.
 fn check_update<V: View>(
     alloc: Global,
@@ -396,7 +432,7 @@ fn check_update<V: View>(
     ensures view { OnlyAsks (V.sight view.old) (V.sight view.new) result }
     ensures looks { AskedFor (preds_up_to (update_checks context.now.tables.now update.now.table update.now.items.now context.now.env.now rows.now) (applied (earlier context.now.number context.now.undo.now) (V.sight view.old).database)) (earlier context.now.number context.now.undo.now) (V.sight view.old) (V.sight view.new) }
 {
-    let checks = update_checks(alloc, context.tables, context.env, update, rows.as_slice())?;
+    let checks = update_checks(alloc, context, update, rows.as_slice())?;
     run_checks(alloc, context, &[], checks.as_slice(), log, view)
 }
 

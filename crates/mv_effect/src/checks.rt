@@ -8,48 +8,30 @@ ghost use Rattle.mv_alone.specs.Rows.{is_some_row};
 ghost use Rattle.mv_undo.specs.Owning.{earlier};
 ghost use Rattle.mv_recorded.specs.Asking.{is_among, fault_of, first_fault, asked_in, preds_up_to, KnowsKey};
 ghost use Rattle.mv_recorded.specs.Own.{Each};
-ghost use Rattle.mv_effect.specs.Checking.{meant, MayAsk};
+ghost use Rattle.mv_checks.specs.Checking.{meant, MayAsk};
 ghost use Rattle.mv_effect.specs.Logging.{BeginsPred, with_preds, without_effect};
 ghost use Rattle.mv_effect.specs.Looking.{AreSoundTables, OnlyAsks, AskedFor};
 
 use crate::asking::ask_more;
 use crate::context::Context;
 use crate::rows::{first_visible, visible_rows};
+use mv_checks::check::{Check, is_among};
 use mv_log::log::Log;
 use mv_table::scan::Direction;
 use mv_values::calls::End;
 use mv_values::copied::Copied;
 use mv_values::pred::Pred;
 use mv_values::rows::Keyed;
-use mv_values::value::{Key, compare_keys};
+use mv_values::value::Key;
 use mv_view::view::{Refused, View};
 use std::alloc::Global;
 
-/// A check of a statement, and how the call ends if it fails.
-#[derive(Drop)]
-pub(crate) enum Check {
-    /// A value has a fault, so this one always fails.
-    Faults(End),
-    /// The predicate finds a row.
-    Needs(Pred, End),
-    /// The predicate finds no row. If the flag is set, it may find rows that the statement itself found.
-    Forbids(Pred, bool, End),
-}
-
-/// Whether one of the rows has this key.
-#[tactic(auto, using(crate::proofs::Checking::any_key))]
-fn has_key(rows: &[Keyed], key: &Key) -> bool
-    ensures { result ≡ is_among (keys rows.now) key.now }
-{
-    rows.iter().any(|item| compare_keys(item.key.as_slice(), key.as_slice()).is_eq())
-}
-
-/// Whether each of the found rows has the key of one of the rows.
+/// Whether the key of each row is one of these.
 #[tactic(auto, using(crate::proofs::Checking::all_keys))]
-fn have_keys(rows: &[Keyed], found: &[Keyed]) -> bool
-    ensures { result ≡ list_all (is_among (keys rows.now)) (keys found.now) }
+fn have_keys(own: &[Key], rows: &[Keyed]) -> bool
+    ensures { result ≡ list_all (is_among own.now) (keys rows.now) }
 {
-    found.iter().all(|item| has_key(rows, &item.key))
+    rows.iter().all(|item| is_among(own, &item.key))
 }
 
 /// Whether the predicate finds a row after the call's own writes that the statement sees. Asks the view for the first one.
@@ -70,42 +52,42 @@ fn finds_some<V: View>(
     Ok(row.is_some())
 }
 
-/// Whether the predicate finds no rows but those with the keys of these.
+/// Whether the predicate finds no rows but those with these keys.
 fn finds_only<V: View>(
     alloc: Global,
     context: &Context<'_>,
     pred: &Pred,
-    rows: &[Keyed],
+    own: &[Key],
     view: &mut V,
 ) -> Result<bool, Refused>
     requires stands { AreSoundTables context.now.tables.now (earlier context.now.number context.now.undo.now) (V.sight view.old).database }
     requires knows { KnowsKey context.now.tables.now pred.now }
-    ensures found { IfOk result (λ b. b ≡ list_all (is_among (keys rows.now)) (keys (found_by pred.now (applied (earlier context.now.number context.now.undo.now) (V.sight view.old).database)))) }
+    ensures found { IfOk result (λ b. b ≡ list_all (is_among own.now) (keys (found_by pred.now (applied (earlier context.now.number context.now.undo.now) (V.sight view.old).database)))) }
     ensures view { OnlyAsks (V.sight view.old) (V.sight view.new) result }
     ensures looks { AskedFor (pred.now ∷ []) (earlier context.now.number context.now.undo.now) (V.sight view.old) (V.sight view.new) }
 {
     let found = visible_rows(alloc, context, pred, view)?;
-    Ok(have_keys(rows, found.as_slice()))
+    Ok(have_keys(own, found.as_slice()))
 }
 
-/// Whether the predicate finds no row; if `may_be_own`, none but those with the keys of these rows.
+/// Whether the predicate finds no row; if `may_be_own`, none but those with these keys.
 #[tactic(auto, using(crate::proofs::Checking::none_among))]
 fn finds_no_other<V: View>(
     alloc: Global,
     context: &Context<'_>,
     pred: &Pred,
     may_be_own: bool,
-    rows: &[Keyed],
+    own: &[Key],
     view: &mut V,
 ) -> Result<bool, Refused>
     requires stands { AreSoundTables context.now.tables.now (earlier context.now.number context.now.undo.now) (V.sight view.old).database }
     requires knows { KnowsKey context.now.tables.now pred.now }
-    ensures found { IfOk result (λ b. b ≡ list_all (is_among (if may_be_own then keys rows.now else [])) (keys (found_by pred.now (applied (earlier context.now.number context.now.undo.now) (V.sight view.old).database)))) }
+    ensures found { IfOk result (λ b. b ≡ list_all (is_among (if may_be_own then own.now else [])) (keys (found_by pred.now (applied (earlier context.now.number context.now.undo.now) (V.sight view.old).database)))) }
     ensures view { OnlyAsks (V.sight view.old) (V.sight view.new) result }
     ensures looks { AskedFor (pred.now ∷ []) (earlier context.now.number context.now.undo.now) (V.sight view.old) (V.sight view.new) }
 {
     if may_be_own {
-        return finds_only(alloc, context, pred, rows, view);
+        return finds_only(alloc, context, pred, own, view);
     }
     let some = finds_some(alloc, context, pred, view)?;
     Ok(!some)
@@ -118,24 +100,24 @@ fn unless(right: bool, end: End) -> Option<End>
     if right { None } else { Some(end) }
 }
 
-/// Runs a check of a statement that found these rows, and adds its predicate to the open effect. Returns the end if it
+/// Runs a check of a statement that found rows with these keys, and adds its predicate to the open effect. Returns the end if it
 /// fails.
 fn run_one<V: View>(
     alloc: Global,
     context: &Context<'_>,
-    rows: &[Keyed],
+    own: &[Key],
     check: &Check,
     log: &mut Log,
     view: &mut V,
 ) -> Result<Option<End>, Refused>
     requires stands { AreSoundTables context.now.tables.now (earlier context.now.number context.now.undo.now) (V.sight view.old).database }
-    requires may_ask { MayAsk context.now.tables.now (meant (keys rows.now) check.now) }
+    requires may_ask { MayAsk context.now.tables.now (meant own.now check.now) }
     requires begins { BeginsPred log.old }
-    ensures fault { IfOk result (λ o. o ≡ fault_of (meant (keys rows.now) check.now) (applied (earlier context.now.number context.now.undo.now) (V.sight view.old).database)) }
-    ensures asked { OnOk result (log.new ≡ with_preds log.old (log.old.effect.preds ++ asked_in (meant (keys rows.now) check.now))) }
+    ensures fault { IfOk result (λ o. o ≡ fault_of (meant own.now check.now) (applied (earlier context.now.number context.now.undo.now) (V.sight view.old).database)) }
+    ensures asked { OnOk result (log.new ≡ with_preds log.old (log.old.effect.preds ++ asked_in (meant own.now check.now))) }
     ensures err { OnErr result (without_effect log.new ≡ without_effect log.old) }
     ensures view { OnlyAsks (V.sight view.old) (V.sight view.new) result }
-    ensures looks { AskedFor (asked_in (meant (keys rows.now) check.now)) (earlier context.now.number context.now.undo.now) (V.sight view.old) (V.sight view.new) }
+    ensures looks { AskedFor (asked_in (meant own.now check.now)) (earlier context.now.number context.now.undo.now) (V.sight view.old) (V.sight view.new) }
 {
     match check {
         Check::Faults(end) => Ok(Some(end.copy(alloc)?)),
@@ -145,34 +127,34 @@ fn run_one<V: View>(
             Ok(unless(is_right, end.copy(alloc)?))
         }
         Check::Forbids(pred, may_be_own, end) => {
-            let is_right = finds_no_other(alloc, context, pred, *may_be_own, rows, view)?;
+            let is_right = finds_no_other(alloc, context, pred, *may_be_own, own, view)?;
             ask_more(log, pred.copy(alloc)?)?;
             Ok(unless(is_right, end.copy(alloc)?))
         }
     }
 }
 
-/// Runs checks of a statement that found these rows, up to the first that fails, and adds their predicates to the open
+/// Runs checks of a statement that found rows with these keys, up to the first that fails, and adds their predicates to the open
 /// effect. Returns the end if one fails.
 pub(crate) fn run_checks<V: View>(
     alloc: Global,
     context: &Context<'_>,
-    rows: &[Keyed],
+    own: &[Key],
     checks: &[Check],
     log: &mut Log,
     view: &mut V,
 ) -> Result<Option<End>, Refused>
     requires stands { AreSoundTables context.now.tables.now (earlier context.now.number context.now.undo.now) (V.sight view.old).database }
-    requires may_ask { Each (MayAsk context.now.tables.now) (map (meant (keys rows.now)) checks.now) }
+    requires may_ask { Each (MayAsk context.now.tables.now) (map (meant own.now) checks.now) }
     requires begins { BeginsPred log.old }
-    ensures fault { IfOk result (λ o. o ≡ first_fault (map (meant (keys rows.now)) checks.now) (applied (earlier context.now.number context.now.undo.now) (V.sight view.old).database)) }
-    ensures asked { OnOk result (log.new ≡ with_preds log.old (log.old.effect.preds ++ preds_up_to (map (meant (keys rows.now)) checks.now) (applied (earlier context.now.number context.now.undo.now) (V.sight view.old).database))) }
+    ensures fault { IfOk result (λ o. o ≡ first_fault (map (meant own.now) checks.now) (applied (earlier context.now.number context.now.undo.now) (V.sight view.old).database)) }
+    ensures asked { OnOk result (log.new ≡ with_preds log.old (log.old.effect.preds ++ preds_up_to (map (meant own.now) checks.now) (applied (earlier context.now.number context.now.undo.now) (V.sight view.old).database))) }
     ensures err { OnErr result (without_effect log.new ≡ without_effect log.old) }
     ensures view { OnlyAsks (V.sight view.old) (V.sight view.new) result }
-    ensures looks { AskedFor (preds_up_to (map (meant (keys rows.now)) checks.now) (applied (earlier context.now.number context.now.undo.now) (V.sight view.old).database)) (earlier context.now.number context.now.undo.now) (V.sight view.old) (V.sight view.new) }
+    ensures looks { AskedFor (preds_up_to (map (meant own.now) checks.now) (applied (earlier context.now.number context.now.undo.now) (V.sight view.old).database)) (earlier context.now.number context.now.undo.now) (V.sight view.old) (V.sight view.new) }
 {
     for check in checks {
-        if let Some(end) = run_one(alloc, context, rows, check, log, view)? {
+        if let Some(end) = run_one(alloc, context, own, check, log, view)? {
             return Ok(Some(end));
         }
     }

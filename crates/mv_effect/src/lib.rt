@@ -4,10 +4,8 @@
 mod asking;
 mod changes;
 mod checks;
-mod children;
 mod context;
 mod numbers;
-mod parents;
 mod predicates;
 mod queries;
 mod rows;

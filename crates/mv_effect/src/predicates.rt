@@ -172,37 +172,3 @@ pub(crate) fn update_pred(
         env,
     )
 }
-
-/// Returns the tests that each key column equals that of the row.
-fn key_tests(alloc: Global, keys: &[u8], row: &[Value]) -> Result<List<Test>, NoMemory>
-    requires { length keys.now ≤ 256 }
-    ensures { IfOk result (λ tests. tests ≡ same_key keys.now row.now) }
-{
-    let mut tests = List::with_room(alloc, keys.len())?;
-    for column in keys {
-        let value = column_value(alloc, row, *column as u16)?;
-        tests.push(test_on(keys, *column, Op::Eq, value))?;
-    }
-    Ok(tests)
-}
-
-/// Returns the predicate for the rows of a table with the same key as a row. It selects no columns.
-pub(crate) fn key_pred(
-    alloc: Global,
-    tables: &[TableInfo],
-    table: u16,
-    row: &[Value],
-) -> Result<Pred, NoMemory>
-    requires few { length tables.now ≤ 64 }
-    requires each { All IsTable tables.now }
-    requires table { table < length tables.now }
-    ensures asks { IfOk result (λ pred. pred ≡ pred_of table (same_key (key_columns tables.now table) row.now) []) }
-    ensures knows { IfOk result (KnowsKey tables.now) }
-{
-    let tests = key_tests(alloc, key_in(tables, table), row)?;
-    Ok(Pred {
-        table: narrow(table),
-        tests,
-        columns: List::new(alloc),
-    })
-}

@@ -5,11 +5,11 @@ use Rattle.mv_log.specs.Logged.{Logged}
 use Rattle.mv_undo.specs.Owning.{earlier}
 use Rattle.mv_recorded.specs.Asking.{Check, first_fault, preds_up_to, update_checks}
 use Rattle.mv_recorded.specs.Own.{Each}
-use Rattle.mv_effect.specs.Checking.{meant, MayAsk}
+use Rattle.mv_checks.specs.Checking.{meant, MayAsk}
 use Rattle.mv_effect.specs.Logging.{with_preds}
 use Rattle.mv_effect.specs.Looking.{AskedFor}
 use Rattle.mv_effect.proofs.Asked.{none_asked}
-use Rattle.mv_effect.proofs.Referring.{update_may}
+use Rattle.mv_checks.proofs.Referring.{update_may}
 use Rattle.mv_effect.proofs.changes.check_update.Goals as goal
 
 pub run_checks-requires-clause-may_ask : goal.run_checks-requires-clause-may_ask

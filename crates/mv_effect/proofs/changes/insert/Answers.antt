@@ -15,7 +15,7 @@ use Rattle.mv_recorded.specs.Doing.{write}
 use Rattle.mv_recorded.specs.Effects.{IsEffect, effect_unless}
 use Rattle.mv_recorded.proofs.Told.{insert_done}
 use Rattle.mv_undo.specs.Owning.{earlier}
-use Rattle.mv_effect.specs.Checking.{row_checks}
+use Rattle.mv_checks.specs.Checking.{row_checks}
 use Rattle.mv_effect.specs.Looking.{AskedFor}
 use Rattle.mv_effect.proofs.Asked.{none_asked_by}
 use Rattle.mv_effect.proofs.Ends.{effect_alone}

@@ -4,7 +4,7 @@ use Rattle.mv_log.specs.Logged.{Logged}
 use Rattle.mv_undo.specs.Owning.{earlier}
 use Rattle.mv_values.specs.declared.patch.Patch.TheVariants as patch
 use Rattle.mv_recorded.specs.Doing.{write}
-use Rattle.mv_effect.specs.Checking.{row_checks}
+use Rattle.mv_checks.specs.Checking.{row_checks}
 use Rattle.mv_effect.proofs.Asked.{none_asked}
 use Rattle.mv_effect.proofs.Checking.{asks_nothing, checked_ends, checked_passes, no_sets, no_writes}
 use Rattle.mv_effect.proofs.changes.insert_row.Goals as goal

@@ -17,7 +17,7 @@ use Rattle.mv_effect.proofs.Asked.{asked_all, asked_by, asked_first, none_asked_
 use Rattle.mv_effect.proofs.Checking.{unless_preds}
 use Rattle.mv_effect.proofs.Ends.{effect_alone, plain_after}
 use Rattle.mv_effect.proofs.Few.{bytes_of}
-use Rattle.mv_effect.proofs.Referring.{none_set}
+use Rattle.mv_checks.proofs.Referring.{none_set}
 use Rattle.mv_effect.proofs.changes.update.Goals as goal
 
 pub set_rows-requires-clause-columns : goal.set_rows-requires-clause-columns

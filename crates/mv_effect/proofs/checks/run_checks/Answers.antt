@@ -1,11 +1,10 @@
 use Rattle.std.proofs.Common.{◌≡◌, ◌+◌, [], ◌∷◌, List, Some, None, map, drop, sym, ap, subst, ◌∙◌}
 use Rattle.mv_values.specs.declared.rows.Keyed.{Keyed}
-use Rattle.mv_values.specs.Keys.{keys}
 use Rattle.mv_values.specs.Patching.{applied}
 use Rattle.mv_log.specs.Logged.{Logged}
 use Rattle.mv_undo.specs.Owning.{earlier}
 use Rattle.mv_recorded.specs.Asking.{Check, fault_of}
-use Rattle.mv_effect.specs.Checking.{meant, MayAsk}
+use Rattle.mv_checks.specs.Checking.{meant, MayAsk}
 use Rattle.mv_effect.specs.Logging.{without_effect}
 use Rattle.mv_effect.specs.Looking.{AreSoundTables}
 use Rattle.mv_effect.proofs.Checking.{HasPassed, none_passed, one_passed, all_fault, all_asked, all_looked, one_fault, one_asked, one_looked, meant_from, meant_none, each_from, each_at}
@@ -14,7 +13,7 @@ use Rattle.mv_effect.proofs.checks.run_checks.Goals as goal
 pub loop-check-init : goal.loop-check-init
 loop-check-init g c =
     let ws = earlier c.args.context.now.number c.args.context.now.undo.now in
-    none_passed (map (meant (keys c.args.rows.now)) c.args.checks.now) (applied ws (g.V.View.sight c.args.view.now).database) ws c.args.log.now (g.V.View.sight c.args.view.now)
+    none_passed (map (meant c.args.own.now) c.args.checks.now) (applied ws (g.V.View.sight c.args.view.now).database) ws c.args.log.now (g.V.View.sight c.args.view.now)
 
 pub run_one-requires-clause-stands : goal.run_one-requires-clause-stands
 run_one-requires-clause-stands g c =
@@ -22,7 +21,7 @@ run_one-requires-clause-stands g c =
 
 pub run_one-requires-clause-may_ask : goal.run_one-requires-clause-may_ask
 run_one-requires-clause-may_ask g c =
-    let found = keys c.args.rows.now in
+    let found = c.args.own.now in
     let i = c.loop-check.check-index in
     each_from (MayAsk c.args.context.now.tables.now) found c.args.checks.now i c.check-item.result c.loop-check-test.true c.check-item.is (each_at (MayAsk c.args.context.now.tables.now) found c.args.checks.now i c.requires.may_ask)
 
@@ -35,7 +34,7 @@ run_one-requires-clause-begins g c =
 
 pub loop-check-preserved : goal.loop-check-preserved
 loop-check-preserved g c =
-    let found = keys c.args.rows.now in
+    let found = c.args.own.now in
     let ws = earlier c.args.context.now.number c.args.context.now.undo.now in
     let before = g.V.View.sight c.args.view.now in
     let at = g.V.View.sight c.loop-check.view in
@@ -52,7 +51,7 @@ loop-check-preserved g c =
 
 pub returns-in-Some-clause-fault : goal.returns-in-Some-clause-fault
 returns-in-Some-clause-fault g c =
-    let found = keys c.args.rows.now in
+    let found = c.args.own.now in
     let ws = earlier c.args.context.now.number c.args.context.now.undo.now in
     let before = g.V.View.sight c.args.view.now in
     let at = g.V.View.sight c.loop-check.view in
@@ -68,7 +67,7 @@ returns-in-Some-clause-fault g c =
 
 pub returns-in-Some-clause-asked : goal.returns-in-Some-clause-asked
 returns-in-Some-clause-asked g c =
-    let found = keys c.args.rows.now in
+    let found = c.args.own.now in
     let ws = earlier c.args.context.now.number c.args.context.now.undo.now in
     let before = g.V.View.sight c.args.view.now in
     let at = g.V.View.sight c.loop-check.view in
@@ -84,7 +83,7 @@ returns-in-Some-clause-asked g c =
 
 pub returns-in-Some-clause-looks : goal.returns-in-Some-clause-looks
 returns-in-Some-clause-looks g c =
-    let found = keys c.args.rows.now in
+    let found = c.args.own.now in
     let ws = earlier c.args.context.now.number c.args.context.now.undo.now in
     let before = g.V.View.sight c.args.view.now in
     let at = g.V.View.sight c.loop-check.view in
@@ -99,7 +98,7 @@ returns-in-Some-clause-looks g c =
 
 pub returns-in_err-end-clause-looks : goal.returns-in_err-end-clause-looks
 returns-in_err-end-clause-looks g c =
-    let found = keys c.args.rows.now in
+    let found = c.args.own.now in
     let ws = earlier c.args.context.now.number c.args.context.now.undo.now in
     let before = g.V.View.sight c.args.view.now in
     let at = g.V.View.sight c.loop-check.view in
@@ -118,7 +117,7 @@ returns-in_err-end-clause-err g c =
 
 pub returns-clause-fault : goal.returns-clause-fault
 returns-clause-fault g c =
-    let found = keys c.args.rows.now in
+    let found = c.args.own.now in
     let ws = earlier c.args.context.now.number c.args.context.now.undo.now in
     let before = g.V.View.sight c.args.view.now in
     let at = g.V.View.sight c.loop-check.view in
@@ -130,7 +129,7 @@ returns-clause-fault g c =
 
 pub returns-clause-asked : goal.returns-clause-asked
 returns-clause-asked g c =
-    let found = keys c.args.rows.now in
+    let found = c.args.own.now in
     let ws = earlier c.args.context.now.number c.args.context.now.undo.now in
     let before = g.V.View.sight c.args.view.now in
     let at = g.V.View.sight c.loop-check.view in
@@ -142,7 +141,7 @@ returns-clause-asked g c =
 
 pub returns-clause-looks : goal.returns-clause-looks
 returns-clause-looks g c =
-    let found = keys c.args.rows.now in
+    let found = c.args.own.now in
     let ws = earlier c.args.context.now.number c.args.context.now.undo.now in
     let before = g.V.View.sight c.args.view.now in
     let at = g.V.View.sight c.loop-check.view in

@@ -1,10 +1,11 @@
 -- What statements check of parents and children, as the code puts it together.
-use Rattle.std.proofs.Common.{◌≡◌, ◌<◌, ◌≤◌, ◌+◌, ℕ, zero, suc, ◌==◌, Bool, true, false, not, List, [], ◌∷◌, ◌++◌, Option, Some, None, Result, Ok, Err, All, map, length, slice_get, if◌then◌else◌, refl, sym, ap, subst, ◌∙◌, arith, append_assoc, append-nil}
+use Rattle.std.proofs.Common.{◌≡◌, ◌<◌, ◌≤◌, ◌+◌, ℕ, zero, suc, ◌==◌, Bool, true, false, not, List, [], ◌∷◌, ◌++◌, Option, Some, None, Result, Ok, Err, All, drop, map, length, slice_get, slice_index_or, if◌then◌else◌, refl, sym, ap, subst, ◌∙◌, arith, append_assoc, append-nil}
 use Rattle.std.specs.Prelude.{◌&&◌, ◌||◌}
 use Rattle.std.specs.List.{filter, flat_map, list_any}
 use Rattle.std.specs.Option.{is_some}
 use Rattle.std.proofs.lemmas.Grind.{flat_map-append}
-use Rattle.std.proofs.lemmas.List.{map-append}
+use Rattle.std.proofs.lemmas.Bool.{eqb-true}
+use Rattle.std.proofs.lemmas.List.{drop_more, map-append}
 use Rattle.std.proofs.lemmas.List.Elements.{All-map, filter-append}
 use Rattle.mv_values.specs.declared.value.Value.{Value}
 use Rattle.mv_values.specs.declared.op.Op.TheVariants.{Eq}
@@ -18,7 +19,7 @@ use Rattle.mv_values.specs.Keys.{keys}
 use Rattle.mv_values.specs.References.{Reference, parent_in, parent_of, has_key, reference, references, references_from, all_references, references_to}
 use Rattle.mv_values.specs.Tables.{columns_at, key_columns}
 use Rattle.mv_catalog.specs.declared.resolved.RSetItem.{RSetItem}
-use Rattle.mv_catalog.specs.Text.{HaveParents}
+use Rattle.mv_catalog.specs.Text.{IsTable, HaveParents}
 use Rattle.mv_catalog.proofs.References.{parents_within}
 use Rattle.mv_alone.specs.declared.state.Env.{Env}
 use Rattle.mv_alone.specs.References.{is_own_parent}
@@ -26,13 +27,12 @@ use Rattle.mv_alone.specs.Rows.{test_on, IsPlaced}
 use Rattle.mv_alone.proofs.Holding.{key_tests_placed}
 use Rattle.mv_recorded.specs.Asking.{Check, faults, needs, forbids, parent_pred, child_pred, value_checks, item_checks, update_checks, delete_checks}
 use Rattle.mv_recorded.specs.Own.{Each}
-use Rattle.mv_recorded.proofs.Checked.{Follows}
 use Rattle.mv_recorded.proofs.Inverting.{each_join}
 use Rattle.mv_recorded.proofs.Matching.{key_placed}
-use Rattle.mv_effect.specs.declared.checks.Check as code
-use Rattle.mv_effect.specs.declared.checks.Check.TheVariants as code'
-use Rattle.mv_effect.specs.Stops.{HasValue}
-use Rattle.mv_effect.specs.Checking.{meant, parent_checks, row_checks, child_checks, children_checks, MayAsk}
+use Rattle.mv_checks.specs.declared.check.Check as code
+use Rattle.mv_checks.specs.declared.check.Check.TheVariants as code'
+use Rattle.mv_checks.specs.declared.children.Child.{Child}
+use Rattle.mv_checks.specs.Checking.{meant, parent_checks, row_checks, child_checks, reference_to, MayAsk}
 
 -- Lists of checks
 
@@ -40,7 +40,7 @@ meant_push : (found : List (List Value)) (old new : List code.Check) (c : code.C
 meant_push found old new c is = ap (map (meant found)) is ∙ map-append (meant found) old (c ∷ [])
 
 -- what is added comes off what is left
-pub added_on : (old new a rest all whole : List Check) → new ≡ old ++ a → all ≡ a ++ rest → old ++ all ≡ whole → new ++ rest ≡ whole
+pub added_on : {A : Type 0} (old new a rest all whole : List A) → new ≡ old ++ a → all ≡ a ++ rest → old ++ all ≡ whole → new ++ rest ≡ whole
 added_on old new a rest all whole is splits h = ap (λ l. l ++ rest) is ∙ (append_assoc old a rest ∙ (ap (λ l. old ++ l) (sym splits) ∙ h))
 
 -- INSERT: parents of a new row
@@ -99,36 +99,61 @@ none_set tables t (i ∷ is) h = by (parent_of tables t i.column) refl h
     by None e k = (e, none_set tables t is k)
     by (Some p) e k = cc
 
--- where no check fails there are values without parents too
-pub follows_on : {A : Type 0} (o : Option End) (checked plain : Result A End) → Follows o checked plain → None ≡ o → HasValue plain
-follows_on None checked plain h is = (h.0, h.2)
-follows_on (Some e) checked plain h is = cc
-
 -- DELETE: children
 
-module _ (tables : List TableInfo) (t : ℕ) (found : List (List Value)) (rows : List Keyed) where
-  pub children_none : (u c : ℕ) (o : Option ℕ) (cs : List Check) → o ≡ None → cs ≡ cs ++ children_checks tables t found rows (reference u c o)
-  children_none u c o cs is = subst (λ p. cs ≡ cs ++ children_checks tables t found rows (reference u c p)) (sym is) (sym (append-nil cs))
+refers_one : (t : ℕ) (r : Reference) (b : Bool) → (r.parent == t) ≡ b → filter (λ (x : Reference). x.parent == t) (r ∷ []) ≡ (if b then r ∷ [] else [])
+refers_one t r true e = rw e refl
+refers_one t r false e = rw e refl
 
-  children_one : (r : Reference) (b : Bool) → (r.parent == t) ≡ b → children_checks tables t found rows (r ∷ []) ≡ (if b then child_checks tables t found rows r else [])
-  children_one r true e = rw e (append-nil (child_checks tables t found rows r))
-  children_one r false e = rw e refl
+pub child_none : (t u c : ℕ) (o : Option ℕ) (rs : List Reference) → o ≡ None → rs ≡ rs ++ filter (λ (r : Reference). r.parent == t) (reference u c o)
+child_none t u c o rs is = subst (λ p. rs ≡ rs ++ filter (λ (r : Reference). r.parent == t) (reference u c p)) (sym is) (sym (append-nil rs))
 
-  pub children_elsewhere : (u c p : ℕ) (o : Option ℕ) (cs : List Check) → o ≡ Some p → (p == t) ≡ false → cs ≡ cs ++ children_checks tables t found rows (reference u c o)
-  children_elsewhere u c p o cs is off =
-      let r : Reference = record { table = u; column = c; parent = p } in
-      subst (λ q. cs ≡ cs ++ children_checks tables t found rows (reference u c q)) (sym is) (sym (append-nil cs) ∙ ap (λ l. cs ++ l) (sym (children_one r false off)))
+pub child_elsewhere : (t u c p : ℕ) (o : Option ℕ) (rs : List Reference) → o ≡ Some p → (p == t) ≡ false → rs ≡ rs ++ filter (λ (r : Reference). r.parent == t) (reference u c o)
+child_elsewhere t u c p o rs is off =
+    let r : Reference = record { table = u; column = c; parent = p } in
+    subst (λ q. rs ≡ rs ++ filter (λ (x : Reference). x.parent == t) (reference u c q)) (sym is) (sym (append-nil rs) ∙ ap (λ l. rs ++ l) (sym (refers_one t r false off)))
 
-  pub children_here : (u c p : ℕ) (o : Option ℕ) (old new : List Check) → o ≡ Some p → (p == t) ≡ true → new ≡ old ++ child_checks tables t found rows (record { table = u; column = c; parent = t })
-      → new ≡ old ++ children_checks tables t found rows (reference u c o)
-  children_here u c p o old new is on h =
-      let r : Reference = record { table = u; column = c; parent = p } in
-      subst (λ q. new ≡ old ++ children_checks tables t found rows (reference u c q)) (sym is) (h ∙ ap (λ l. old ++ l) (sym (children_one r true on)))
+pub child_here : (t u c p : ℕ) (o : Option ℕ) (old new : List Child) → o ≡ Some p → (p == t) ≡ true → new ≡ old ++ record { table = u; column = c } ∷ []
+    → map (reference_to t) new ≡ map (reference_to t) old ++ filter (λ (r : Reference). r.parent == t) (reference u c o)
+child_here t u c p o old new is on pushed =
+    let r : Reference = record { table = u; column = c; parent = p } in
+    let same : t ≡ p = sym (eqb-true p t on) in
+    let one : record { table = u; column = c; parent = t } ∷ [] ≡ r ∷ [] = ap (λ q. record { table = u; column = c; parent = q } ∷ []) same in
+    subst (λ q. map (reference_to t) new ≡ map (reference_to t) old ++ filter (λ (x : Reference). x.parent == t) (reference u c q)) (sym is)
+    (ap (map (reference_to t)) pushed ∙ (map-append (reference_to t) old (record { table = u; column = c } ∷ []) ∙ ap (λ l. map (reference_to t) old ++ l) (one ∙ sym (refers_one t r true on))))
 
-  pub children_both : (xs ys : List Reference) → children_checks tables t found rows (xs ++ ys) ≡ children_checks tables t found rows xs ++ children_checks tables t found rows ys
-  children_both xs ys =
-      let here : Reference → Bool = λ r. r.parent == t in
-      ap (flat_map (child_checks tables t found rows)) (filter-append here xs ys) ∙ flat_map-append (child_checks tables t found rows) (filter here xs) (filter here ys)
+pub refers_both : (t : ℕ) (xs ys : List Reference) → filter (λ (r : Reference). r.parent == t) (xs ++ ys) ≡ filter (λ (r : Reference). r.parent == t) xs ++ filter (λ (r : Reference). r.parent == t) ys
+refers_both t xs ys = filter-append (λ (r : Reference). r.parent == t) xs ys
+
+-- by the keys of rows, as DELETE is defined
+by_keys : (tables : List TableInfo) (t : ℕ) (found : List (List Value)) (r : Reference) (rows : List Keyed)
+    → map (λ key. forbids (child_pred tables r.table r.column key) (if r.table == t then found else []) HasChildren) (keys rows) ≡ map (λ (item : Keyed). forbids (child_pred tables r.table r.column item.key) (if r.table == t then found else []) HasChildren) rows
+by_keys tables t found r [] = refl
+by_keys tables t found r (x ∷ xs) = ap (λ l. forbids (child_pred tables r.table r.column x.key) (if r.table == t then found else []) HasChildren ∷ l) (by_keys tables t found r xs)
+
+pub delete_same : (tables : List TableInfo) (t : ℕ) (rows : List Keyed) → flat_map (child_checks tables t (keys rows)) (references_to tables t) ≡ delete_checks tables t rows
+delete_same tables t rows = each (references_to tables t)
+  where
+    each : (rs : List Reference) → flat_map (child_checks tables t (keys rows)) rs ≡ flat_map (λ r. map (λ (item : Keyed). forbids (child_pred tables r.table r.column item.key) (if r.table == t then keys rows else []) HasChildren) rows) rs
+    each [] = refl
+    each (r ∷ rs) =
+        ap (λ l. l ++ flat_map (child_checks tables t (keys rows)) rs) (by_keys tables t (keys rows) r rows)
+        ∙ ap (λ l. map (λ (item : Keyed). forbids (child_pred tables r.table r.column item.key) (if r.table == t then keys rows else []) HasChildren) rows ++ l) (each rs)
+
+-- where no column refers to the table nothing is checked
+pub delete_none : (tables : List TableInfo) (t : ℕ) (rows : List Keyed) → references_to tables t ≡ [] → delete_checks tables t rows ≡ []
+delete_none tables t rows none = ap (flat_map (λ r. map (λ (item : Keyed). forbids (child_pred tables r.table r.column item.key) (if r.table == t then keys rows else []) HasChildren) rows)) none
+
+-- the tables from a place on
+pub tables_step : (at : ℕ) (tables : List TableInfo) (info : TableInfo) → at < length tables → info ≡ slice_index_or tables at info
+    → all_references at (drop at tables) ≡ references_from at 0 info.columns ++ all_references (at + 1) (drop (at + 1) tables)
+tables_step at tables info lt is = ap (all_references at) (drop_more tables at info lt ∙ ap (λ x. x ∷ drop (at + 1) tables) (sym is))
+
+-- a table has no more than 32 columns
+pub columns_few : (tables : List TableInfo) (t : ℕ) → All IsTable tables → length (columns_at tables t) ≤ 32
+columns_few [] t h = omega arith
+columns_few (x ∷ tables) zero h = (h 0 x (omega arith)).narrow
+columns_few (x ∷ tables) (suc t) h = columns_few tables t (λ k d lt. h (suc k) d (omega (arith, lt)))
 
 -- What may be asked
 

@@ -1,6 +1,6 @@
 -- What the code checks: the checks that its values are, and the predicates that it may ask for them.
 use Rattle.std.specs.Prelude.{⊤, ℕ, ◌==◌, not, List, [], ◌∷◌, map, if◌then◌else◌}
-use Rattle.std.specs.List.{filter, flat_map}
+use Rattle.std.specs.List.{filter}
 use Rattle.mv_values.specs.declared.value.Value.{Value}
 use Rattle.mv_values.specs.declared.rows.Keyed.{Keyed}
 use Rattle.mv_values.specs.declared.schema.TableInfo.{TableInfo}
@@ -10,8 +10,9 @@ use Rattle.mv_values.specs.References.{Reference, references}
 use Rattle.mv_values.specs.Tables.{key_columns}
 use Rattle.mv_alone.specs.References.{is_own_parent}
 use Rattle.mv_recorded.specs.Asking.{Check, faults, needs, forbids, pred_of, same_key, parent_pred, child_pred, KnowsKey}
-use Rattle.mv_effect.specs.declared.checks.Check as code
-use Rattle.mv_effect.specs.declared.checks.Check.TheVariants as code'
+use Rattle.mv_checks.specs.declared.children.Child.{Child}
+use Rattle.mv_checks.specs.declared.check.Check as code
+use Rattle.mv_checks.specs.declared.check.Check.TheVariants as code'
 
 -- the check that a value of the code is, of a statement that found rows with these keys
 abbrev pub meant : List (List Value) → code.Check → Check
@@ -33,10 +34,10 @@ parent_checks tables item refs = map (λ r. needs (parent_pred tables r.parent (
 abbrev pub row_checks : List TableInfo → ℕ → Keyed → List Check
 row_checks tables t item = forbids (pred_of t (same_key (key_columns tables t) item.row) []) [] Duplicate ∷ parent_checks tables item (references tables t)
 
--- what DELETE of rows from a table checks of children by a column, where it found rows with these keys
-abbrev pub child_checks : List TableInfo → ℕ → List (List Value) → List Keyed → Reference → List Check
-child_checks tables t found rows r = map (λ item. forbids (child_pred tables r.table r.column item.key) (if r.table == t then found else []) HasChildren) rows
+-- a column with REFERENCES to a table, by its own table and its number
+abbrev pub reference_to : ℕ → Child → Reference
+reference_to t child = record { table = child.table; column = child.column; parent = t }
 
--- and by columns, of which it takes those that refer to the table
-abbrev pub children_checks : List TableInfo → ℕ → List (List Value) → List Keyed → List Reference → List Check
-children_checks tables t found rows refs = flat_map (child_checks tables t found rows) (filter (λ r. r.parent == t) refs)
+-- what DELETE of rows with these keys from a table checks of a column with REFERENCES to it
+abbrev pub child_checks : List TableInfo → ℕ → List (List Value) → Reference → List Check
+child_checks tables t found r = map (λ key. forbids (child_pred tables r.table r.column key) (if r.table == t then found else []) HasChildren) found

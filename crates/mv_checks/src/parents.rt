@@ -6,17 +6,16 @@ ghost use Rattle.std.specs.Option.{is_some};
 ghost use Rattle.mv_values.specs.declared.op.Op.TheVariants.{Eq};
 ghost use Rattle.mv_values.specs.declared.calls.End.TheVariants.{MissingParent};
 ghost use Rattle.mv_values.specs.References.{has_key, parent_of, reference, references_from};
-ghost use Rattle.mv_values.specs.Tables.{columns_at};
+ghost use Rattle.mv_values.specs.Tables.{key_columns};
 ghost use Rattle.mv_catalog.specs.Text.{IsTable};
 ghost use Rattle.mv_alone.specs.Outcome.{Gives, then_do};
 ghost use Rattle.mv_alone.specs.Rows.{fit, test_on};
 ghost use Rattle.mv_alone.specs.Value.{value_of};
-ghost use Rattle.mv_recorded.specs.Asking.{parent_pred, item_checks, update_checks};
-ghost use Rattle.mv_effect.specs.declared.checks.Check.TheVariants.{Needs};
-ghost use Rattle.mv_effect.specs.Checking.{meant, parent_checks, row_checks};
+ghost use Rattle.mv_recorded.specs.Asking.{parent_pred, item_checks, pred_of, same_key};
+ghost use Rattle.mv_checks.specs.declared.check.Check.TheVariants.{Needs};
+ghost use Rattle.mv_checks.specs.Checking.{meant, parent_checks, row_checks};
 
-use crate::checks::Check;
-use crate::predicates::key_pred;
+use crate::check::Check;
 use mv_alone::env::column_value;
 use mv_alone::expr::value;
 use mv_alone::find::{columns_in, is_under, key_in, parent_in, test_on};
@@ -83,6 +82,38 @@ fn push_parent(
 
 // INSERT
 
+/// Returns the tests that each key column equals that of the row.
+fn key_tests(alloc: Global, keys: &[u8], row: &[Value]) -> Result<List<Test>, NoMemory>
+    requires { length keys.now ≤ 256 }
+    ensures { IfOk result (λ tests. tests ≡ same_key keys.now row.now) }
+{
+    let mut tests = List::with_room(alloc, keys.len())?;
+    for column in keys {
+        let value = column_value(alloc, row, *column as u16)?;
+        tests.push(test_on(keys, *column, Op::Eq, value))?;
+    }
+    Ok(tests)
+}
+
+/// Returns the predicate for the rows of a table with the same key as a row. It selects no columns.
+fn key_pred(
+    alloc: Global,
+    tables: &[TableInfo],
+    table: u16,
+    row: &[Value],
+) -> Result<Pred, NoMemory>
+    requires each { All IsTable tables.now }
+    requires table { table < 256 }
+    ensures { IfOk result (λ pred. pred ≡ pred_of table (same_key (key_columns tables.now table) row.now) []) }
+{
+    let tests = key_tests(alloc, key_in(tables, table), row)?;
+    Ok(Pred {
+        table: table as u8,
+        tests,
+        columns: List::new(alloc),
+    })
+}
+
 /// Whether the row is a new one of the parent table, and its key is the value.
 fn is_own_parent(table: u16, parent: u8, value: &Value, item: &Keyed) -> bool
     ensures { result ≡ ((parent == table) && has_key value.now item.now) }
@@ -135,7 +166,7 @@ fn push_columns(
 
 /// Returns what INSERT of a row under its key checks: that no row has its key, and then the parent of each column with
 /// REFERENCES.
-pub(crate) fn row_checks(
+pub fn row_checks(
     alloc: Global,
     tables: &[TableInfo],
     table: u16,
@@ -163,7 +194,7 @@ fn has_parent(tables: &[TableInfo], table: u16, column: u16) -> bool
 }
 
 /// Whether SET sets a column with REFERENCES.
-pub(crate) fn sets_reference(tables: &[TableInfo], table: u16, items: &[RSetItem]) -> bool
+pub fn sets_reference(tables: &[TableInfo], table: u16, items: &[RSetItem]) -> bool
     ensures { result ≡ list_any (λ i. is_some (parent_of tables.now table i.column)) items.now }
 {
     items
@@ -211,8 +242,9 @@ fn push_item(
     }
 }
 
-/// Adds what UPDATE checks of the values that SET gives to a row.
-fn push_items(
+/// Adds what UPDATE checks of the values that SET gives to a row: that each has no fault, and that its parent is there if
+/// its column has REFERENCES.
+pub fn push_items(
     alloc: Global,
     tables: &[TableInfo],
     env: &Env,
@@ -227,23 +259,4 @@ fn push_items(
         push_item(alloc, tables, update.table, env, row, item, checks)?;
     }
     Ok(())
-}
-
-/// Returns what UPDATE checks of the values that SET gives to these rows: that each has no fault, and that its parent is
-/// there if its column has REFERENCES.
-pub(crate) fn update_checks(
-    alloc: Global,
-    tables: &[TableInfo],
-    env: &Env,
-    update: &Update<'_>,
-    rows: &[Keyed],
-) -> Result<List<Check>, NoMemory>
-    requires { All IsTable tables.now }
-    ensures { IfOk result (λ checks. map (meant []) checks ≡ update_checks tables.now update.now.table update.now.items.now env.now rows.now) }
-{
-    let mut checks = List::new(alloc);
-    for item in rows {
-        push_items(alloc, tables, env, update, item.row.as_slice(), &mut checks)?;
-    }
-    Ok(checks)
 }

@@ -1,0 +1,7 @@
+use Rattle.std.proofs.Common.{◌≡◌, ◌++◌, map, drop}
+use Rattle.mv_values.specs.declared.op.Op.TheVariants.{Eq}
+use Rattle.mv_alone.specs.Rows.{test_on}
+use Rattle.mv_checks.proofs.parents.parent_tests.Given as goal
+
+abbrev pub invariant-loop-column : goal.invariant-loop-column
+invariant-loop-column l = l.tests ++ map (λ c. test_on l.keys c Eq l.value) (drop l.column-index l.keys) ≡ map (λ c. test_on l.keys c Eq l.value) l.keys

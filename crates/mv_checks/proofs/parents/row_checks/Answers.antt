@@ -1,0 +1,13 @@
+use Rattle.std.proofs.Common.{◌≤◌, ◌<◌, length, [], ◌++◌, map, sym, ap, subst, ◌∙◌, arith}
+use Rattle.mv_values.specs.declared.schema.Column.{Column}
+use Rattle.mv_values.specs.Tables.{columns_at}
+use Rattle.mv_checks.proofs.Referring.{columns_few}
+use Rattle.mv_checks.proofs.parents.row_checks.Goals as goal
+
+pub key_pred-requires-clause-table : goal.key_pred-requires-clause-table
+key_pred-requires-clause-table c = omega (arith, c.requires.table, c.requires.few)
+
+pub push_columns-requires-clause-narrow : goal.push_columns-requires-clause-narrow
+push_columns-requires-clause-narrow c =
+    let few = subst (λ cs. length cs ≤ 32) (sym c.columns_in-columns.ensures) (columns_few c.args.tables.now c.args.table c.requires.each) in
+    omega (arith, few)

@@ -1,0 +1,6 @@
+//! What INSERT, UPDATE and DELETE check.
+#![tactic(auto)]
+
+pub mod check;
+pub mod children;
+pub mod parents;
