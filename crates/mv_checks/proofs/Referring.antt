@@ -149,6 +149,27 @@ pub tables_step : (at : ℕ) (tables : List TableInfo) (info : TableInfo) → at
     → all_references at (drop at tables) ≡ references_from at 0 info.columns ++ all_references (at + 1) (drop (at + 1) tables)
 tables_step at tables info lt is = ap (all_references at) (drop_more tables at info lt ∙ ap (λ x. x ∷ drop (at + 1) tables) (sym is))
 
+-- the checks of DELETE as the code makes them
+
+module _ (tables : List TableInfo) (t : ℕ) (rows : List Keyed) (children slice : List Child) (are : map (reference_to t) children ≡ references_to tables t) (same : slice ≡ children) where
+  refs_are : map (reference_to t) slice ≡ references_to tables t
+  refs_are = ap (map (reference_to t)) same ∙ are
+
+  pub deletion_is : (own owns : List (List Value)) (checks all : List code.Check) → own ≡ keys rows → owns ≡ own → all ≡ checks → map (meant owns) checks ≡ flat_map (child_checks tables t owns) (map (reference_to t) slice) → map (meant owns) all ≡ delete_checks tables t rows
+  deletion_is own owns checks all is lent held made =
+      ap (map (meant owns)) held
+      ∙ (made
+      ∙ (ap (λ ks. flat_map (child_checks tables t ks) (map (reference_to t) slice)) (lent ∙ is)
+      ∙ (ap (flat_map (child_checks tables t (keys rows))) refs_are ∙ delete_same tables t rows)))
+
+  -- no column refers to the table
+  pub none_checked : length slice ≡ 0 → delete_checks tables t rows ≡ []
+  none_checked none = delete_none tables t rows (sym refs_are ∙ ap (map (reference_to t)) (empty slice none))
+    where
+      empty : (cs : List Child) → length cs ≡ 0 → cs ≡ []
+      empty [] h = refl
+      empty (c ∷ cs) h = cc
+
 -- a table has no more than 32 columns
 pub columns_few : (tables : List TableInfo) (t : ℕ) → All IsTable tables → length (columns_at tables t) ≤ 32
 columns_few [] t h = omega arith

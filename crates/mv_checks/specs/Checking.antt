@@ -1,9 +1,10 @@
 -- What the code checks: the checks that its values are, and the predicates that it may ask for them.
-use Rattle.std.specs.Prelude.{⊤, ℕ, ◌==◌, not, List, [], ◌∷◌, map, if◌then◌else◌}
+use Rattle.std.specs.Prelude.{◌≡◌, ⊤, ℕ, ◌==◌, not, List, [], ◌∷◌, Result, Ok, map, if◌then◌else◌}
 use Rattle.std.specs.List.{filter}
 use Rattle.mv_values.specs.declared.value.Value.{Value}
 use Rattle.mv_values.specs.declared.rows.Keyed.{Keyed}
 use Rattle.mv_values.specs.declared.schema.TableInfo.{TableInfo}
+use Rattle.mv_values.specs.declared.calls.End.{End}
 use Rattle.mv_values.specs.declared.calls.End.TheVariants.{Duplicate, MissingParent, HasChildren}
 use Rattle.mv_values.specs.Columns.{column_of}
 use Rattle.mv_values.specs.References.{Reference, references}
@@ -41,3 +42,7 @@ reference_to t child = record { table = child.table; column = child.column; pare
 -- what DELETE of rows with these keys from a table checks of a column with REFERENCES to it
 abbrev pub child_checks : List TableInfo → ℕ → List (List Value) → Reference → List Check
 child_checks tables t found r = map (λ key. forbids (child_pred tables r.table r.column key) (if r.table == t then found else []) HasChildren) found
+
+-- there is a value, and no fault
+abbrev pub HasValue : {A : Type 0} → Result A End → Type 0
+HasValue {A} r = (x : A) × (r ≡ Ok x)

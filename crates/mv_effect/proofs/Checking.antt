@@ -1,52 +1,20 @@
 -- Checks that are run one after another, up to the first that fails.
-use Rattle.std.proofs.Common.{◌≡◌, ◌≤◌, ◌+◌, ◌*◌, ◌<◌, ℕ, zero, suc, Bool, true, false, not, List, [], ◌∷◌, ◌++◌, Option, Some, None, Result, map, drop, length, slice_index_or, refl, sym, ap, subst, ◌∙◌, arith, append_assoc, append-nil, length-append, add-mul}
-use Rattle.std.specs.Prelude.{◌&&◌}
-use Rattle.std.specs.List.{flat_map, list_all}
+use Rattle.std.proofs.Common.{◌≡◌, ◌≤◌, ◌+◌, ◌*◌, ℕ, Bool, List, [], ◌∷◌, ◌++◌, Option, Some, None, length, refl, sym, ap, ◌∙◌, arith, append_assoc, append-nil, length-append, add-mul}
 use Rattle.std.specs.Option.{option_or}
-use Rattle.std.proofs.lemmas.List.{drop_all, drop_more}
-use Rattle.mv_values.specs.declared.value.Value.{Value}
 use Rattle.mv_values.specs.declared.patch.Write.{Write}
 use Rattle.mv_values.specs.declared.pred.Pred.{Pred}
-use Rattle.mv_values.specs.declared.rows.Keyed.{Keyed}
-use Rattle.mv_values.specs.declared.schema.TableInfo.{TableInfo}
 use Rattle.mv_values.specs.declared.calls.End.{End}
-use Rattle.mv_values.specs.Keys.{keys}
-use Rattle.mv_values.specs.References.{references_to}
 use Rattle.mv_values.specs.Tables.{Tables}
-use Rattle.mv_alone.specs.Rows.{is_some_row}
-use Rattle.mv_recorded.specs.Asking.{Check, is_among, fault_of, first_fault, asked_in, if_none, preds_up_to, delete_checks}
-use Rattle.mv_recorded.specs.Own.{Each}
-use Rattle.mv_recorded.proofs.Checked.{Follows}
 use Rattle.mv_alone.specs.declared.state.Env.{Env}
 use Rattle.mv_alone.specs.Env.{with_found}
 use Rattle.mv_record.specs.declared.effect.Effect.{Effect}
+use Rattle.mv_recorded.specs.Asking.{Check, fault_of, first_fault, asked_in, if_none, preds_up_to}
 use Rattle.mv_recorded.specs.Effects.{only_end, effect_unless, slots_behind}
 use Rattle.mv_log.specs.Logged.{Logged, no_effect}
 use Rattle.mv_view.specs.Viewing.{Sight}
-use Rattle.mv_checks.specs.declared.check.Check as code
-use Rattle.mv_checks.specs.declared.children.Child.{Child}
-use Rattle.mv_checks.specs.Checking.{meant, child_checks, reference_to}
-use Rattle.mv_checks.proofs.Referring.{delete_none, delete_same}
-use Rattle.mv_effect.specs.Stops.{HasValue}
 use Rattle.mv_effect.specs.Logging.{IsBlank, with_preds, with_sets, with_writes}
 use Rattle.mv_effect.specs.Looking.{IsSameView, WasNeverStale, AskedFor, different}
 use Rattle.mv_effect.proofs.OwnKeys.{same_then, never_then}
-
--- Keys of rows
-
-pub all_keys : (f : List Value → Bool) (rows : List Keyed) → list_all (λ (item : Keyed). f item.key) rows ≡ list_all f (keys rows)
-all_keys f [] = refl
-all_keys f (r ∷ rs) = ap (λ b. f r.key && b) (all_keys f rs)
-
--- where no check fails there are values without parents too
-pub follows_on : {A : Type 0} (o : Option End) (checked plain : Result A End) → Follows o checked plain → None ≡ o → HasValue plain
-follows_on None checked plain h is = (h.0, h.2)
-follows_on (Some e) checked plain h is = cc
-
--- no row has one of no keys
-pub none_among : (rows : List Keyed) → not (is_some_row rows) ≡ list_all (is_among []) (keys rows)
-none_among [] = refl
-none_among (r ∷ rs) = refl
 
 -- What was run so far
 
@@ -139,26 +107,7 @@ one_looked cs c rest db ws old now before at after h asked =
     let times : length (preds_up_to (c ∷ rest) db) * d ≡ length (asked_in c) * d + length later * d = ap (λ n. n * d) long ∙ add-mul (length (asked_in c)) (length later) d in
     record { for_rows = omega (arith, h.for_rows, long, asked.for_rows); for_row = omega (arith, h.for_row, times, asked.for_row) }
 
--- The checks of DELETE
-
-module _ (tables : List TableInfo) (t : ℕ) (rows : List Keyed) (children slice : List Child) (are : map (reference_to t) children ≡ references_to tables t) (same : slice ≡ children) where
-  refs_are : map (reference_to t) slice ≡ references_to tables t
-  refs_are = ap (map (reference_to t)) same ∙ are
-
-  pub deletion_is : (own owns : List (List Value)) (checks all : List code.Check) → own ≡ keys rows → owns ≡ own → all ≡ checks → map (meant owns) checks ≡ flat_map (child_checks tables t owns) (map (reference_to t) slice) → map (meant owns) all ≡ delete_checks tables t rows
-  deletion_is own owns checks all is lent held made =
-      ap (map (meant owns)) held
-      ∙ (made
-      ∙ (ap (λ ks. flat_map (child_checks tables t ks) (map (reference_to t) slice)) (lent ∙ is)
-      ∙ (ap (flat_map (child_checks tables t (keys rows))) refs_are ∙ delete_same tables t rows)))
-
-  -- no column refers to the table
-  pub none_checked : length slice ≡ 0 → delete_checks tables t rows ≡ []
-  none_checked none = delete_none tables t rows (sym refs_are ∙ ap (map (reference_to t)) (empty slice none))
-    where
-      empty : (cs : List Child) → length cs ≡ 0 → cs ≡ []
-      empty [] h = refl
-      empty (c ∷ cs) h = cc
+-- No checks
 
 pub none_fault : (cs : List Check) (db : Tables) → cs ≡ [] → None ≡ first_fault cs db
 none_fault cs db none = ap (λ l. first_fault l db) (sym none)
@@ -204,22 +153,3 @@ no_sets first old mid ps cs db begins is = ap (λ (l : Logged). l.effect.sets) (
 pub unless_preds : (o : Option End) (ps : List Pred) (found : Bool) (ws : List Write) (env : Env) → (effect_unless o ps found ws env).preds ≡ ps
 unless_preds None ps found ws env = refl
 unless_preds (Some e) ps found ws env = refl
-
--- Checks of the code
-
--- those from a place on
-pub meant_from : (found : List (List Value)) (checks : List code.Check) (i : ℕ) (c : code.Check) → i < length checks → c ≡ slice_index_or checks i c
-    → map (meant found) (drop i checks) ≡ meant found c ∷ map (meant found) (drop (i + 1) checks)
-meant_from found checks i c lt is = ap (map (meant found)) (drop_more checks i c lt ∙ ap (λ x. x ∷ drop (i + 1) checks) (sym is))
-
-pub meant_none : (found : List (List Value)) (checks : List code.Check) (i : ℕ) → length checks ≤ i → map (meant found) (drop i checks) ≡ []
-meant_none found checks i le = ap (map (meant found)) (drop_all i checks le)
-
--- what holds of each holds of the one at a place
-pub each_from : (P : Check → Type 0) (found : List (List Value)) (checks : List code.Check) (i : ℕ) (c : code.Check) → i < length checks → c ≡ slice_index_or checks i c → Each P (map (meant found) (drop i checks)) → P (meant found c)
-each_from P found checks i c lt is h = (subst (Each P) (meant_from found checks i c lt is) h).0
-
-pub each_at : (P : Check → Type 0) (found : List (List Value)) (checks : List code.Check) (i : ℕ) → Each P (map (meant found) checks) → Each P (map (meant found) (drop i checks))
-each_at P found checks zero h = h
-each_at P found [] (suc i) h = tt
-each_at P found (c ∷ cs) (suc i) h = each_at P found cs i h.1

@@ -3,7 +3,6 @@ use Rattle.std.specs.Prelude.{◌≡◌, List, [], Result, Ok, Err}
 use Rattle.mv_values.specs.declared.pred.Pred.{Pred}
 use Rattle.mv_alone.specs.declared.state.Stop.{Stop}
 use Rattle.mv_alone.specs.declared.state.Stop.TheVariants.{Memory, Ended}
-use Rattle.mv_values.specs.declared.calls.End.{End}
 use Rattle.mv_log.specs.Logged.{Logged}
 use Rattle.mv_record.specs.declared.effect.Effect.{Effect}
 use Rattle.mv_recorded.specs.Effects.{only_end}
@@ -19,10 +18,6 @@ abbrev pub GivesOrEnds : {A : Type 0} → Result A Stop → Result A Effect → 
 GivesOrEnds (Ok asked) meant = meant ≡ Ok asked
 GivesOrEnds (Err Memory) meant = Unit {0}
 GivesOrEnds (Err (Ended e)) meant = meant ≡ Err (only_end [] e)
-
--- there is a value, and no fault
-abbrev pub HasValue : {A : Type 0} → Result A End → Type 0
-HasValue {A} r = (x : A) × (r ≡ Ok x)
 
 -- the result of a step with what it left behind
 abbrev pub leaving : {A B : Type 0} → Result A Stop → B → Result B Stop

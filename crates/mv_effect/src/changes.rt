@@ -14,9 +14,9 @@ ghost use Rattle.mv_recorded.specs.Asking.{on, first_fault, preds_up_to, update_
 ghost use Rattle.mv_recorded.specs.Doing.{set_patch, write};
 ghost use Rattle.mv_recorded.specs.Effects.{IsEffect, effect_after, effect_unless, changes, new_of, effect_of_writes, slots_behind};
 ghost use Rattle.mv_undo.specs.Owning.{earlier};
-ghost use Rattle.mv_checks.specs.Checking.{meant, row_checks};
+ghost use Rattle.mv_checks.specs.Checking.{meant, row_checks, HasValue};
 ghost use Rattle.mv_effect.specs.Logging.{BeginsPred, IsBlank, without_effect, with_preds, with_sets, with_writes};
-ghost use Rattle.mv_effect.specs.Stops.{HasValue, leaving};
+ghost use Rattle.mv_effect.specs.Stops.{leaving};
 ghost use Rattle.mv_effect.specs.Looking.{AreSoundTables, OnlyAsks, AskedBy, AskedFor};
 ghost use Rattle.mv_effect.specs.Naming.{Tests, Sets};
 

@@ -27,7 +27,7 @@ use mv_view::view::{Refused, View};
 use std::alloc::Global;
 
 /// Whether the key of each row is one of these.
-#[tactic(auto, using(crate::proofs::Checking::all_keys))]
+#[tactic(auto, using(mv_checks::proofs::Running::all_keys))]
 fn have_keys(own: &[Key], rows: &[Keyed]) -> bool
     ensures { result ≡ list_all (is_among own.now) (keys rows.now) }
 {
@@ -71,7 +71,7 @@ fn finds_only<V: View>(
 }
 
 /// Whether the predicate finds no row; if `may_be_own`, none but those with these keys.
-#[tactic(auto, using(crate::proofs::Checking::none_among))]
+#[tactic(auto, using(mv_checks::proofs::Running::none_among))]
 fn finds_no_other<V: View>(
     alloc: Global,
     context: &Context<'_>,

@@ -3,23 +3,19 @@
 ghost use Rattle.std.specs.Prelude.{◌≡◌, ◌<◌, ◌≤◌, ◌++◌, IfOk, OnOk, All, length, []};
 ghost use Rattle.std.specs.List.{flat_map};
 ghost use Rattle.mv_alone.specs.Outcome.{Gives};
-ghost use Rattle.mv_recorded.specs.Asking.{pred_of, same_key, columns_in, column_in, with_sorts, KnowsKey};
-ghost use Rattle.mv_values.specs.Tables.{key_columns};
+ghost use Rattle.mv_recorded.specs.Asking.{columns_in, column_in, with_sorts, KnowsKey};
 ghost use Rattle.mv_catalog.specs.Text.{IsTable};
 ghost use Rattle.mv_recorded.specs.Effects.{asks};
 ghost use Rattle.mv_effect.specs.Naming.{Tests, AreColumns};
 
 use crate::numbers::{columns_once, narrow};
-use mv_alone::env::column_value;
-use mv_alone::find::{key_in, test_on, tests_from};
+use mv_alone::find::tests_from;
 use mv_alone::state::{Env, Stop};
 use mv_catalog::resolved::{Query, RAgg, RCond, RExpr, RExprKind, RSetItem, RSort, Update};
 use mv_values::list::List;
 use mv_values::memory::NoMemory;
-use mv_values::op::Op;
-use mv_values::pred::{Pred, Test};
+use mv_values::pred::Pred;
 use mv_values::schema::TableInfo;
-use mv_values::value::Value;
 use std::alloc::Global;
 
 /// Returns the predicate for the rows of a table that pass WHERE, with these columns selected. Fails with the first

@@ -1,5 +1,5 @@
 -- The effects of statements that ask their tables, from what they asked and what they found.
-use Rattle.std.proofs.Common.{◌≡◌, ℕ, ℤ, ◌==◌, not, Bool, List, [], ◌∷◌, Option, Result, Ok, Err, map, length, refl, sym, ap, subst, ◌∙◌, rules}
+use Rattle.std.proofs.Common.{◌≡◌, ℕ, ℤ, ◌==◌, not, Bool, List, [], ◌∷◌, Option, Some, None, Result, Ok, Err, map, length, refl, sym, ap, subst, ◌∙◌, rules}
 use Rattle.std.specs.List.{flat_map}
 use Rattle.mv_values.specs.declared.value.Value.{Value}
 use Rattle.mv_values.specs.declared.calls.End.{End}
@@ -11,28 +11,28 @@ use Rattle.mv_values.specs.declared.schema.TableInfo.{TableInfo}
 use Rattle.mv_values.specs.Columns.{number}
 use Rattle.mv_values.specs.Keys.{IsRising}
 use Rattle.mv_values.specs.Patching.{found_by}
-use Rattle.mv_values.specs.Tables.{key_columns, columns_at, rows_at, Tables, KeysStand}
+use Rattle.mv_values.specs.Tables.{rows_at, Tables, KeysStand}
 use Rattle.mv_catalog.specs.declared.resolved.RAgg.{RAgg}
 use Rattle.mv_catalog.specs.declared.resolved.RCond.{RCond}
 use Rattle.mv_catalog.specs.declared.resolved.RExpr.{RExpr}
 use Rattle.mv_catalog.specs.declared.resolved.RSetItem.{RSetItem}
 use Rattle.mv_catalog.specs.declared.resolved.RSort.{RSort}
 use Rattle.mv_catalog.specs.declared.resolved.RStmt.{RStmt}
-use Rattle.mv_catalog.specs.declared.resolved.RStmt.TheOpen.{Select, Total, ForSelect, Insert, Update, Delete}
+use Rattle.mv_catalog.specs.declared.resolved.RStmt.TheOpen.{Select, Total, ForSelect, Update, Delete}
 use Rattle.mv_alone.specs.declared.state.Env.{Env}
 use Rattle.mv_alone.specs.declared.state.Stop.{Stop}
 use Rattle.mv_alone.specs.declared.state.Stop.TheVariants.{Memory, Ended}
 use Rattle.mv_alone.specs.Outcome.{Fails, then_do}
 use Rattle.mv_alone.specs.Rows.{aggregate, is_some_row, item_at, matching, ordered}
-use Rattle.mv_alone.specs.Changes.{new_row}
 use Rattle.mv_alone.specs.Alone.{fixed, offset_of}
 use Rattle.mv_record.specs.declared.effect.Effect.{Effect}
-use Rattle.mv_recorded.specs.Asking.{column_in, columns_in, pred_of, same_key, with_sorts}
+use Rattle.mv_recorded.specs.Asking.{on, column_in, columns_in, with_sorts, first_fault, preds_up_to, update_checks, delete_checks}
 use Rattle.mv_recorded.specs.Doing.{write}
-use Rattle.mv_recorded.specs.Effects.{IsEffect, only_end, asks, pred_with, row_number, effect_after, effect_of_select, effect_of_aggregate, effect_of_loop, effect_of_writes, effect_of_insert, changes, new_of}
-use Rattle.mv_recorded.proofs.Altered.{delete_goes, insert_done, update_done}
+use Rattle.mv_recorded.specs.Effects.{IsEffect, only_end, asks, pred_with, row_number, effect_after, effect_of_select, effect_of_aggregate, effect_of_loop, effect_of_writes, effect_unless, changes, new_of}
+use Rattle.mv_recorded.proofs.Told.{delete_done, update_done}
 use Rattle.mv_recorded.proofs.Chosen.{for_goes, select_goes, select_unasked, total_done}
 use Rattle.mv_recorded.proofs.Matching.{matching_all}
+use Rattle.mv_checks.specs.Checking.{HasValue}
 use Rattle.mv_recorder.specs.Scenes.{Finds, EndsBy}
 
 -- whether rows were found
@@ -96,38 +96,46 @@ for_is tables x once cs t conds sorts body env db pred rows turns effect is fix 
     let same : effect ≡ effect_of_loop pred (fixed once cs sorts (matching [] rows)) env = is ∙ ap (λ rs. effect_of_loop pred rs env) (fix ∙ ap (fixed once cs sorts) (sym (matching_all rows))) in
     subst (IsEffect tables (ForSelect x once cs t conds sorts body) env db) (sym same) (for_goes tables x once cs t conds sorts body env db pred rows h found)
 
--- INSERT
-
-pub insert_is : (tables : List TableInfo) (t : ℕ) (es : List RExpr) (env : Env) (db : Tables) (row : List Value) (pred : Pred) (rows : List Keyed) (there : Bool) (effect : Effect)
-    → effect ≡ effect_of_insert tables t row pred there env → there ≡ is_some_row rows → KeysStand tables db → IsRising (rows_at db t) → new_row (columns_at tables t) es env ≡ Ok row → pred ≡ pred_of t (same_key (key_columns tables t) row) [] → rows ≡ found_by pred db
-    → IsEffect tables (Insert t es) env db effect
-insert_is tables t es env db row pred rows there effect is any stand rising made asks found =
-    subst (IsEffect tables (Insert t es) env db) (sym (is ∙ ap (λ b. effect_of_insert tables t row pred b env) any)) (insert_done tables t es env db row pred rows stand rising made asks found)
-
 -- UPDATE
 
-pub update_is : (tables : List TableInfo) (t : ℕ) (items : List RSetItem) (conds : List RCond) (env : Env) (db : Tables) (pred : Pred) (rows : List Keyed) (ws : List Write) (some : Bool) (effect : Effect)
-    → effect ≡ effect_of_writes pred some ws env → some ≡ is_some_row rows → asks tables t conds (flat_map (λ i. columns_in i.right) items) env ≡ Ok pred → rows ≡ found_by pred db → changes t items (new_of tables t env items) rows ≡ Ok ws
-    → IsEffect tables (Update t items conds) env db effect
-update_is tables t items conds env db pred rows ws some effect is any h found made =
-    let go : List Write → Effect = λ ws. effect_of_writes pred (is_some_row rows) ws env in
-    let same : effect ≡ effect_after pred (changes t items (new_of tables t env items) rows) go = is ∙ (ap (λ b. effect_of_writes pred b ws env) any ∙ sym (ap (λ r. effect_after pred r go) made)) in
-    subst (IsEffect tables (Update t items conds) env db) (sym same) (update_done tables t items conds env db pred rows h found)
+-- a check failed
+pub update_ends : (tables : List TableInfo) (t : ℕ) (items : List RSetItem) (conds : List RCond) (env : Env) (db : Tables) (pred : Pred) (rows : List Keyed) (preds : List Pred) (end : End) (effect : Effect)
+    → effect ≡ only_end preds end → Some end ≡ first_fault (update_checks tables t items env rows) db → preds ≡ pred ∷ preds_up_to (update_checks tables t items env rows) db → KeysStand tables db
+    → asks tables t conds (flat_map (λ i. columns_in i.right) items) env ≡ Ok pred → rows ≡ found_by pred db → IsEffect tables (Update t items conds) env db effect
+update_ends tables t items conds env db pred rows preds end effect is fault asked stand h found =
+    let ws : List Write = on (changes t items (new_of tables t env items) rows) (λ ws. ws) in
+    let same : effect ≡ effect_unless (first_fault (update_checks tables t items env rows) db) (pred ∷ preds_up_to (update_checks tables t items env rows) db) (is_some_row rows) ws env =
+    is ∙ (ap (λ ps. only_end ps end) asked ∙ ap (λ o. effect_unless o (pred ∷ preds_up_to (update_checks tables t items env rows) db) (is_some_row rows) ws env) fault) in
+    subst (IsEffect tables (Update t items conds) env db) (sym same) (update_done tables t items conds env db pred rows stand h found)
 
-pub update_ends : (tables : List TableInfo) (t : ℕ) (items : List RSetItem) (conds : List RCond) (env : Env) (db : Tables) (pred : Pred) (rows : List Keyed) (stop : Stop) (effect : Effect)
-    → EndsBy pred stop effect → asks tables t conds (flat_map (λ i. columns_in i.right) items) env ≡ Ok pred → rows ≡ found_by pred db → Fails stop (changes t items (new_of tables t env items) rows)
-    → IsEffect tables (Update t items conds) env db effect
-update_ends tables t items conds env db pred rows Memory effect is h found fails = absurd is
-update_ends tables t items conds env db pred rows (Ended d) effect is h found fails =
-    let go : List Write → Effect = λ ws. effect_of_writes pred (is_some_row rows) ws env in
-    let same : effect ≡ effect_after pred (changes t items (new_of tables t env items) rows) go = is ∙ sym (ap (λ r. effect_after pred r go) fails) in
-    subst (IsEffect tables (Update t items conds) env db) (sym same) (update_done tables t items conds env db pred rows h found)
+-- none failed
+pub update_is : (tables : List TableInfo) (t : ℕ) (items : List RSetItem) (conds : List RCond) (env : Env) (db : Tables) (pred : Pred) (rows : List Keyed) (preds : List Pred) (ws : List Write) (some : Bool) (effect : Effect)
+    → effect ≡ effect_of_writes preds some ws env → some ≡ is_some_row rows → None ≡ first_fault (update_checks tables t items env rows) db → preds ≡ pred ∷ preds_up_to (update_checks tables t items env rows) db → KeysStand tables db
+    → asks tables t conds (flat_map (λ i. columns_in i.right) items) env ≡ Ok pred → rows ≡ found_by pred db → changes t items (new_of tables t env items) rows ≡ Ok ws → IsEffect tables (Update t items conds) env db effect
+update_is tables t items conds env db pred rows preds ws some effect is any fault asked stand h found made =
+    let all : List Pred = pred ∷ preds_up_to (update_checks tables t items env rows) db in
+    let same : effect ≡ effect_unless (first_fault (update_checks tables t items env rows) db) all (is_some_row rows) (on (changes t items (new_of tables t env items) rows) (λ vs. vs)) env =
+    is
+    ∙ (ap (λ ps. effect_of_writes ps some ws env) asked
+    ∙ (ap (λ b. effect_of_writes all b ws env) any
+    ∙ (ap (λ o. effect_unless o all (is_some_row rows) ws env) fault ∙ ap (λ r. effect_unless (first_fault (update_checks tables t items env rows) db) all (is_some_row rows) (on r (λ vs. vs)) env) (sym made)))) in
+    subst (IsEffect tables (Update t items conds) env db) (sym same) (update_done tables t items conds env db pred rows stand h found)
+
+-- so no new row is stopped but for want of memory
+pub update_goes : {A : Type 0} (P : Effect → Type 0) (r : Result A End) (stop : Stop) → Fails stop r → HasValue r → Finds (Err stop) P
+update_goes P r Memory h v = tt
+update_goes P r (Ended e) h v = (let no : Ok v.0 ≡ Err e = sym v.1 ∙ h in cc)
 
 -- DELETE
 
-pub delete_is : (tables : List TableInfo) (t : ℕ) (conds : List RCond) (env : Env) (db : Tables) (pred : Pred) (rows : List Keyed) (ws : List Write) (some : Bool) (effect : Effect)
-    → effect ≡ effect_of_writes pred some ws env → some ≡ is_some_row rows → ws ≡ map (λ item. write t item.key Deletes) rows → asks tables t conds [] env ≡ Ok pred → rows ≡ found_by pred db
-    → IsEffect tables (Delete t conds) env db effect
-delete_is tables t conds env db pred rows ws some effect is any writes h found =
-    let same : effect ≡ effect_of_writes pred (is_some_row rows) (map (λ item. write t item.key Deletes) rows) env = is ∙ (ap (λ b. effect_of_writes pred b ws env) any ∙ ap (λ l. effect_of_writes pred (is_some_row rows) l env) writes) in
-    subst (IsEffect tables (Delete t conds) env db) (sym same) (delete_goes tables t conds env db pred rows h found)
+pub delete_is : (tables : List TableInfo) (t : ℕ) (conds : List RCond) (env : Env) (db : Tables) (pred : Pred) (rows : List Keyed) (fault : Option End) (preds : List Pred) (ws : List Write) (some : Bool) (effect : Effect)
+    → effect ≡ effect_unless fault preds some ws env → fault ≡ first_fault (delete_checks tables t rows) db → preds ≡ pred ∷ preds_up_to (delete_checks tables t rows) db → some ≡ is_some_row rows → ws ≡ map (λ item. write t item.key Deletes) rows
+    → IsRising (rows_at db t) → asks tables t conds [] env ≡ Ok pred → rows ≡ found_by pred db → IsEffect tables (Delete t conds) env db effect
+delete_is tables t conds env db pred rows fault preds ws some effect is failed asked any writes rising h found =
+    let all : List Pred = pred ∷ preds_up_to (delete_checks tables t rows) db in
+    let first : Option End = first_fault (delete_checks tables t rows) db in
+    let same : effect ≡ effect_unless first all (is_some_row rows) (map (λ item. write t item.key Deletes) rows) env =
+    is
+    ∙ (ap (λ o. effect_unless o preds some ws env) failed
+    ∙ (ap (λ ps. effect_unless first ps some ws env) asked ∙ (ap (λ b. effect_unless first all b ws env) any ∙ ap (λ l. effect_unless first all (is_some_row rows) l env) writes))) in
+    subst (IsEffect tables (Delete t conds) env db) (sym same) (delete_done tables t conds env db pred rows rising h found)

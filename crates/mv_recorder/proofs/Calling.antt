@@ -43,4 +43,4 @@ called_arguments p number call proc whole c =
     AllZip-long Suits is.0.params call.arguments is.2 ∙ ap (λ (q : ProcInfo). length q.params) one
 
 pub database_sound : (p : Program) (db : Tables) → IsProgram p → IsDatabaseOf p.resolved.tables db → AreSound p.resolved.tables db
-database_sound p db whole h = record { few = whole.text.few; each = whole.text.tables; keys = h.keys; rising = h.rising }
+database_sound p db whole h = record { few = whole.text.few; each = whole.text.tables; parents = whole.text.parents; keys = h.keys; rising = h.rising }

@@ -1,16 +1,11 @@
 -- A table has few columns, so their numbers are bytes.
-use Rattle.std.proofs.Common.{◌≤◌, ◌<◌, ◌==◌, not, ℕ, zero, suc, List, [], ◌∷◌, All, length, arith}
+use Rattle.std.proofs.Common.{◌<◌, ◌==◌, not, ℕ, List, [], ◌∷◌, All, length, arith}
 use Rattle.std.proofs.lemmas.List.Elements.{All-nil, All-cons, All-head, All-tail, All-filter, All-weaker}
 use Rattle.mv_values.specs.declared.schema.TableInfo.{TableInfo}
 use Rattle.mv_values.specs.Tables.{columns_at}
 use Rattle.mv_catalog.specs.Text.{IsTable}
 use Rattle.mv_recorded.specs.Reading.{each_once}
-
--- a table has no more than 32 columns
-pub columns_few : (tables : List TableInfo) (t : ℕ) → All IsTable tables → length (columns_at tables t) ≤ 32
-columns_few [] t h = omega arith
-columns_few (x ∷ tables) zero h = (h 0 x (omega arith)).narrow
-columns_few (x ∷ tables) (suc t) h = columns_few tables t (λ k d lt. h (suc k) d (omega (arith, lt)))
+use Rattle.mv_checks.proofs.Referring.{columns_few}
 
 -- so their numbers are bytes
 pub bytes_of : {A : Type 0} (number : A → ℕ) (tables : List TableInfo) (t : ℕ) (xs : List A) → All IsTable tables → All (λ x. number x < length (columns_at tables t)) xs → All (λ x. number x < 256) xs

@@ -58,6 +58,7 @@ stays_sound tables s st next own sound does leads = record {
   tables = record {
     few = sound.tables.few;
     each = sound.tables.each;
+    parents = sound.tables.parents;
     keys = itself_stands tables (out-RStmt s) st next sound.tables.keys does;
     rising = subst (λ (w : State). AreRising w.tables) (sym leads) (rising_applied own.writes st.tables sound.tables.rising);
   };

@@ -3,7 +3,7 @@ use Rattle.std.specs.Prelude.{◌<◌, ◌≤◌, ◌^◌, ◌≡◌, List, [], 
 use Rattle.mv_values.specs.declared.pred.Pred.{Pred}
 use Rattle.mv_values.specs.declared.schema.TableInfo.{TableInfo}
 use Rattle.mv_values.specs.Tables.{Tables, KeysStand}
-use Rattle.mv_catalog.specs.Text.{IsTable}
+use Rattle.mv_catalog.specs.Text.{IsTable, HaveParents}
 use Rattle.mv_alone.specs.declared.state.Env.{Env}
 use Rattle.mv_alone.specs.declared.state.Stop.{Stop}
 use Rattle.mv_alone.specs.declared.state.Stop.TheVariants.{Memory, Ended}
@@ -15,6 +15,7 @@ use Rattle.mv_recorded.specs.Effects.{only_end}
 pub record AreSound (infos : List TableInfo) (db : Tables) : Type 0 where
   pub few : length infos ≤ 64
   pub each : All IsTable infos
+  pub parents : HaveParents infos
   pub keys : KeysStand infos db
   pub rising : AreRising db
 

@@ -54,13 +54,13 @@ pub(crate) fn ended(alloc: Global, end: End) -> Effect
     effect
 }
 
-/// Returns the effect of a statement that asked this, and then ended its call.
-pub(crate) fn ended_after(alloc: Global, pred: Pred, end: End) -> Result<Effect, NoMemory>
-    ensures { IfOk result (λ e. e ≡ only_end (pred ∷ []) end) }
+/// Returns the effect of a statement that asked these, and then ended its call.
+pub(crate) fn ended_after(alloc: Global, preds: List<Pred>, end: End) -> Effect
+    ensures { result ≡ only_end preds end }
 {
     let mut effect = ended(alloc, end);
-    effect.preds = List::of(alloc, pred)?;
-    Ok(effect)
+    effect.preds = preds;
+    effect
 }
 
 /// Returns the effect of a statement that asked this, and then was stopped. Fails if it was stopped because memory ran
@@ -70,7 +70,10 @@ pub(crate) fn stopped_after(alloc: Global, pred: Pred, stop: Stop) -> Result<Eff
 {
     match stop {
         Stop::Memory => Err(NoMemory),
-        Stop::Ended(end) => ended_after(alloc, pred, end),
+        Stop::Ended(end) => {
+            let preds = List::of(alloc, pred)?;
+            Ok(ended_after(alloc, preds, end))
+        }
     }
 }
 

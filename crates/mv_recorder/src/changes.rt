@@ -1,20 +1,24 @@
 //! The effects of statements that change the rows of a table.
 
-ghost use Rattle.std.specs.Prelude.{◌≡◌, ◌<◌, ◌^◌, Ok, IfOk, All, map, length};
+ghost use Rattle.std.specs.Prelude.{◌≡◌, ◌<◌, ◌^◌, ◌∷◌, ◌++◌, [], true, Ok, IfOk, OnOk, All, map, length};
 ghost use Rattle.mv_values.specs.declared.patch.Patch.TheVariants as patch;
+ghost use Rattle.mv_values.specs.Keys.{keys};
 ghost use Rattle.mv_catalog.specs.declared.resolved.RSetItem.{RSetItem};
 ghost use Rattle.mv_catalog.specs.declared.resolved.RStmt.TheOpen as layer;
-ghost use Rattle.mv_alone.specs.Changes.{keyed};
+ghost use Rattle.mv_catalog.specs.Text.{IsTable};
 ghost use Rattle.mv_alone.specs.Outcome.{Gives, then_do};
+ghost use Rattle.mv_recorded.specs.Asking.{first_fault, preds_up_to, delete_checks, update_checks};
 ghost use Rattle.mv_recorded.specs.Doing.{set_patch, write};
-ghost use Rattle.mv_recorded.specs.Effects.{IsEffect, changes, effect_of_insert, effect_of_writes, new_of};
+ghost use Rattle.mv_recorded.specs.Effects.{IsEffect, changes, effect_of_writes, effect_unless, new_of};
+ghost use Rattle.mv_checks.specs.Checking.{meant, row_checks};
 ghost use Rattle.mv_recorder.specs.Naming.{Tests, Sets};
 ghost use Rattle.mv_recorder.specs.Scenes.{IsSound, Finds};
 ghost use Rattle.mv_table.specs.Entries.{seen};
 
-use crate::asked::{asking, ended_after, is_any, rows_for, stopped_after};
+use crate::asked::{ended_after, is_any, nothing, rows_for};
+use crate::checks::run_checks;
 use crate::numbers::narrow;
-use crate::predicates::{key_pred, pred_from, update_pred};
+use crate::predicates::{pred_from, update_pred};
 use crate::scene::Scene;
 use crate::slots::found_slots;
 use mv_alone::env::column_value;
@@ -22,6 +26,9 @@ use mv_alone::find::{columns_in, key_in};
 use mv_alone::made::{made_row, row_after_set, under_key};
 use mv_alone::state::{Env, Stop};
 use mv_catalog::resolved::{RCond, RExpr, RSetItem, Update};
+use mv_checks::check::Check;
+use mv_checks::children::{children_of, delete_checks};
+use mv_checks::parents::{push_items, row_checks};
 use mv_record::effect::Effect;
 use mv_table::table::Entry;
 use mv_values::calls::End;
@@ -30,59 +37,72 @@ use mv_values::list::List;
 use mv_values::memory::NoMemory;
 use mv_values::patch::{Assign, Patch, Write};
 use mv_values::pred::Pred;
+use mv_values::rows::Keyed;
 use mv_values::value::{Key, Row, Value};
 use std::alloc::Global;
 
-/// Returns the effect of a statement that asked this and makes these writes. `found` is whether it found a row.
+/// Returns the effect of a statement that asked these and makes these writes. `found` is whether it found a row.
 fn changed(
     alloc: Global,
     env: &Env,
-    pred: Pred,
+    preds: List<Pred>,
     found: bool,
     writes: List<Write>,
 ) -> Result<Effect, NoMemory>
     requires { env.now.found < 2 ^ 16 }
-    ensures { IfOk result (λ e. e ≡ effect_of_writes pred found writes env.now) }
+    ensures { IfOk result (λ e. e ≡ effect_of_writes preds found writes env.now) }
 {
-    let sets = found_slots(alloc, env, found)?;
-    let mut effect = asking(alloc, pred, sets)?;
+    let mut effect = nothing(alloc);
+    effect.sets = found_slots(alloc, env, found)?;
+    effect.preds = preds;
     effect.writes = writes;
     Ok(effect)
 }
 
-/// Returns the write that inserts a row under its key.
-fn insertion(alloc: Global, table: u8, keys: &[u8], row: Row) -> Result<Write, NoMemory>
-    ensures { IfOk result (λ w. w ≡ write table (keyed keys.now row).key (patch.Insert row)) }
+/// The same, unless a check failed.
+fn checked(
+    alloc: Global,
+    env: &Env,
+    fault: Option<End>,
+    preds: List<Pred>,
+    found: bool,
+    writes: List<Write>,
+) -> Result<Effect, NoMemory>
+    requires { env.now.found < 2 ^ 16 }
+    ensures { IfOk result (λ e. e ≡ effect_unless fault preds found writes env.now) }
 {
-    let item = under_key(alloc, keys, row)?;
-    Ok(Write {
+    match fault {
+        Some(end) => Ok(ended_after(alloc, preds, end)),
+        None => changed(alloc, env, preds, found, writes),
+    }
+}
+
+/// Returns the write that inserts a row under its key.
+fn insertion(table: u8, item: Keyed) -> Write
+    ensures { result ≡ write table item.key (patch.Insert item.row) }
+{
+    Write {
         table,
         key: item.key,
         patch: Patch::Insert(item.row),
-    })
-}
-
-/// Returns the effect of an INSERT of this row that asked this. `there` is whether a row with its key exists.
-fn inserted(
-    alloc: Global,
-    scene: &Scene<'_>,
-    table: u16,
-    pred: Pred,
-    row: Row,
-    there: bool,
-) -> Result<Effect, NoMemory>
-    requires table { table < 256 }
-    requires found { scene.now.env.now.found < 2 ^ 16 }
-    ensures { IfOk result (λ e. e ≡ effect_of_insert scene.now.infos.now table row pred there scene.now.env.now) }
-{
-    if there {
-        return ended_after(alloc, pred, End::Duplicate);
     }
-    let write = insertion(alloc, narrow(table), key_in(scene.infos, table), row)?;
-    changed(alloc, scene.env, pred, true, List::of(alloc, write)?)
 }
 
-/// Returns the effect of INSERT. It asks for a row with the same key by a test of each key column.
+/// Returns the effect of an INSERT of this row under its key.
+fn inserted(alloc: Global, scene: &Scene<'_>, table: u16, item: Keyed) -> Result<Effect, NoMemory>
+    requires sound { IsSound scene.now.infos.now scene.now.env.now scene.now.tables.now }
+    requires table { table < length scene.now.infos.now }
+    ensures { IfOk result (λ e. e ≡ effect_unless (first_fault (row_checks scene.now.infos.now table item) scene.now.tables.now) (preds_up_to (row_checks scene.now.infos.now table item) scene.now.tables.now) true (write table item.key (patch.Insert item.row) ∷ []) scene.now.env.now) }
+{
+    let checks = row_checks(alloc, scene.infos, table, &item)?;
+    let mut preds = List::new(alloc);
+    let fault = run_checks(alloc, scene, &[], checks.as_slice(), &mut preds)?;
+    let writes = List::of(alloc, insertion(narrow(table), item))?;
+    checked(alloc, scene.env, fault, preds, true, writes)
+}
+
+/// Returns the effect of INSERT. It asks for a row with the same key by a test of each key column, and then for the parent
+/// of each column with REFERENCES.
 pub(crate) fn insert(
     alloc: Global,
     scene: &Scene<'_>,
@@ -94,10 +114,8 @@ pub(crate) fn insert(
     ensures { Finds result (IsEffect scene.now.infos.now (layer.Insert table exprs.now) scene.now.env.now scene.now.tables.now) }
 {
     let row = made_row(alloc, columns_in(scene.infos, table), exprs, scene.env)?;
-    let pred = key_pred(alloc, scene.infos, table, row.as_slice())?;
-    let found = rows_for(alloc, scene, &pred)?;
-    let items = found.as_slice();
-    Ok(inserted(alloc, scene, table, pred, row, is_any(items))?)
+    let item = under_key(alloc, key_in(scene.infos, table), row)?;
+    Ok(inserted(alloc, scene, table, item)?)
 }
 
 /// Returns the writes that delete these rows.
@@ -115,7 +133,39 @@ fn deletes(alloc: Global, table: u8, rows: &[Entry<'_>]) -> Result<List<Write>, 
     Ok(writes)
 }
 
-/// Returns the effect of DELETE.
+/// Returns the keys of these rows.
+fn keys_of(alloc: Global, rows: &[Entry<'_>]) -> Result<List<Key>, NoMemory>
+    ensures { IfOk result (λ all. all ≡ keys (map seen rows.now)) }
+{
+    let mut all = List::with_room(alloc, rows.len())?;
+    for entry in rows {
+        all.push(entry.key.copy(alloc)?)?;
+    }
+    Ok(all)
+}
+
+/// Runs what DELETE of these rows checks, and adds the predicates. Returns the end if a check fails.
+fn check_deletion(
+    alloc: Global,
+    scene: &Scene<'_>,
+    table: u16,
+    rows: &[Entry<'_>],
+    preds: &mut List<Pred>,
+) -> Result<Option<End>, NoMemory>
+    requires { IsSound scene.now.infos.now scene.now.env.now scene.now.tables.now }
+    ensures fault { IfOk result (λ o. o ≡ first_fault (delete_checks scene.now.infos.now table (map seen rows.now)) scene.now.tables.now) }
+    ensures preds { OnOk result (preds.new ≡ preds.old ++ preds_up_to (delete_checks scene.now.infos.now table (map seen rows.now)) scene.now.tables.now) }
+{
+    let children = children_of(alloc, scene.infos, table)?;
+    let own = keys_of(alloc, rows)?;
+    let own = own.as_slice();
+    let checks = delete_checks(alloc, scene.infos, table, own, children.as_slice())?;
+    let checks = checks.as_slice();
+    run_checks(alloc, scene, own, checks, preds)
+}
+
+/// Returns the effect of DELETE. For each column with REFERENCES to the table and each row that matches, it asks for rows
+/// that hold its key.
 pub(crate) fn delete(
     alloc: Global,
     scene: &Scene<'_>,
@@ -130,7 +180,9 @@ pub(crate) fn delete(
     let found = rows_for(alloc, scene, &pred)?;
     let items = found.as_slice();
     let writes = deletes(alloc, narrow(table), items)?;
-    Ok(changed(alloc, scene.env, pred, is_any(items), writes)?)
+    let mut preds = List::of(alloc, pred)?;
+    let fault = check_deletion(alloc, scene, table, items, &mut preds)?;
+    Ok(checked(alloc, scene.env, fault, preds, is_any(items), writes)?)
 }
 
 /// Returns the columns of SET, with their values in the row after it.
@@ -208,7 +260,41 @@ fn writes_for(
     Ok(writes)
 }
 
-/// Returns the effect of UPDATE.
+/// Returns what UPDATE of these rows checks.
+fn update_checks(
+    alloc: Global,
+    scene: &Scene<'_>,
+    update: &Update<'_>,
+    rows: &[Entry<'_>],
+) -> Result<List<Check>, NoMemory>
+    requires { All IsTable scene.now.infos.now }
+    ensures { IfOk result (λ checks. map (meant []) checks ≡ update_checks scene.now.infos.now update.now.table update.now.items.now scene.now.env.now (map seen rows.now)) }
+{
+    let mut checks = List::new(alloc);
+    for entry in rows {
+        let row = entry.row.as_slice();
+        push_items(alloc, scene.infos, scene.env, update, row, &mut checks)?;
+    }
+    Ok(checks)
+}
+
+/// Runs what UPDATE of these rows checks, and adds the predicates. Returns the end if a check fails.
+fn check_update(
+    alloc: Global,
+    scene: &Scene<'_>,
+    update: &Update<'_>,
+    rows: &[Entry<'_>],
+    preds: &mut List<Pred>,
+) -> Result<Option<End>, NoMemory>
+    requires { IsSound scene.now.infos.now scene.now.env.now scene.now.tables.now }
+    ensures fault { IfOk result (λ o. o ≡ first_fault (update_checks scene.now.infos.now update.now.table update.now.items.now scene.now.env.now (map seen rows.now)) scene.now.tables.now) }
+    ensures preds { OnOk result (preds.new ≡ preds.old ++ preds_up_to (update_checks scene.now.infos.now update.now.table update.now.items.now scene.now.env.now (map seen rows.now)) scene.now.tables.now) }
+{
+    let checks = update_checks(alloc, scene, update, rows)?;
+    run_checks(alloc, scene, &[], checks.as_slice(), preds)
+}
+
+/// Returns the effect of UPDATE. For each new value of a column with REFERENCES it asks for the parent.
 pub(crate) fn update(alloc: Global, scene: &Scene<'_>, update: &Update<'_>) -> Result<Effect, Stop>
     requires sound { IsSound scene.now.infos.now scene.now.env.now scene.now.tables.now }
     requires tests { Tests scene.now.infos.now update.now.table update.now.conds.now }
@@ -218,8 +304,12 @@ pub(crate) fn update(alloc: Global, scene: &Scene<'_>, update: &Update<'_>) -> R
     let pred = update_pred(alloc, scene.infos, update, scene.env)?;
     let found = rows_for(alloc, scene, &pred)?;
     let items = found.as_slice();
+    let mut preds = List::of(alloc, pred)?;
+    if let Some(end) = check_update(alloc, scene, update, items, &mut preds)? {
+        return Ok(ended_after(alloc, preds, end));
+    }
     match writes_for(alloc, scene, update, items) {
-        Ok(writes) => Ok(changed(alloc, scene.env, pred, is_any(items), writes)?),
-        Err(stop) => Ok(stopped_after(alloc, pred, stop)?),
+        Ok(writes) => Ok(changed(alloc, scene.env, preds, is_any(items), writes)?),
+        Err(stop) => Err(stop),
     }
 }

@@ -5,6 +5,7 @@ mod adding;
 mod asked;
 pub mod calls;
 mod changes;
+mod checks;
 mod effect;
 mod numbers;
 mod predicates;

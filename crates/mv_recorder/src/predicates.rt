@@ -3,24 +3,20 @@
 ghost use Rattle.std.specs.Prelude.{◌≡◌, ◌<◌, ◌≤◌, ◌++◌, IfOk, OnOk, All, length, []};
 ghost use Rattle.std.specs.List.{flat_map};
 ghost use Rattle.mv_alone.specs.Outcome.{Gives};
-ghost use Rattle.mv_recorded.specs.Asking.{pred_of, same_key, columns_in, column_in, with_sorts, KnowsKey};
-ghost use Rattle.mv_values.specs.Tables.{key_columns};
+ghost use Rattle.mv_recorded.specs.Asking.{columns_in, column_in, with_sorts, KnowsKey};
 ghost use Rattle.mv_catalog.specs.Text.{IsTable};
 ghost use Rattle.mv_recorded.specs.Effects.{asks};
 ghost use Rattle.mv_recorder.specs.Naming.{Tests, AreColumns};
 
 use crate::numbers::{narrow, narrow_all};
 use crate::reads::once_each;
-use mv_alone::env::column_value;
-use mv_alone::find::{key_in, test_on, tests_from};
+use mv_alone::find::tests_from;
 use mv_alone::state::{Env, Stop};
 use mv_catalog::resolved::{Query, RAgg, RCond, RExpr, RExprKind, RSetItem, RSort, Update};
 use mv_values::list::List;
 use mv_values::memory::NoMemory;
-use mv_values::op::Op;
-use mv_values::pred::{Pred, Test};
+use mv_values::pred::Pred;
 use mv_values::schema::TableInfo;
-use mv_values::value::Value;
 use std::alloc::Global;
 
 /// Returns the predicate for the rows of a table that pass WHERE, with these columns selected. Fails with the first
@@ -173,38 +169,4 @@ pub(crate) fn update_pred(
         asked.as_slice(),
         env,
     )
-}
-
-/// Returns the tests that each key column equals that of the row.
-fn key_tests(alloc: Global, keys: &[u8], row: &[Value]) -> Result<List<Test>, NoMemory>
-    requires { length keys.now ≤ 256 }
-    ensures { IfOk result (λ tests. tests ≡ same_key keys.now row.now) }
-{
-    let mut tests = List::with_room(alloc, keys.len())?;
-    for column in keys {
-        let value = column_value(alloc, row, *column as u16)?;
-        tests.push(test_on(keys, *column, Op::Eq, value))?;
-    }
-    Ok(tests)
-}
-
-/// Returns the predicate for the rows of a table with the same key as a row. It selects no columns.
-pub(crate) fn key_pred(
-    alloc: Global,
-    tables: &[TableInfo],
-    table: u16,
-    row: &[Value],
-) -> Result<Pred, NoMemory>
-    requires few { length tables.now ≤ 64 }
-    requires each { All IsTable tables.now }
-    requires table { table < length tables.now }
-    ensures asks { IfOk result (λ pred. pred ≡ pred_of table (same_key (key_columns tables.now table) row.now) []) }
-    ensures knows { IfOk result (KnowsKey tables.now) }
-{
-    let tests = key_tests(alloc, key_in(tables, table), row)?;
-    Ok(Pred {
-        table: narrow(table),
-        tests,
-        columns: List::new(alloc),
-    })
 }

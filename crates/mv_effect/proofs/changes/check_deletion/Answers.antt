@@ -7,11 +7,11 @@ use Rattle.mv_undo.specs.Owning.{earlier}
 use Rattle.mv_recorded.specs.Asking.{Check, first_fault, preds_up_to, delete_checks}
 use Rattle.mv_recorded.specs.Own.{Each}
 use Rattle.mv_checks.specs.Checking.{MayAsk}
-use Rattle.mv_checks.proofs.Referring.{delete_may}
+use Rattle.mv_checks.proofs.Referring.{delete_may, deletion_is, none_checked}
 use Rattle.mv_effect.specs.Logging.{with_preds}
 use Rattle.mv_effect.specs.Looking.{AskedFor}
 use Rattle.mv_effect.proofs.Asked.{none_asked}
-use Rattle.mv_effect.proofs.Checking.{deletion_is, none_added, none_checked, none_fault}
+use Rattle.mv_effect.proofs.Checking.{none_added, none_fault}
 use Rattle.mv_effect.proofs.changes.check_deletion.Goals as goal
 
 pub run_checks-requires-clause-may_ask : goal.run_checks-requires-clause-may_ask

@@ -6,8 +6,9 @@ use Rattle.mv_alone.specs.Rows.{is_some_row}
 use Rattle.mv_recorded.specs.Asking.{on, first_fault, update_checks}
 use Rattle.mv_recorded.specs.Effects.{changes, new_of}
 use Rattle.mv_recorded.proofs.Checked.{update_checked}
+use Rattle.mv_checks.proofs.Running.{follows_on}
 use Rattle.mv_effect.proofs.Asked.{none_asked}
-use Rattle.mv_effect.proofs.Checking.{asks_nothing, follows_on, checked_ends, checked_passes, no_sets, no_writes}
+use Rattle.mv_effect.proofs.Checking.{asks_nothing, checked_ends, checked_passes, no_sets, no_writes}
 use Rattle.mv_effect.proofs.changes.update_rows.Goals as goal
 
 pub check_update-requires-clause-begins : goal.check_update-requires-clause-begins

@@ -7,7 +7,8 @@ use Rattle.mv_recorded.specs.Asking.{Check, fault_of}
 use Rattle.mv_checks.specs.Checking.{meant, MayAsk}
 use Rattle.mv_effect.specs.Logging.{without_effect}
 use Rattle.mv_effect.specs.Looking.{AreSoundTables}
-use Rattle.mv_effect.proofs.Checking.{HasPassed, none_passed, one_passed, all_fault, all_asked, all_looked, one_fault, one_asked, one_looked, meant_from, meant_none, each_from, each_at}
+use Rattle.mv_checks.proofs.Running.{meant_from, meant_none, each_from, each_at}
+use Rattle.mv_effect.proofs.Checking.{HasPassed, none_passed, one_passed, all_fault, all_asked, all_looked, one_fault, one_asked, one_looked}
 use Rattle.mv_effect.proofs.checks.run_checks.Goals as goal
 
 pub loop-check-init : goal.loop-check-init
