@@ -3,3 +3,4 @@ pub mod Adding
 pub mod Meaning
 pub mod Small
 pub mod Stepped
+pub mod Asking

@@ -18,7 +18,7 @@ all_small r h = λ k d within. small r.tables _ (h.procedures k d within)
 
 few_nodes : (tables : List TableInfo) (p : ProcInfo) → IsProcedure tables p → HasFewNodes (graph_of tables p)
 few_nodes tables p h =
-    let counts = body_counts (length p.params) (length p.params + length p.defaults) p.body 1 None [] in
+    let counts = body_counts tables (length p.params) (length p.params + length p.defaults) p.body 1 None [] in
     omega (arith, h.short, counts)
 
 pub all_few_nodes : (r : Resolved) → FitsText r → All HasFewNodes (graphs_of r)

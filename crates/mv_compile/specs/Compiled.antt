@@ -12,7 +12,7 @@ use Rattle.mv_graph.specs.Steps.{steps_in}
 
 -- the graph of a procedure over these tables, with a node for each statement
 abbrev pub graph_of : List TableInfo → ProcInfo → Graph
-graph_of tables proc = record { tables = tables; procedure = proc; nodes = nodes_in proc; steps = steps_in proc }
+graph_of tables proc = record { tables = tables; procedure = proc; nodes = nodes_in tables proc; steps = steps_in proc }
 
 -- the graph of each procedure, in order
 abbrev pub graphs_of : Resolved → List Graph

@@ -1,8 +1,8 @@
 //! Compiles the procedures of a script to graphs.
 
-ghost use Rattle.std.specs.Prelude.{◌≡◌, ◌+◌, length, IfOk, All, map};
+ghost use Rattle.std.specs.Prelude.{◌≡◌, ◌≤◌, ◌+◌, length, IfOk, All, map};
 ghost use Rattle.std.specs.List.{AllZip};
-ghost use Rattle.mv_catalog.specs.Text.{FitsText};
+ghost use Rattle.mv_catalog.specs.Text.{FitsText, IsTable};
 ghost use Rattle.mv_graph.specs.Nodes.{nodes_in, IsGraph, IsSmall, IsSound, HasFewNodes};
 ghost use Rattle.mv_graph.specs.Steps.{steps_in};
 ghost use Rattle.mv_compile.specs.Compiled.{graph_of, graphs_of, MeansText};
@@ -18,25 +18,33 @@ use mv_values::memory::NoMemory;
 use mv_values::schema::TableInfo;
 use std::alloc::Global;
 
-/// Returns how the variables of a procedure are numbered.
-fn slots_of(procedure: &ProcInfo) -> Slots
+/// Returns the tables, and how the variables of a procedure are numbered.
+fn slots_of<'a>(tables: &'a [TableInfo], procedure: &ProcInfo) -> Slots<'a>
     requires { IsSmall procedure.now }
+    ensures tables { result.tables.now ≡ tables.now }
     ensures params { result.params ≡ length procedure.now.params }
     ensures found { result.found ≡ length procedure.now.params + length procedure.now.defaults }
 {
     let params = procedure.params.len();
     Slots {
+        tables,
         params,
         found: (params + procedure.defaults.len()) as u16,
     }
 }
 
-/// Returns the nodes of a procedure, in the order of the text.
-fn nodes_in(alloc: Global, procedure: &ProcInfo) -> Result<List<Node>, NoMemory>
-    requires { IsSmall procedure.now }
-    ensures { IfOk result (λ nodes. nodes ≡ nodes_in procedure.now) }
+/// Returns the nodes of a procedure over these tables, in the order of the text.
+fn nodes_in(
+    alloc: Global,
+    tables: &[TableInfo],
+    procedure: &ProcInfo,
+) -> Result<List<Node>, NoMemory>
+    requires small { IsSmall procedure.now }
+    requires few { length tables.now ≤ 64 }
+    requires each { All IsTable tables.now }
+    ensures { IfOk result (λ nodes. nodes ≡ nodes_in tables.now procedure.now) }
 {
-    let slots = slots_of(procedure);
+    let slots = slots_of(tables, procedure);
     let loops = List::new(alloc);
     let mut nodes = List::new(alloc);
     add_nodes(
@@ -71,10 +79,12 @@ fn graph_of(
     tables: &List<TableInfo>,
     procedure: &ProcInfo,
 ) -> Result<Graph, NoMemory>
-    requires { IsSmall procedure.now }
+    requires small { IsSmall procedure.now }
+    requires few { length tables.now ≤ 64 }
+    requires each { All IsTable tables.now }
     ensures { IfOk result (λ graph. graph ≡ graph_of tables.now procedure.now) }
 {
-    let nodes = nodes_in(alloc, procedure)?;
+    let nodes = nodes_in(alloc, tables.as_slice(), procedure)?;
     let steps = steps_in(alloc, procedure)?;
     let tables = tables.copy(alloc)?;
     let procedure = copy_procedure(alloc, procedure)?;
@@ -92,7 +102,9 @@ fn graphs_of(
     tables: &List<TableInfo>,
     procedures: &[ProcInfo],
 ) -> Result<List<Graph>, NoMemory>
-    requires { All IsSmall procedures.now }
+    requires small { All IsSmall procedures.now }
+    requires few { length tables.now ≤ 64 }
+    requires each { All IsTable tables.now }
     ensures { IfOk result (λ graphs. graphs ≡ map (graph_of tables.now) procedures.now) }
 {
     let mut graphs = List::new(alloc);

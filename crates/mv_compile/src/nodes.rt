@@ -1,7 +1,8 @@
 //! The nodes of statements.
 
-ghost use Rattle.std.specs.Prelude.{◌≡◌, ◌<◌, ◌≤◌, ◌+◌, ◌^◌, ◌++◌, ◌∷◌, [], IfOk, OnOk, Some, length, map};
+ghost use Rattle.std.specs.Prelude.{◌≡◌, ◌<◌, ◌≤◌, ◌+◌, ◌^◌, ◌++◌, ◌∷◌, [], IfOk, OnOk, Some, All, length, map};
 ghost use Rattle.mv_catalog.specs.Statements.{size, total_size};
+ghost use Rattle.mv_catalog.specs.Text.{IsTable};
 ghost use Rattle.mv_catalog.specs.declared.resolved.RStmt.{out-RStmt};
 ghost use Rattle.mv_graph.specs.Nodes.{own_node, nodes_of, nodes_inside, body_nodes};
 
@@ -12,11 +13,14 @@ use mv_graph::graph::Node;
 use mv_values::copied::Copied;
 use mv_values::list::List;
 use mv_values::memory::NoMemory;
+use mv_values::schema::TableInfo;
 use std::alloc::Global;
 
-/// How the variables of a procedure are numbered. Parameters come first, and `found` is the number of `:found`.
+/// The tables of a procedure, and how its variables are numbered. Parameters come first, and `found` is the number of
+/// `:found`.
 #[derive(Clone, Copy)]
-pub(crate) struct Slots {
+pub(crate) struct Slots<'a> {
+    pub tables: &'a [TableInfo],
     pub params: usize,
     pub found: u16,
 }
@@ -24,17 +28,20 @@ pub(crate) struct Slots {
 /// Returns the node of a statement, without those of what it holds.
 fn own_node(
     alloc: Global,
-    slots: Slots,
+    slots: Slots<'_>,
     statement: &RStmt,
     holder: Option<u16>,
     loops: &List<u16>,
 ) -> Result<Node, NoMemory>
-    requires { size statement.now < 2 ^ 16 }
-    ensures { IfOk result (λ node. node ≡ own_node slots.params slots.found (out-RStmt statement.now) holder loops.now (size statement.now)) }
+    requires room { size statement.now < 2 ^ 16 }
+    requires few { length slots.tables.now ≤ 64 }
+    requires each { All IsTable slots.tables.now }
+    ensures { IfOk result (λ node. node ≡ own_node slots.tables.now slots.params slots.found (out-RStmt statement.now) holder loops.now (size statement.now)) }
 {
     let loops = loops.copy(alloc)?;
     let reads = reads(alloc, slots.params, statement)?;
     let sets = sets(alloc, slots.found, statement)?;
+    let asks = asks(alloc, slots.tables, statement)?;
     Ok(Node {
         keyword: keyword(statement),
         parent: holder,
@@ -42,7 +49,7 @@ fn own_node(
         reads,
         sets,
         changes: changes(statement),
-        asks: asks(statement),
+        asks,
         size: size_of(statement),
     })
 }
@@ -61,13 +68,15 @@ fn with_loop(alloc: Global, loops: &List<u16>, number: u16) -> Result<List<u16>,
 pub(crate) fn add_nodes(
     alloc: Global,
     nodes: &mut List<Node>,
-    slots: Slots,
+    slots: Slots<'_>,
     statements: &[RStmt],
     holder: Option<u16>,
     loops: &List<u16>,
 ) -> Result<(), NoMemory>
     requires room { length nodes.old + total_size (map size statements.now) < 2 ^ 16 }
-    ensures nodes { OnOk result (nodes.new ≡ nodes.old ++ body_nodes slots.params slots.found statements.now (length nodes.old + 1) holder loops.now) }
+    requires few { length slots.tables.now ≤ 64 }
+    requires each { All IsTable slots.tables.now }
+    ensures nodes { OnOk result (nodes.new ≡ nodes.old ++ body_nodes slots.tables.now slots.params slots.found statements.now (length nodes.old + 1) holder loops.now) }
     ensures count { OnOk result (length nodes.new ≡ length nodes.old + total_size (map size statements.now)) }
 {
     for statement in statements {
@@ -81,13 +90,15 @@ pub(crate) fn add_nodes(
 fn add_node(
     alloc: Global,
     nodes: &mut List<Node>,
-    slots: Slots,
+    slots: Slots<'_>,
     statement: &RStmt,
     holder: Option<u16>,
     loops: &List<u16>,
 ) -> Result<(), NoMemory>
     requires room { length nodes.old + size statement.now < 2 ^ 16 }
-    ensures { OnOk result (nodes.new ≡ nodes.old ++ nodes_of slots.params slots.found statement.now (length nodes.old + 1) holder loops.now) }
+    requires few { length slots.tables.now ≤ 64 }
+    requires each { All IsTable slots.tables.now }
+    ensures { OnOk result (nodes.new ≡ nodes.old ++ nodes_of slots.tables.now slots.params slots.found statement.now (length nodes.old + 1) holder loops.now) }
 {
     nodes.push(own_node(alloc, slots, statement, holder, loops)?)?;
     add_held(alloc, nodes, slots, statement, loops)
@@ -98,12 +109,14 @@ fn add_node(
 fn add_held(
     alloc: Global,
     nodes: &mut List<Node>,
-    slots: Slots,
+    slots: Slots<'_>,
     statement: &RStmt,
     loops: &List<u16>,
 ) -> Result<(), NoMemory>
     requires room { length nodes.old + size statement.now ≤ 2 ^ 16 }
-    ensures { OnOk result (nodes.new ≡ nodes.old ++ nodes_inside slots.params slots.found (out-RStmt statement.now) (length nodes.old) loops.now) }
+    requires few { length slots.tables.now ≤ 64 }
+    requires each { All IsTable slots.tables.now }
+    ensures { OnOk result (nodes.new ≡ nodes.old ++ nodes_inside slots.tables.now slots.params slots.found (out-RStmt statement.now) (length nodes.old) loops.now) }
 {
     match statement {
         RStmt::ForSelect { body, .. } => add_turns(alloc, nodes, slots, body.as_slice(), loops),
@@ -122,12 +135,14 @@ fn add_held(
 fn add_turns(
     alloc: Global,
     nodes: &mut List<Node>,
-    slots: Slots,
+    slots: Slots<'_>,
     body: &[RStmt],
     loops: &List<u16>,
 ) -> Result<(), NoMemory>
     requires room { length nodes.old + total_size (map size body.now) < 2 ^ 16 }
-    ensures { OnOk result (nodes.new ≡ nodes.old ++ body_nodes slots.params slots.found body.now (length nodes.old + 1) (Some (length nodes.old)) (loops.now ++ length nodes.old ∷ [])) }
+    requires few { length slots.tables.now ≤ 64 }
+    requires each { All IsTable slots.tables.now }
+    ensures { OnOk result (nodes.new ≡ nodes.old ++ body_nodes slots.tables.now slots.params slots.found body.now (length nodes.old + 1) (Some (length nodes.old)) (loops.now ++ length nodes.old ∷ [])) }
 {
     let number = nodes.len() as u16;
     let inside = with_loop(alloc, loops, number)?;

@@ -1,16 +1,21 @@
 //! What is known of a single statement before it runs.
 
-ghost use Rattle.std.specs.Prelude.{◌≡◌, ◌++◌, ◌∷◌, [], ◌==◌, IfOk, OnOk, nat_le, map, option_to_list};
+ghost use Rattle.std.specs.Prelude.{◌≡◌, ◌≤◌, ◌++◌, ◌∷◌, [], ◌==◌, All, IfOk, OnOk, length, nat_le, map, option_to_list};
 ghost use Rattle.std.specs.List.{filter, flat_map, list_any};
+ghost use Rattle.mv_values.specs.References.{parent_of, references_to};
+ghost use Rattle.mv_catalog.specs.Text.{IsTable};
 ghost use Rattle.mv_catalog.specs.declared.resolved.RStmt.{out-RStmt};
 ghost use Rattle.mv_recorded.specs.Reading.{variables, rights, expressions, each_once, read_variables};
 ghost use Rattle.mv_compile.specs.Adding.{with_new};
-ghost use Rattle.mv_graph.specs.Nodes.{keyword_of, may_set, changed_table, asked_table};
+ghost use Rattle.mv_graph.specs.Nodes.{keyword_of, may_set, changed_table, own_table, referring_tables, asked_tables};
 
+use mv_alone::find::{columns_in, parent_in};
 use mv_catalog::resolved::{RCond, RExpr, RExprKind, RSetItem, RStmt};
+use mv_checks::children::{Child, children_of};
 use mv_graph::graph::Keyword;
 use mv_values::list::List;
 use mv_values::memory::NoMemory;
+use mv_values::schema::{Column, TableInfo};
 use std::alloc::Global;
 
 // Variables in expressions
@@ -224,9 +229,73 @@ pub(crate) fn changes(statement: &RStmt) -> Option<u16>
     }
 }
 
-/// Returns the table of a statement's predicate, if it has one.
-pub(crate) fn asks(statement: &RStmt) -> Option<u16>
-    ensures { result ≡ asked_table (out-RStmt statement.now) }
+// Tables of predicates
+
+/// Adds the parent table of a column, if it has one.
+fn add_parent(found: &mut List<u16>, refers: Option<u8>) -> Result<(), NoMemory>
+    ensures { OnOk result (found.new ≡ found.old ++ option_to_list refers) }
+{
+    match refers {
+        Some(table) => found.push(table as u16),
+        None => Ok(()),
+    }
+}
+
+/// Adds the parent tables of columns, in order.
+fn add_parents(found: &mut List<u16>, columns: &[Column]) -> Result<(), NoMemory>
+    ensures { OnOk result (found.new ≡ found.old ++ flat_map (λ column. option_to_list column.refers) columns.now) }
+{
+    for column in columns {
+        add_parent(found, column.refers)?;
+    }
+    Ok(())
+}
+
+/// Adds the parent tables of the columns of a table that SET sets, in order.
+fn add_set_parents(
+    found: &mut List<u16>,
+    tables: &[TableInfo],
+    table: u16,
+    items: &[RSetItem],
+) -> Result<(), NoMemory>
+    ensures { OnOk result (found.new ≡ found.old ++ flat_map (λ i. option_to_list (parent_of tables.now table i.column)) items.now) }
+{
+    let columns = columns_in(tables, table);
+    for item in items {
+        add_parent(found, parent_in(columns, item.column))?;
+    }
+    Ok(())
+}
+
+/// Adds the tables of columns.
+fn add_tables(found: &mut List<u16>, children: &[Child]) -> Result<(), NoMemory>
+    ensures { OnOk result (found.new ≡ found.old ++ map (λ child. child.table) children.now) }
+{
+    for child in children {
+        found.push(child.table as u16)?;
+    }
+    Ok(())
+}
+
+/// Adds the tables that have columns with REFERENCES to a table, one for each such column.
+#[tactic(auto, using(crate::proofs::Asking::child_tables))]
+fn add_children(
+    alloc: Global,
+    found: &mut List<u16>,
+    tables: &[TableInfo],
+    table: u16,
+) -> Result<(), NoMemory>
+    requires few { length tables.now ≤ 64 }
+    requires each { All IsTable tables.now }
+    ensures { OnOk result (found.new ≡ found.old ++ map (λ r. r.table) (references_to tables.now table)) }
+{
+    let children = children_of(alloc, tables, table)?;
+    add_tables(found, children.as_slice())
+}
+
+/// Returns the table of a statement's own predicate, if it has one.
+fn asked(statement: &RStmt) -> Option<u16>
+    ensures { option_to_list result ≡ own_table (out-RStmt statement.now) }
 {
     match statement {
         RStmt::Select { table, .. }
@@ -237,4 +306,44 @@ pub(crate) fn asks(statement: &RStmt) -> Option<u16>
         | RStmt::Delete { table, .. } => Some(*table),
         _ => None,
     }
+}
+
+/// Adds the tables of a statement's predicates behind its own one.
+fn add_referring(
+    alloc: Global,
+    found: &mut List<u16>,
+    tables: &[TableInfo],
+    statement: &RStmt,
+) -> Result<(), NoMemory>
+    requires few { length tables.now ≤ 64 }
+    requires each { All IsTable tables.now }
+    ensures { OnOk result (found.new ≡ found.old ++ referring_tables tables.now (out-RStmt statement.now)) }
+{
+    match statement {
+        RStmt::Insert { table, .. } => add_parents(found, columns_in(tables, *table)),
+        RStmt::Update { table, items, .. } => {
+            add_set_parents(found, tables, *table, items.as_slice())
+        }
+        RStmt::Delete { table, .. } => add_children(alloc, found, tables, *table),
+        _ => Ok(()),
+    }
+}
+
+/// Returns the tables of a statement's predicates: its own one; then those of the parents that INSERT and UPDATE look for,
+/// and those whose rows may be children of rows that DELETE deletes.
+pub(crate) fn asks(
+    alloc: Global,
+    tables: &[TableInfo],
+    statement: &RStmt,
+) -> Result<List<u16>, NoMemory>
+    requires few { length tables.now ≤ 64 }
+    requires each { All IsTable tables.now }
+    ensures { IfOk result (λ all. all ≡ asked_tables tables.now (out-RStmt statement.now)) }
+{
+    let mut all = List::new(alloc);
+    if let Some(table) = asked(statement) {
+        all.push(table)?;
+    }
+    add_referring(alloc, &mut all, tables, statement)?;
+    Ok(all)
 }

@@ -10,9 +10,10 @@ abbrev pub is_number : Option ℕ → ℕ → Bool
 is_number None n = false
 is_number (Some m) n = m == n
 
-abbrev pub is_same : Option ℕ → Option ℕ → Bool
-is_same None other = false
-is_same (Some n) other = is_number other n
+-- there is a number, and it is one of these
+abbrev pub is_one_of : Option ℕ → List ℕ → Bool
+is_one_of None ns = false
+is_one_of (Some n) ns = list_any (λ m. m == n) ns
 
 -- the lists have a number in common
 abbrev pub has_common : List ℕ → List ℕ → Bool
@@ -22,12 +23,12 @@ has_common ms ns = list_any (λ m. list_any (λ n. n == m) ns) ms
 abbrev pub comes_to : ℕ → Node → ℕ → Node → Bool
 comes_to from a to b = nat_lt from to || has_common a.loops b.loops
 
--- `from` directly holds `to`; it sets a variable that `to` reads; it changes the table of the predicate of `to`
+-- `from` directly holds `to`; it sets a variable that `to` reads; it changes the table of a predicate of `to`
 abbrev pub edges_of : ℕ → Node → ℕ → Node → Edges
 edges_of from a to b = record {
   control = is_number b.parent from;
   variable = comes_to from a to b && has_common a.sets b.reads;
-  table = comes_to from a to b && is_same a.changes b.asks;
+  table = comes_to from a to b && is_one_of a.changes b.asks;
 }
 
 -- the statement with the number, counted from 1

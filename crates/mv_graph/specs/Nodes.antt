@@ -1,6 +1,10 @@
 -- What is known of the statements of a procedure before it runs: a node for each, in the order of the text, and what a
 -- graph means.
-use Rattle.std.specs.Prelude.{◌≡◌, ◌≤◌, ℕ, ◌+◌, Bool, List, [], ◌∷◌, ◌++◌, Option, Some, None, All, map, length}
+use Rattle.std.specs.Prelude.{◌≡◌, ◌≤◌, ℕ, ◌+◌, Bool, List, [], ◌∷◌, ◌++◌, Option, Some, None, option_to_list, All, map, length}
+use Rattle.std.specs.List.{flat_map}
+use Rattle.mv_values.specs.declared.schema.TableInfo.{TableInfo}
+use Rattle.mv_values.specs.References.{parent_of, references_to}
+use Rattle.mv_values.specs.Tables.{columns_at}
 use Rattle.mv_catalog.specs.Statements.{size, total_size}
 use Rattle.mv_catalog.specs.Text.{IsTable, HaveParents, IsProcedure}
 use Rattle.mv_catalog.specs.declared.resolved.ProcInfo.{ProcInfo}
@@ -60,19 +64,26 @@ changed_table (Branch e ys ns) = None
 changed_table (Print es) = None
 changed_table (Rollback reason) = None
 
--- the table of its predicate
-abbrev pub asked_table : {X : Type 0} → RStmt-F X → Option ℕ
-asked_table (Select cs xs t conds sorts offset) = Some t
-asked_table (Total agg x t conds) = Some t
-asked_table (ForSelect x once cs t conds sorts body) = Some t
-asked_table (Insert t es) = Some t
-asked_table (Update t items conds) = Some t
-asked_table (Delete t conds) = Some t
-asked_table (Assign x e) = None
-asked_table (ForRows x y body) = None
-asked_table (Branch e ys ns) = None
-asked_table (Print es) = None
-asked_table (Rollback reason) = None
+-- the table that it queries first
+abbrev pub own_table : {X : Type 0} → RStmt-F X → List ℕ
+own_table (Select cs xs t conds sorts offset) = t ∷ []
+own_table (Total agg x t conds) = t ∷ []
+own_table (ForSelect x once cs t conds sorts body) = t ∷ []
+own_table (Insert t es) = t ∷ []
+own_table (Update t items conds) = t ∷ []
+own_table (Delete t conds) = t ∷ []
+own_table s = []
+
+-- the tables of parents that INSERT and UPDATE look for, and of children that DELETE looks for
+abbrev pub referring_tables : {X : Type 0} → List TableInfo → RStmt-F X → List ℕ
+referring_tables tables (Insert t es) = flat_map (λ column. option_to_list column.refers) (columns_at tables t)
+referring_tables tables (Update t items conds) = flat_map (λ i. option_to_list (parent_of tables t i.column)) items
+referring_tables tables (Delete t conds) = map (λ r. r.table) (references_to tables t)
+referring_tables tables s = []
+
+-- the tables of its predicates
+abbrev pub asked_tables : {X : Type 0} → List TableInfo → RStmt-F X → List ℕ
+asked_tables tables s = own_table s ++ referring_tables tables s
 
 -- Statements in the order of the text
 
@@ -104,45 +115,45 @@ inner_nodes (Rollback reason) n loops = []
 
 -- a statement's own node. The first `params` variables are parameters, `:found` has the number `found`, and `whole`
 -- counts the statement with those that it holds
-abbrev pub own_node : {X : Type 0} → ℕ → ℕ → RStmt-F X → Option ℕ → List ℕ → ℕ → Node
-own_node params found s holder loops whole = record {
+abbrev pub own_node : {X : Type 0} → List TableInfo → ℕ → ℕ → RStmt-F X → Option ℕ → List ℕ → ℕ → Node
+own_node tables params found s holder loops whole = record {
   keyword = keyword_of s;
   parent = holder;
   loops = loops;
   reads = read_variables params (expressions s);
   sets = may_set found s;
   changes = changed_table s;
-  asks = asked_table s;
+  asks = asked_tables tables s;
   size = whole;
 }
 
-abbrev pub node_step : ℕ → ℕ → RStmt-F Nodes → Nodes
-node_step params found s n holder loops =
+abbrev pub node_step : List TableInfo → ℕ → ℕ → RStmt-F Nodes → Nodes
+node_step tables params found s n holder loops =
     let inner : List Node = inner_nodes s n loops in
-    own_node params found s holder loops (1 + length inner) ∷ inner
+    own_node tables params found s holder loops (1 + length inner) ∷ inner
 
-abbrev pub nodes_of : ℕ → ℕ → RStmt → Nodes
-nodes_of params found = fold-RStmt Nodes (node_step params found)
+abbrev pub nodes_of : List TableInfo → ℕ → ℕ → RStmt → Nodes
+nodes_of tables params found = fold-RStmt Nodes (node_step tables params found)
 
 -- the nodes of what a statement with this number holds
-abbrev pub nodes_inside : ℕ → ℕ → RStmt-F RStmt → ℕ → List ℕ → List Node
-nodes_inside params found s n loops = inner_nodes (map-RStmt RStmt Nodes (nodes_of params found) s) n loops
+abbrev pub nodes_inside : List TableInfo → ℕ → ℕ → RStmt-F RStmt → ℕ → List ℕ → List Node
+nodes_inside tables params found s n loops = inner_nodes (map-RStmt RStmt Nodes (nodes_of tables params found) s) n loops
 
 -- the nodes of statements in order
-abbrev pub body_nodes : ℕ → ℕ → List RStmt → Nodes
-body_nodes params found ss = all_nodes (map (nodes_of params found) ss)
+abbrev pub body_nodes : List TableInfo → ℕ → ℕ → List RStmt → Nodes
+body_nodes tables params found ss = all_nodes (map (nodes_of tables params found) ss)
 
--- the nodes of a procedure. Parameters come first, then the declared variables, then `:found`
-abbrev pub nodes_in : ProcInfo → List Node
-nodes_in proc =
+-- the nodes of a procedure over these tables. Parameters come first, then the declared variables, then `:found`
+abbrev pub nodes_in : List TableInfo → ProcInfo → List Node
+nodes_in tables proc =
     let params : ℕ = length proc.params in
-    body_nodes params (params + length proc.defaults) proc.body 1 None []
+    body_nodes tables params (params + length proc.defaults) proc.body 1 None []
 
 -- Graphs
 
 -- its nodes and steps are those of its procedure
 pub record IsGraph (g : Graph) : Type 0 where
-  pub nodes : g.nodes ≡ nodes_in g.procedure
+  pub nodes : g.nodes ≡ nodes_in g.tables g.procedure
   pub steps : g.steps ≡ steps_in g.procedure
 
 -- its meaning is its procedure's

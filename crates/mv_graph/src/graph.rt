@@ -4,7 +4,7 @@ ghost use Rattle.std.specs.Prelude.{◌≡◌, ◌==◌};
 ghost use Rattle.std.specs.List.{list_any};
 ghost use Rattle.std.specs.Option.{option_copied};
 ghost use Rattle.mv_graph.specs.Nodes.{is_read_only};
-ghost use Rattle.mv_graph.specs.Edges.{is_number, is_same, node_at, has_common, comes_to, edges, edges_of};
+ghost use Rattle.mv_graph.specs.Edges.{is_number, is_one_of, node_at, has_common, comes_to, edges, edges_of};
 
 use mv_catalog::resolved::{ProcInfo, RStmt};
 use mv_values::list::List;
@@ -39,8 +39,8 @@ pub struct Node {
     pub sets: List<u16>,
     /// The table that it changes, if any.
     pub changes: Option<u16>,
-    /// The table of its predicate, if it has one.
-    pub asks: Option<u16>,
+    /// The tables of its predicates, its own table first.
+    pub asks: List<u16>,
     /// The number of statements: itself and those that it holds. The statement after them has its number plus this.
     pub size: u16,
 }
@@ -73,8 +73,8 @@ pub struct Graph {
     pub steps: List<Step>,
 }
 
-/// How a statement may depend on another: the other directly holds it, sets a variable that it reads, or changes the
-/// table that it asks.
+/// How a statement may depend on another: the other directly holds it, sets a variable that it reads, or changes a table
+/// that it asks.
 #[derive(Clone, Copy, PartialEq, Eq)]
 pub struct Edges {
     pub control: bool,
@@ -92,21 +92,21 @@ fn is_number(it: Option<u16>, number: u16) -> bool
     }
 }
 
-/// Whether they are the same number.
-fn is_same(left: Option<u16>, right: Option<u16>) -> bool
-    ensures { result ≡ is_same left right }
-{
-    match left {
-        None => false,
-        Some(number) => is_number(right, number),
-    }
-}
-
 /// Whether the number is one of these.
 fn has(numbers: &[u16], number: u16) -> bool
     ensures { result ≡ list_any (λ n. n == number) numbers.now }
 {
     numbers.iter().any(|n| *n == number)
+}
+
+/// Whether there is a number and it is one of these.
+fn is_one_of(number: Option<u16>, numbers: &[u16]) -> bool
+    ensures { result ≡ is_one_of number numbers.now }
+{
+    match number {
+        None => false,
+        Some(number) => has(numbers, number),
+    }
 }
 
 /// Whether the lists have a number in common. Takes time proportional to the product of their lengths.
@@ -166,6 +166,6 @@ fn edges_between(from: u16, earlier: &Node, to: u16, later: &Node) -> Edges
     Edges {
         control: is_number(later.parent, from),
         variable: reached && has_common(earlier.sets.as_slice(), later.reads.as_slice()),
-        table: reached && is_same(earlier.changes, later.asks),
+        table: reached && is_one_of(earlier.changes, later.asks.as_slice()),
     }
 }

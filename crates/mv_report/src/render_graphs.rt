@@ -13,7 +13,7 @@ use mv_values::memory::NoMemory;
 use std::alloc::Global;
 
 /// A kind of edge to a statement: from the one that directly holds it, from one that sets a variable that it reads, or
-/// from one that changes the table that it asks.
+/// from one that changes a table that it asks.
 #[derive(Clone, Copy)]
 pub(crate) enum Kind {
     Control,

@@ -15,3 +15,9 @@ returns-clause-means c = mean_text c.args.resolved.now c.in_ok-graphs.graphs (c.
 pub returns-clause-sound : goal.returns-clause-sound
 returns-clause-sound c =
     subst (All IsSound) (sym (c.in_ok-graphs.ensures ∙ ap (map (graph_of c.args.resolved.now.tables)) c.as_slice.ensures)) (all_sound c.args.resolved.now c.requires)
+
+pub graphs_of-requires-clause-few : goal.graphs_of-requires-clause-few
+graphs_of-requires-clause-few c = c.requires.few
+
+pub graphs_of-requires-clause-each : goal.graphs_of-requires-clause-each
+graphs_of-requires-clause-each c = c.requires.tables
