@@ -254,16 +254,52 @@ pub(crate) const SYNTAX: &[Advice] = &[
         "the key comes after all columns: , PRIMARY KEY (id)",
     ),
     (
-        "INT )",
+        "",
+        "PRIMARY",
+        Among("REFERENCES"),
+        "the key comes after all columns: , PRIMARY KEY (id)",
+    ),
+    (
+        "",
+        ")",
+        Among("REFERENCES"),
+        "a table ends with its key: , PRIMARY KEY (id)",
+    ),
+    (
+        "name",
         ")",
         Only(","),
         "a table ends with its key: , PRIMARY KEY (id)",
     ),
     (
         "INT )",
-        "NOT NULL DEFAULT UNIQUE REFERENCES CHECK",
+        "REFERENCES",
         Anything,
-        "a column is a name and a type: it has no NULL, no default and no further rule",
+        "REFERENCES is for the columns of a table alone",
+    ),
+    (
+        "FOREIGN",
+        "KEY",
+        Anything,
+        "REFERENCES comes after the type of its column: dept INT REFERENCES depts",
+    ),
+    (
+        "name",
+        "(",
+        Only(","),
+        "REFERENCES names a table, and means its key",
+    ),
+    (
+        "name",
+        "ON",
+        Only(","),
+        "a row with children stays, and a key is never set: delete the children first",
+    ),
+    (
+        "INT )",
+        "NOT NULL DEFAULT UNIQUE CHECK",
+        Anything,
+        "a column is a name and a type, and may have REFERENCES: it has no NULL, no default and no further rule",
     ),
     ("", "name", Among("INT"), "the types are INT and TEXT(n)"),
     (
@@ -448,6 +484,10 @@ pub(crate) const REFUSALS: &[(u32, &str)] = &[
     (
         21,
         "at the end of the journal this call has neither committed nor been answered",
+    ),
+    (
+        23,
+        "a row of this table has no parent by this column: its number is that in the order of the keys, from 1",
     ),
     (24, "a READ ONLY procedure has no INSERT, UPDATE or DELETE"),
     (

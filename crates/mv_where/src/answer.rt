@@ -3,7 +3,9 @@
 ghost use Rattle.std.specs.Prelude.{◌≡◌, [], IsFalse, IfOk};
 ghost use Rattle.mv_where.specs.Refusal.{is_refusal};
 
-use crate::blocks::{block_of, call_of, journal_of, rows_end, rows_start, values_row};
+use crate::blocks::{
+    block_of, call_of, column_name, journal_of, rows_end, rows_start, values_row,
+};
 use crate::causes::with_statements;
 use crate::head::script_in;
 use crate::outline::Outline;
@@ -127,6 +129,7 @@ impl Places<'_> {
             Target::Byte(at) => self.show(at as usize)?,
             Target::Token(number) => self.show_token(number)?,
             Target::Row { table, row, column } => self.show_row(table.as_bytes(), row, column)?,
+            Target::Column { table, column } => self.show_column(table.as_bytes(), column)?,
             Target::OpenBlock => self.show_open_block()?,
             Target::Line(number) => self.show_event(
                 number,
@@ -167,6 +170,17 @@ impl Places<'_> {
                     self.show(begin.saturating_add(place).saturating_add(field))?;
                     self.note_lines(block)?;
                 }
+            }
+        }
+        Ok(())
+    }
+
+    /// Shows the column with this number of a table.
+    fn show_column(&mut self, table: &[u8], column: u32) -> Result<(), NoMemory> {
+        let (script, tokens) = (self.script, self.tokens);
+        for at in 0..tokens.len() {
+            if let Some(name) = column_name(script, &tokens[at..], table, column) {
+                self.show(name.at as usize)?;
             }
         }
         Ok(())

@@ -64,6 +64,25 @@ pub(crate) fn call_of<'a>(script: &[u8], tokens: &'a [Token], number: u32) -> Op
         .nth(number as usize)
 }
 
+/// Returns the name of a column of this table, if these tokens start with its CREATE TABLE. Columns count from 1.
+pub(crate) fn column_name<'a>(
+    script: &[u8],
+    tokens: &'a [Token],
+    table: &[u8],
+    column: u32,
+) -> Option<&'a Token> {
+    match tokens {
+        [create, word, name, _, rest @ ..]
+            if is_word(script, create, b"create")
+                && is_word(script, word, b"table")
+                && is_word(script, name, table) => rest
+            .split(|token| bytes_of(script, token) == b",".as_slice())
+            .nth((column as usize).saturating_sub(1))?
+            .first(),
+        _ => None,
+    }
+}
+
 /// Returns the bracket before a row of the VALUES of this table, if these tokens start with its CREATE TABLE. Rows
 /// count from 1.
 pub(crate) fn values_row<'a>(

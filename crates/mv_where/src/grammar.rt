@@ -3,9 +3,9 @@
 /// The parts of a script, each with its alternatives and with what stands for them where it is told what may go on.
 ///
 /// In an alternative a word in capitals and a sign are themselves, and another word is a part, or one of these tokens: a
-/// `table`, `column`, `procedure`, `field` (a loop's column) or `bare` (a column in an expression) is a name; a `new`,
-/// `target`, `read` or `looped` (gone over) is a variable; and there are `number`, `text`, `block`, `operator` and
-/// `comparison`. An alternative begins with a token, but for the last one, which is taken where no other fits.
+/// `table`, `parent` (a table after REFERENCES), `column`, `procedure`, `field` (a loop's column) or `bare` (a column in an
+/// expression) is a name; a `new`, `target`, `read` or `looped` (gone over) is a variable; and there are `number`, `text`,
+/// `block`, `operator` and `comparison`. An alternative begins with a token, but for the last one, which is taken where no other fits.
 pub(crate) const GRAMMAR: &[(&str, &str, &[&str])] = &[
     (
         "script",
@@ -22,15 +22,19 @@ pub(crate) const GRAMMAR: &[(&str, &str, &[&str])] = &[
         "created",
         "",
         &[
-            "TABLE table ( column type , columns opening",
+            "TABLE table ( column type refers , columns opening",
             "PROCEDURE procedure ( parameters kind",
         ],
     ),
     (
         "columns",
         "",
-        &["PRIMARY KEY ( column keys )", "column type , columns"],
+        &[
+            "PRIMARY KEY ( column keys )",
+            "column type refers , columns",
+        ],
     ),
+    ("refers", "", &["REFERENCES parent", ""]),
     ("keys", "", &[", column keys", ")"]),
     ("opening", "", &["VALUES row rows", ";"]),
     ("rows", "", &[", row rows", ";"]),

@@ -166,7 +166,7 @@ fn rules_of(symbol: &str) -> Option<(&'static str, &'static [&'static str])> {
 /// Returns how a symbol is called where it is told what may go on.
 fn word_of(symbol: &'static str) -> &'static str {
     match symbol {
-        "table" => "a table",
+        "table" | "parent" => "a table",
         "procedure" => "a procedure",
         "column" | "field" | "bare" => "a column",
         "new" | "target" | "read" | "looped" => "a variable",
@@ -186,7 +186,7 @@ fn fits(script: &[u8], symbol: &str, token: Option<&Token>) -> bool {
     };
     let text = bytes_of(script, token);
     match symbol {
-        "table" | "procedure" | "column" | "field" | "bare" => token.kind == Kind::Word
+        "table" | "parent" | "procedure" | "column" | "field" | "bare" => token.kind == Kind::Word
             && !is_keyword(text),
         "new" | "target" | "read" | "looped" => token.kind == Kind::Variable,
         "number" => token.kind == Kind::Number,

@@ -18,6 +18,11 @@ pub enum Target<'a> {
         row: u32,
         column: u32,
     },
+    /// A column of a table, of which a row is refused.
+    Column {
+        table: &'a str,
+        column: u32,
+    },
     OpenBlock,
     /// A line of the journal.
     Line(u32),
@@ -59,6 +64,7 @@ fn target_of(number: u32, what: &str) -> Option<Target<'_>> {
         2 => Some(Target::Byte(number_in(what.strip_prefix("byte ")?)?)),
         3 => Some(Target::Byte(number_in(what.strip_prefix("token at ")?)?)),
         11 | 12 | 13 => row_of(what),
+        23 => column_of(what),
         14 => Some(Target::OpenBlock),
         15..=20 | 25 => Some(Target::Line(number_in(what.strip_prefix("journal line ")?)?)),
         21 => Some(Target::Call(number_in(what.strip_prefix("call ")?)?)),
@@ -71,6 +77,14 @@ fn target_of(number: u32, what: &str) -> Option<Target<'_>> {
 
 pub(crate) fn number_in(digits: &str) -> Option<u32> {
     digits.parse::<u32>().ok()
+}
+
+/// Returns the column of a row that is named. The row's number is that in the order of the keys, so no place tells it.
+fn column_of(what: &str) -> Option<Target<'_>> {
+    match row_of(what)? {
+        Target::Row { table, column, .. } => Some(Target::Column { table, column }),
+        _ => None,
+    }
 }
 
 /// Returns the row that is named as `table <name> row <r>`, which ` column <c>` may follow.

@@ -24,6 +24,9 @@ impl Places<'_> {
                 "this CALL gives no arguments, and its procedure takes some",
             ),
             ("column", _) => self.add_line("SUM adds numbers, and this column has texts"),
+            ("parent", _) => self.add_line(
+                "the key of a parent table is one column, and of the type of the column that refers to it",
+            ),
             ("looped", _) => self.add_line(
                 "a FOR goes over a SELECT or over a ROWS parameter, and this is neither",
             ),

@@ -223,7 +223,7 @@ fn is_no_name(script: &[u8], token: &Token, wanted: &[&'static str]) -> bool {
 /// Returns what is said of an unknown name (6) or of a double one (7).
 fn sentence_for(number: u32, symbol: &str) -> Option<&'static str> {
     match (number, symbol) {
-        (6, "table") => Some("no table has this name"),
+        (6, "table" | "parent") => Some("no table has this name"),
         (6, "procedure") => Some("no procedure has this name"),
         (6, "column") => Some("its table has no column of this name"),
         (6, "field") => Some("the rows of this loop have no column of this name"),
