@@ -1,4 +1,4 @@
-//! Random scripts of two tables, with procedures that read and write a few rows, and a READ ONLY one.
+//! Random scripts of two tables, in some with REFERENCES, with procedures that read and write a few rows, and a READ ONLY one.
 
 use mv_values::list::List;
 use mv_values::memory::NoMemory;
@@ -6,14 +6,13 @@ use rand_core::Rng;
 use rand_xoshiro::SplitMix64;
 use std::alloc::Global;
 
-/// Two tables, and four procedures.
-const FRONT: &[u8] = b"CREATE TABLE t (k INT, n INT, m INT, PRIMARY KEY (k));
+/// Two tables, and their copies: without REFERENCES, with it in one table, to the same table, and in a circle.
+const TABLES: &[(&[u8], &[u8])] = &[
+    (
+        b"CREATE TABLE t (k INT, n INT, m INT, PRIMARY KEY (k));
 CREATE TABLE u (k INT, n INT, PRIMARY KEY (k));
-CREATE PROCEDURE p0(:a INT, :x INT) DECLARE :b = 0; DECLARE :c = 0; BEGIN % PRINT :b, :c; END;
-CREATE PROCEDURE p1(:a INT, :x INT) DECLARE :b = 0; DECLARE :c = 0; BEGIN % PRINT :b, :c; END;
-CREATE PROCEDURE p2(:a INT, :x INT) DECLARE :b = 0; DECLARE :c = 0; BEGIN % PRINT :b, :c; END;
-CREATE PROCEDURE p3(:a INT, :x INT) READ ONLY DECLARE :b = 0; DECLARE :c = 0; BEGIN { PRINT :b, :c; END;
-COPY t <<
+",
+        b"COPY t <<
 1,#,0
 2,#,0
 3,#,0
@@ -23,7 +22,64 @@ COPY u <<
 1,#
 2,#
 >>
-|";
+",
+    ),
+    (
+        b"CREATE TABLE t (k INT, n INT, m INT, PRIMARY KEY (k));
+CREATE TABLE u (k INT, n INT REFERENCES t, PRIMARY KEY (k));
+",
+        b"COPY t <<
+1,#,0
+2,#,0
+3,#,0
+4,#,0
+>>
+COPY u <<
+1,!
+2,!
+>>
+",
+    ),
+    (
+        b"CREATE TABLE t (k INT, n INT REFERENCES t, m INT, PRIMARY KEY (k));
+CREATE TABLE u (k INT, n INT, PRIMARY KEY (k));
+",
+        b"COPY t <<
+1,!,0
+2,!,0
+3,!,0
+4,!,0
+>>
+COPY u <<
+1,#
+2,#
+>>
+",
+    ),
+    (
+        b"CREATE TABLE t (k INT, n INT REFERENCES u, m INT, PRIMARY KEY (k));
+CREATE TABLE u (k INT, n INT REFERENCES t, PRIMARY KEY (k));
+",
+        b"COPY t <<
+1,\",0
+2,\",0
+3,\",0
+4,\",0
+>>
+COPY u <<
+1,!
+2,!
+>>
+",
+    ),
+];
+
+/// Four procedures.
+const PROCEDURES: &[u8] = b"CREATE PROCEDURE p0(:a INT, :x INT) DECLARE :b = 0; DECLARE :c = 0; BEGIN % PRINT :b, :c; END;
+CREATE PROCEDURE p1(:a INT, :x INT) DECLARE :b = 0; DECLARE :c = 0; BEGIN % PRINT :b, :c; END;
+CREATE PROCEDURE p2(:a INT, :x INT) DECLARE :b = 0; DECLARE :c = 0; BEGIN % PRINT :b, :c; END;
+CREATE PROCEDURE p3(:a INT, :x INT) READ ONLY DECLARE :b = 0; DECLARE :c = 0; BEGIN { PRINT :b, :c; END;
+";
 
 /// The texts for `|`: calls.
 const CALLS: &[&[u8]] = &[b"~~~", b"~~~~", b"~~~~~", b"~~~~~~"];
@@ -153,6 +209,9 @@ const IN_LOOP: &[&[u8]] = &[
 /// The texts for `!`: a key.
 const KEYS: &[&[u8]] = &[b"1", b"2", b"3"];
 
+/// The texts for `"`: a key of the second table.
+const OTHER_KEYS: &[&[u8]] = &[b"1", b"2"];
+
 /// The texts for `#`: a number.
 const NUMBERS: &[&[u8]] = &[b"0", b"1", b"2", b"3", b"4"];
 
@@ -170,6 +229,7 @@ const LETTERS: &[(u8, &[&[u8]])] = &[
     (b'?', PLAIN),
     (b'`', IN_LOOP),
     (b'!', KEYS),
+    (b'"', OTHER_KEYS),
     (b'#', NUMBERS),
 ];
 
@@ -204,7 +264,12 @@ fn expanded(alloc: Global, random: &mut SplitMix64, text: &[u8]) -> Result<List<
 /// Returns a script of three to six calls.
 pub(crate) fn any_script(alloc: Global, random: &mut SplitMix64) -> Result<List<u8>, NoMemory> {
     let mut text = List::new(alloc);
-    text.append(FRONT)?;
+    if let Some((tables, copies)) = TABLES.get(byte(random) as usize % TABLES.len().max(1)) {
+        text.append(tables)?;
+        text.append(PROCEDURES)?;
+        text.append(copies)?;
+        text.push(b'|')?;
+    }
     for _ in 0..7 {
         text = expanded(alloc, random, text.as_slice())?;
     }
