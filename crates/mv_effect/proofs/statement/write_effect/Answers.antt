@@ -7,6 +7,7 @@ use Rattle.mv_catalog.specs.declared.resolved.RStmt.TheOpen as layer
 use Rattle.mv_catalog.specs.declared.resolved.RStmt.TheOpen.{RStmt-F}
 use Rattle.mv_undo.specs.Owning.{earlier}
 use Rattle.mv_recorded.specs.Effects.{IsEffect}
+use Rattle.mv_effect.proofs.Asked.{none_asked_by}
 use Rattle.mv_effect.proofs.statement.write_effect.Goals as goal
 
 pub returns-in-ForRows-clause-effect : goal.returns-in-ForRows-clause-effect
@@ -42,38 +43,20 @@ returns-in-Rollback-clause-view g c = c.rollback.ensures.view (g.V.View.sight c.
 pub returns-in-Select-clause-view : goal.returns-in-Select-clause-view
 returns-in-Select-clause-view g c = c.select.ensures.view
 
-pub returns-in-Select-clause-looks : goal.returns-in-Select-clause-looks
-returns-in-Select-clause-looks g c = c.select.ensures.looks
-
 pub returns-in-Total-clause-view : goal.returns-in-Total-clause-view
 returns-in-Total-clause-view g c = c.total.ensures.view
-
-pub returns-in-Total-clause-looks : goal.returns-in-Total-clause-looks
-returns-in-Total-clause-looks g c = c.total.ensures.looks
 
 pub returns-in-ForSelect-clause-view : goal.returns-in-ForSelect-clause-view
 returns-in-ForSelect-clause-view g c = c.for_select.ensures.view
 
-pub returns-in-ForSelect-clause-looks : goal.returns-in-ForSelect-clause-looks
-returns-in-ForSelect-clause-looks g c = c.for_select.ensures.looks
-
 pub returns-in-Insert-clause-view : goal.returns-in-Insert-clause-view
 returns-in-Insert-clause-view g c = c.insert.ensures.view
-
-pub returns-in-Insert-clause-looks : goal.returns-in-Insert-clause-looks
-returns-in-Insert-clause-looks g c = c.insert.ensures.looks
 
 pub returns-in-Update-clause-view : goal.returns-in-Update-clause-view
 returns-in-Update-clause-view g c = c.update.ensures.view
 
-pub returns-in-Update-clause-looks : goal.returns-in-Update-clause-looks
-returns-in-Update-clause-looks g c = c.update.ensures.looks
-
 pub returns-in-Delete-clause-view : goal.returns-in-Delete-clause-view
 returns-in-Delete-clause-view g c = c.delete.ensures.view
-
-pub returns-in-Delete-clause-looks : goal.returns-in-Delete-clause-looks
-returns-in-Delete-clause-looks g c = c.delete.ensures.looks
 
 pub returns-in-Assign-clause-rest : goal.returns-in-Assign-clause-rest
 returns-in-Assign-clause-rest g c = c.assign.ensures.rest
@@ -143,3 +126,18 @@ returns-in-Branch-clause-rest g c = c.branch-alloc.ensures.rest
 
 pub returns-in-Branch-clause-err : goal.returns-in-Branch-clause-err
 returns-in-Branch-clause-err g c = c.branch-alloc.ensures.err
+
+pub returns-in-Assign-clause-looks : goal.returns-in-Assign-clause-looks
+returns-in-Assign-clause-looks g c = none_asked_by c.args.tables.now (out-RStmt c.args.statement.now) c.args.env.now (earlier c.args.number c.args.undo.now) (g.V.View.sight c.args.view.now)
+
+pub returns-in-ForRows-clause-looks : goal.returns-in-ForRows-clause-looks
+returns-in-ForRows-clause-looks g c = none_asked_by c.args.tables.now (out-RStmt c.args.statement.now) c.args.env.now (earlier c.args.number c.args.undo.now) (g.V.View.sight c.args.view.now)
+
+pub returns-in-Branch-clause-looks : goal.returns-in-Branch-clause-looks
+returns-in-Branch-clause-looks g c = none_asked_by c.args.tables.now (out-RStmt c.args.statement.now) c.args.env.now (earlier c.args.number c.args.undo.now) (g.V.View.sight c.args.view.now)
+
+pub returns-in-Print-clause-looks : goal.returns-in-Print-clause-looks
+returns-in-Print-clause-looks g c = none_asked_by c.args.tables.now (out-RStmt c.args.statement.now) c.args.env.now (earlier c.args.number c.args.undo.now) (g.V.View.sight c.args.view.now)
+
+pub returns-in-Rollback-clause-looks : goal.returns-in-Rollback-clause-looks
+returns-in-Rollback-clause-looks g c = none_asked_by c.args.tables.now (out-RStmt c.args.statement.now) c.args.env.now (earlier c.args.number c.args.undo.now) (g.V.View.sight c.args.view.now)
