@@ -20,7 +20,7 @@ pub(crate) fn read(alloc: Global, text: &str) -> Result<Result<Script, ParseFaul
 }
 
 /// The first token of each item, counted by hand.
-const FIRST: &[u32] = &[1, 36, 39, 235, 258];
+const FIRST: &[u32] = &[1, 38, 41, 237, 260];
 
 fn begin_with(items: &[Item], tokens: &[u32]) -> bool {
     items.len() == tokens.len()

@@ -151,6 +151,10 @@ const ITEMS: &[(&str, &str)] = &[
         "create table t ( a int , b text ( 2 ) , primary key ( a , b ) ) values ( - 7 , 'a' ) , ( 7 , '' ) ;\n",
     ),
     (
+        "CREATE TABLE t (a INT REFERENCES T, b TEXT(2) REFERENCES u, PRIMARY KEY (a));",
+        "create table t ( a int references t , b text ( 2 ) references u , primary key ( a ) ) ;\n",
+    ),
+    (
         "CREATE PROCEDURE p (:b ROWS (a TEXT(20)), :c INT) DECLARE :x = 0; DECLARE :y = ''; BEGIN END;",
         "create procedure p ( :b rows ( a text ( 20 ) ) , :c int ) declare :x = 0 ; declare :y = '' ; begin end ;\n",
     ),
@@ -167,7 +171,7 @@ const SCRIPT: Frame = ["", "", "", ""];
 
 /// A script with each kind of item and of statement.
 pub(crate) const EVERYTHING: &str = "
-create TABLE acc (id INT, note TEXT(20), PRIMARY KEY (id, note)) VALUES (1, 'it''s'), (-2, '');
+create TABLE acc (id INT REFERENCES acc, note TEXT(20), PRIMARY KEY (id, note)) VALUES (1, 'it''s'), (-2, '');
 COPY acc <<
 7,x
 >>
@@ -193,7 +197,7 @@ B 0
 
 /// Its print.
 const EVERYTHING_PRINTED: &str =
-    "create table acc ( id int , note text ( 20 ) , primary key ( id , note ) ) values ( 1 , 'it''s' ) , ( - 2 , '' ) ;
+    "create table acc ( id int references acc , note text ( 20 ) , primary key ( id , note ) ) values ( 1 , 'it''s' ) , ( - 2 , '' ) ;
 copy acc <<
 7,x
 >>

@@ -38,6 +38,14 @@ const FRONT: &str = "CREATE TABLE t (id INT, n INT, x TEXT(3), PRIMARY KEY (id))
 CREATE PROCEDURE p (:rows ROWS (a INT, b INT)) DECLARE :n = 7; DECLARE :s = 'q'; BEGIN
 ";
 
+/// The same with rows that have parents. The variables have the same numbers.
+const FAMILY: &str =
+    "CREATE TABLE t (id INT, up INT REFERENCES t, d INT REFERENCES u, PRIMARY KEY (id))
+  VALUES (1, 1, 5), (2, 1, 5), (3, 2, 6);
+CREATE TABLE u (d INT, PRIMARY KEY (d)) VALUES (5), (6), (7);
+CREATE PROCEDURE p (:rows ROWS (a INT, b INT)) DECLARE :n = 7; DECLARE :s = 'q'; BEGIN
+";
+
 /// The text after them.
 const BACK: &str = "
 END;
@@ -133,6 +141,69 @@ END FOR;",
     (
         "PRINT :s, 9223372036854775807 + :n;",
         "1 reads 2< 1< ends overflow; ",
+    ),
+];
+
+/// Statements that look for parents and children, and the records that they leave.
+const FAMILY_CASES: &[(&str, &str)] = &[
+    (
+        "INSERT INTO t VALUES (4, 3, 7);",
+        "1 asks 3 sets 3=1 puts 4: 4,3,7; ",
+    ),
+    (
+        "INSERT INTO t VALUES (4, 4, 7);",
+        "1 asks 2 sets 3=1 puts 4: 4,4,7; ",
+    ),
+    (
+        "INSERT INTO t VALUES (4, 9, 7);",
+        "1 asks 2 ends missing parent; ",
+    ),
+    (
+        "INSERT INTO t VALUES (4, 3, 9);",
+        "1 asks 3 ends missing parent; ",
+    ),
+    (
+        "INSERT INTO t VALUES (3, 9, 9);",
+        "1 asks 1 ends duplicate key; ",
+    ),
+    (
+        "UPDATE t SET up = id, d = 7 WHERE id >= 2;",
+        "1 asks 5 sets 3=1 puts 2 1=2 2=7 puts 3 1=3 2=7; ",
+    ),
+    (
+        "UPDATE t SET up = id + 1;",
+        "1 asks 4 ends missing parent; ",
+    ),
+    (
+        "UPDATE t SET up = 4 / (3 - id);",
+        "1 asks 3 ends missing parent; ",
+    ),
+    (
+        "UPDATE t SET up = 2 / (2 - id);",
+        "1 asks 2 ends division by zero; ",
+    ),
+    ("UPDATE t SET up = 9 WHERE id = 9;", "1 asks 1 sets 3=0; "),
+    ("DELETE FROM t WHERE id = 3;", "1 asks 2 sets 3=1 takes 3; "),
+    (
+        "DELETE FROM t WHERE id >= 2;",
+        "1 asks 3 sets 3=1 takes 2 takes 3; ",
+    ),
+    (
+        "DELETE FROM t WHERE id <= 2;",
+        "1 asks 3 ends has children; ",
+    ),
+    ("DELETE FROM t WHERE id = 9;", "1 asks 1 sets 3=0; "),
+    (
+        "DELETE FROM u WHERE d >= 6;",
+        "1 asks 2 ends has children; ",
+    ),
+    (
+        "DELETE FROM u WHERE d = 7; INSERT INTO t VALUES (4, 4, 7);",
+        "1 asks 2 sets 3=1 takes 7; 2 asks 2 ends missing parent; ",
+    ),
+    (
+        "INSERT INTO u VALUES (8); INSERT INTO t VALUES (4, 4, 8); DELETE FROM u WHERE d = 8;",
+        "1 asks 1 sets 3=1 puts 8: 8; 2 asks 2 sets 3=1 puts 4: 4,4,8; 3 asks 2 ends has children; ",
     ),
 ];
 
@@ -511,16 +582,21 @@ fn script_leaves(alloc: Global, script: &str, want: &str) -> Result<(), Fail> {
     leaves(alloc, &program, want)
 }
 
-/// Checks that the call of a procedure with these statements leaves these records.
-fn statements_leave(alloc: Global, statements: &str, want: &str) -> Result<(), Fail> {
-    let script = between(alloc, FRONT, statements, BACK)?;
-    script_leaves(alloc, script.as_str(), want)
+/// Checks that the call of a procedure with the statements of each case leaves the records of the case.
+fn leave_as_told(alloc: Global, front: &str, cases: &[(&str, &str)]) -> Result<(), Fail> {
+    for (statements, want) in cases {
+        let script = between(alloc, front, statements, BACK)?;
+        script_leaves(alloc, script.as_str(), want)?;
+    }
+    Ok(())
 }
 
 #[test]
 fn records_are_executed_or_adopted(rt: HostRuntime) -> Result<(), Fail> {
-    for (statements, want) in CASES {
-        statements_leave(rt.alloc(), statements, want)?;
-    }
-    Ok(())
+    leave_as_told(rt.alloc(), FRONT, CASES)
+}
+
+#[test]
+fn parents_and_children_are_looked_for(rt: HostRuntime) -> Result<(), Fail> {
+    leave_as_told(rt.alloc(), FAMILY, FAMILY_CASES)
 }
