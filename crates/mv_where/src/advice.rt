@@ -487,7 +487,7 @@ pub(crate) const REFUSALS: &[(u32, &str)] = &[
     ),
     (
         23,
-        "a row of this table has no parent by this column: its number is that in the order of the keys, from 1",
+        "the table after REFERENCES has no row of this key; rows are numbered in the order of their keys, from 1",
     ),
     (24, "a READ ONLY procedure has no INSERT, UPDATE or DELETE"),
     (

@@ -3,11 +3,10 @@
 ghost use Rattle.std.specs.Prelude.{◌≡◌, [], IsFalse, IfOk};
 ghost use Rattle.mv_where.specs.Refusal.{is_refusal};
 
-use crate::blocks::{
-    block_of, call_of, column_name, journal_of, rows_end, rows_start, values_row,
-};
+use crate::blocks::{block_of, call_of, column_name, journal_of, rows_end, rows_start, values_row};
 use crate::causes::with_statements;
 use crate::head::script_in;
+use crate::ordered::field_by_key;
 use crate::outline::Outline;
 use crate::place::{column, first_line, line_around, line_number};
 use crate::records::{field_at, record_at};
@@ -129,7 +128,11 @@ impl Places<'_> {
             Target::Byte(at) => self.show(at as usize)?,
             Target::Token(number) => self.show_token(number)?,
             Target::Row { table, row, column } => self.show_row(table.as_bytes(), row, column)?,
-            Target::Column { table, column } => self.show_column(table.as_bytes(), column)?,
+            Target::Orphan { table, row, column } => self.show_orphan(
+                table.as_bytes(),
+                row,
+                column,
+            )?,
             Target::OpenBlock => self.show_open_block()?,
             Target::Line(number) => self.show_event(
                 number,
@@ -184,6 +187,15 @@ impl Places<'_> {
             }
         }
         Ok(())
+    }
+
+    /// Shows a column of a table, and its field in the row with this number in the order of the keys.
+    fn show_orphan(&mut self, table: &[u8], row: u32, column: u32) -> Result<(), NoMemory> {
+        self.show_column(table, column)?;
+        match field_by_key(self.alloc, self.script, self.tokens, table, row, column)? {
+            Some(at) => self.show(at),
+            None => Ok(()),
+        }
     }
 
     fn show_open_block(&mut self) -> Result<(), NoMemory> {

@@ -64,6 +64,23 @@ pub(crate) fn call_of<'a>(script: &[u8], tokens: &'a [Token], number: u32) -> Op
         .nth(number as usize)
 }
 
+/// Returns the tokens of a table after the bracket of its columns, if these tokens start with its CREATE TABLE.
+pub(crate) fn definition_of<'a>(
+    script: &[u8],
+    tokens: &'a [Token],
+    table: &[u8],
+) -> Option<&'a [Token]> {
+    match tokens {
+        [create, word, name, _, rest @ ..]
+            if is_word(script, create, b"create")
+                && is_word(script, word, b"table")
+                && is_word(script, name, table) => rest
+            .split(|token| bytes_of(script, token) == b";".as_slice())
+            .next(),
+        _ => None,
+    }
+}
+
 /// Returns the name of a column of this table, if these tokens start with its CREATE TABLE. Columns count from 1.
 pub(crate) fn column_name<'a>(
     script: &[u8],
@@ -71,16 +88,10 @@ pub(crate) fn column_name<'a>(
     table: &[u8],
     column: u32,
 ) -> Option<&'a Token> {
-    match tokens {
-        [create, word, name, _, rest @ ..]
-            if is_word(script, create, b"create")
-                && is_word(script, word, b"table")
-                && is_word(script, name, table) => rest
-            .split(|token| bytes_of(script, token) == b",".as_slice())
-            .nth((column as usize).saturating_sub(1))?
-            .first(),
-        _ => None,
-    }
+    definition_of(script, tokens, table)?
+        .split(|token| bytes_of(script, token) == b",".as_slice())
+        .nth((column as usize).saturating_sub(1))?
+        .first()
 }
 
 /// Returns the bracket before a row of the VALUES of this table, if these tokens start with its CREATE TABLE. Rows
@@ -91,16 +102,9 @@ pub(crate) fn values_row<'a>(
     table: &[u8],
     row: u32,
 ) -> Option<&'a Token> {
-    match tokens {
-        [create, word, name, rest @ ..]
-            if is_word(script, create, b"create")
-                && is_word(script, word, b"table")
-                && is_word(script, name, table) => rest
-            .iter()
-            .take_while(|token| bytes_of(script, token) != b";".as_slice())
-            .skip_while(|token| !is_word(script, token, b"values"))
-            .filter(|token| bytes_of(script, token) == b"(".as_slice())
-            .nth((row as usize).saturating_sub(1)),
-        _ => None,
-    }
+    definition_of(script, tokens, table)?
+        .iter()
+        .skip_while(|token| !is_word(script, token, b"values"))
+        .filter(|token| bytes_of(script, token) == b"(".as_slice())
+        .nth((row as usize).saturating_sub(1))
 }

@@ -10,6 +10,7 @@ mod causes;
 mod fault;
 mod grammar;
 mod head;
+mod ordered;
 mod outline;
 mod passing;
 mod place;

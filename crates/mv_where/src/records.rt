@@ -4,7 +4,7 @@ ghost use Rattle.std.specs.Prelude.{◌<◌, ◌≤◌, length, IfSome};
 
 /// Where in a field a byte of a block is.
 #[derive(Clone, Copy, PartialEq, Eq)]
-enum Inside {
+pub(crate) enum Inside {
     /// Before the first byte of a record.
     Nothing,
     /// Before the first byte of a field.
@@ -16,7 +16,7 @@ enum Inside {
 }
 
 /// Returns where the next byte is.
-fn step(inside: Inside, byte: u8) -> Inside {
+pub(crate) fn step(inside: Inside, byte: u8) -> Inside {
     match (inside, byte) {
         (Inside::Quoted, b'"') => Inside::Quote,
         (Inside::Quoted, _) => Inside::Quoted,

@@ -18,9 +18,10 @@ pub enum Target<'a> {
         row: u32,
         column: u32,
     },
-    /// A column of a table, of which a row is refused.
-    Column {
+    /// A column of a row of this table that has no parent. Rows count in the order of their keys.
+    Orphan {
         table: &'a str,
+        row: u32,
         column: u32,
     },
     OpenBlock,
@@ -64,7 +65,7 @@ fn target_of(number: u32, what: &str) -> Option<Target<'_>> {
         2 => Some(Target::Byte(number_in(what.strip_prefix("byte ")?)?)),
         3 => Some(Target::Byte(number_in(what.strip_prefix("token at ")?)?)),
         11 | 12 | 13 => row_of(what),
-        23 => column_of(what),
+        23 => orphan_of(what),
         14 => Some(Target::OpenBlock),
         15..=20 | 25 => Some(Target::Line(number_in(what.strip_prefix("journal line ")?)?)),
         21 => Some(Target::Call(number_in(what.strip_prefix("call ")?)?)),
@@ -79,10 +80,10 @@ pub(crate) fn number_in(digits: &str) -> Option<u32> {
     digits.parse::<u32>().ok()
 }
 
-/// Returns the column of a row that is named. The row's number is that in the order of the keys, so no place tells it.
-fn column_of(what: &str) -> Option<Target<'_>> {
+/// Returns the row and the column that are named, where rows count in the order of their keys.
+fn orphan_of(what: &str) -> Option<Target<'_>> {
     match row_of(what)? {
-        Target::Row { table, column, .. } => Some(Target::Column { table, column }),
+        Target::Row { table, row, column } => Some(Target::Orphan { table, row, column }),
         _ => None,
     }
 }
