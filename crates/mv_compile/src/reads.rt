@@ -308,7 +308,7 @@ fn asked(statement: &RStmt) -> Option<u16>
     }
 }
 
-/// Adds the tables of a statement's predicates behind its own one.
+/// Adds the tables of a statement's predicates after its own one.
 fn add_referring(
     alloc: Global,
     found: &mut List<u16>,
