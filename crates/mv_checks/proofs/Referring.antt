@@ -93,11 +93,14 @@ value_needs tables o r v p old new is some pushed =
 -- no column with REFERENCES is set
 pub none_set : (tables : List TableInfo) (t : ℕ) (items : List RSetItem) → list_any (λ (i : RSetItem). is_some (parent_of tables t i.column)) items ≡ false → Each (λ (i : RSetItem). parent_of tables t i.column ≡ None) items
 none_set tables t [] h = tt
-none_set tables t (i ∷ is) h = by (parent_of tables t i.column) refl h
+none_set tables t (i ∷ is) h = by (parent_of tables t i.column) refl (λ k. none_set tables t is k) h
   where
-    by : (o : Option ℕ) → parent_of tables t i.column ≡ o → (is_some o || list_any (λ (j : RSetItem). is_some (parent_of tables t j.column)) is) ≡ false → Each (λ (j : RSetItem). parent_of tables t j.column ≡ None) (i ∷ is)
-    by None e k = (e, none_set tables t is k)
-    by (Some p) e k = cc
+    sets : List RSetItem → Bool
+    sets js = list_any (λ (j : RSetItem). is_some (parent_of tables t j.column)) js
+
+    by : (o : Option ℕ) → parent_of tables t i.column ≡ o → (sets is ≡ false → Each (λ (j : RSetItem). parent_of tables t j.column ≡ None) is) → (is_some o || sets is) ≡ false → Each (λ (j : RSetItem). parent_of tables t j.column ≡ None) (i ∷ is)
+    by None e rest k = (e, rest k)
+    by (Some p) e rest k = cc
 
 -- DELETE: children
 
