@@ -78,5 +78,5 @@ AskedFor preds ws before after = AskedAtMost (length preds) (length preds * diff
 
 -- the view was asked so for the predicates of the statement with these variables, after these writes, whatever lines come
 -- before it
-abbrev pub AskedBy : {X : Type 0} → List TableInfo → RStmt-F X → Env → List Write → Sight → Sight → Type 0
+abbrev pub AskedBy : List TableInfo → RStmt-F RStmt → Env → List Write → Sight → Sight → Type 0
 AskedBy tables s env ws before after = (lines : List (List ℕ)) → AskedFor (preds_of tables s (record { env = env; tables = applied ws before.database; lines = lines })) ws before after

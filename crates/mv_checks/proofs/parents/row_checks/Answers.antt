@@ -1,6 +1,4 @@
-use Rattle.std.proofs.Common.{◌≤◌, ◌<◌, length, [], ◌++◌, map, sym, ap, subst, ◌∙◌, arith}
-use Rattle.mv_values.specs.declared.schema.Column.{Column}
-use Rattle.mv_values.specs.Tables.{columns_at}
+use Rattle.std.proofs.Common.{◌≤◌, length, sym, subst, arith}
 use Rattle.mv_checks.proofs.Referring.{columns_few}
 use Rattle.mv_checks.proofs.parents.row_checks.Goals as goal
 
