@@ -126,10 +126,10 @@ none_asked preds ws at = none (length preds) (length preds * different ws)
 asked_more : (n k d e : ℕ) (a b c : Sight) → d ≤ e → AskedAtMost n (n * d) a b → AskedAtMost k (k * d) b c → AskedAtMost (n + k) ((n + k) * e) a c
 asked_more n k d e a b c more first last =
     let before : n * d ≤ n * e = mul-le-mul_left n more in
-    let then : k * d ≤ k * e = mul-le-mul_left k more in
+    let later : k * d ≤ k * e = mul-le-mul_left k more in
     record {
       for_rows = omega (arith, first.for_rows, last.for_rows);
-      for_row = omega (arith, first.for_row, last.for_row, before, then, add-mul n k e);
+      for_row = omega (arith, first.for_row, last.for_row, before, later, add-mul n k e);
     }
 
 -- for these predicates, and then for others

@@ -1,19 +1,24 @@
 -- Checks that are run one after another, up to the first that fails.
-use Rattle.std.proofs.Common.{◌≡◌, ◌≤◌, ◌+◌, ◌*◌, ℕ, Bool, List, [], ◌∷◌, ◌++◌, Option, Some, None, length, refl, sym, ap, ◌∙◌, arith, append_assoc, append-nil, length-append, add-mul}
+use Rattle.std.proofs.Common.{◌≡◌, ◌≤◌, ◌+◌, ◌*◌, ℕ, Bool, List, [], ◌∷◌, ◌++◌, Option, Some, None, length, refl, sym, ap, subst, ◌∙◌, arith, append_assoc, append-nil, length-append, add-mul}
 use Rattle.std.specs.Option.{option_or}
 use Rattle.mv_values.specs.declared.patch.Write.{Write}
 use Rattle.mv_values.specs.declared.pred.Pred.{Pred}
 use Rattle.mv_values.specs.declared.calls.End.{End}
+use Rattle.mv_values.specs.declared.schema.TableInfo.{TableInfo}
+use Rattle.mv_values.specs.Patching.{applied}
 use Rattle.mv_values.specs.Tables.{Tables}
+use Rattle.mv_catalog.specs.declared.resolved.RStmt.{RStmt}
+use Rattle.mv_catalog.specs.declared.resolved.RStmt.TheOpen.{RStmt-F}
 use Rattle.mv_alone.specs.declared.state.Env.{Env}
 use Rattle.mv_alone.specs.Env.{with_found}
 use Rattle.mv_record.specs.declared.effect.Effect.{Effect}
 use Rattle.mv_recorded.specs.Asking.{Check, fault_of, first_fault, asked_in, if_none, preds_up_to}
-use Rattle.mv_recorded.specs.Effects.{only_end, effect_unless, slots_behind}
+use Rattle.mv_recorded.specs.Effects.{IsEffect, only_end, effect_unless, slots_behind}
 use Rattle.mv_log.specs.Logged.{Logged, no_effect}
 use Rattle.mv_view.specs.Viewing.{Sight}
 use Rattle.mv_effect.specs.Logging.{IsBlank, with_preds, with_sets, with_writes}
-use Rattle.mv_effect.specs.Looking.{IsSameView, WasNeverStale, AskedFor, different}
+use Rattle.mv_effect.specs.Looking.{IsSameView, WasNeverStale, AskedBy, AskedFor, different}
+use Rattle.mv_effect.proofs.Asked.{asked_by}
 use Rattle.mv_effect.proofs.OwnKeys.{same_then, never_then}
 
 -- What was run so far
@@ -153,3 +158,9 @@ no_sets first old mid ps cs db begins is = ap (λ (l : Logged). l.effect.sets) (
 pub unless_preds : (o : Option End) (ps : List Pred) (found : Bool) (ws : List Write) (env : Env) → (effect_unless o ps found ws env).preds ≡ ps
 unless_preds None ps found ws env = refl
 unless_preds (Some e) ps found ws env = refl
+
+-- a statement that ends where a check fails
+pub asked_unless : (tables : List TableInfo) (s : RStmt-F RStmt) (env : Env) (ws : List Write) (before after : Sight) (o : Option End) (ps : List Pred) (found : Bool) (vs : List Write)
+    → IsEffect tables s env (applied ws before.database) (effect_unless o ps found vs env) → AskedFor ps ws before after → AskedBy tables s env ws before after
+asked_unless tables s env ws before after o ps found vs is h =
+    asked_by tables s env ws before after (effect_unless o ps found vs env) is (subst (λ qs. AskedFor qs ws before after) (sym (unless_preds o ps found vs env)) h)

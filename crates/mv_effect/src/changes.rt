@@ -393,7 +393,7 @@ fn push_update(
 {
     match push_sets(alloc, context, update, rows.as_slice(), log) {
         Ok(()) => push_found(context.env, is_any(rows), log),
-        Err(_) => Err(NoMemory),
+        Err(_stop) => Err(NoMemory),
     }
 }
 

@@ -26,12 +26,18 @@ use mv_values::value::Key;
 use mv_view::view::{Refused, View};
 use std::alloc::Global;
 
+/// Whether the key of the row is one of these.
+fn has_key(own: &[Key], item: &Keyed) -> bool
+    ensures { result ≡ is_among own.now item.now.key }
+{
+    is_among(own, &item.key)
+}
+
 /// Whether the key of each row is one of these.
-#[tactic(auto, using(mv_checks::proofs::Running::all_keys))]
 fn have_keys(own: &[Key], rows: &[Keyed]) -> bool
     ensures { result ≡ list_all (is_among own.now) (keys rows.now) }
 {
-    rows.iter().all(|item| is_among(own, &item.key))
+    rows.iter().all(|item| has_key(own, item))
 }
 
 /// Whether the predicate finds a row after the call's own writes that the statement sees. Asks the view for the first one.

@@ -77,13 +77,25 @@ returns-then-is_empty-clause-asked g c =
     none_added (delete_checks c.args.context.now.tables.now c.args.table c.args.rows.now) db log none
 
 pub returns-then-is_empty-clause-looks : goal.returns-then-is_empty-clause-looks
-returns-then-is_empty-clause-looks g c = none_asked _ _ (g.V.View.sight c.args.view.now)
+returns-then-is_empty-clause-looks g c =
+    let ws = earlier c.args.context.now.number c.args.context.now.undo.now in
+    let before = g.V.View.sight c.args.view.now in
+    none_asked (preds_up_to (delete_checks c.args.context.now.tables.now c.args.table c.args.rows.now) (applied ws before.database)) ws before
 
 pub returns-in_err-children-clause-looks : goal.returns-in_err-children-clause-looks
-returns-in_err-children-clause-looks g c = none_asked _ _ (g.V.View.sight c.args.view.now)
+returns-in_err-children-clause-looks g c =
+    let ws = earlier c.args.context.now.number c.args.context.now.undo.now in
+    let before = g.V.View.sight c.args.view.now in
+    none_asked (preds_up_to (delete_checks c.args.context.now.tables.now c.args.table c.args.rows.now) (applied ws before.database)) ws before
 
 pub returns-in_err-own-clause-looks : goal.returns-in_err-own-clause-looks
-returns-in_err-own-clause-looks g c = none_asked _ _ (g.V.View.sight c.args.view.now)
+returns-in_err-own-clause-looks g c =
+    let ws = earlier c.args.context.now.number c.args.context.now.undo.now in
+    let before = g.V.View.sight c.args.view.now in
+    none_asked (preds_up_to (delete_checks c.args.context.now.tables.now c.args.table c.args.rows.now) (applied ws before.database)) ws before
 
 pub returns-in_err-checks-clause-looks : goal.returns-in_err-checks-clause-looks
-returns-in_err-checks-clause-looks g c = none_asked _ _ (g.V.View.sight c.args.view.now)
+returns-in_err-checks-clause-looks g c =
+    let ws = earlier c.args.context.now.number c.args.context.now.undo.now in
+    let before = g.V.View.sight c.args.view.now in
+    none_asked (preds_up_to (delete_checks c.args.context.now.tables.now c.args.table c.args.rows.now) (applied ws before.database)) ws before

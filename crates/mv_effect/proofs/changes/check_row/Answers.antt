@@ -5,7 +5,7 @@ use Rattle.mv_log.specs.Logged.{Logged}
 use Rattle.mv_undo.specs.Owning.{earlier}
 use Rattle.mv_recorded.specs.Asking.{Check, first_fault, preds_up_to}
 use Rattle.mv_recorded.specs.Own.{Each}
-use Rattle.mv_checks.specs.Checking.{meant, MayAsk}
+use Rattle.mv_checks.specs.Checking.{meant, row_checks, MayAsk}
 use Rattle.mv_effect.specs.Logging.{with_preds}
 use Rattle.mv_effect.specs.Looking.{AskedFor}
 use Rattle.mv_effect.proofs.Asked.{none_asked}
@@ -40,4 +40,7 @@ returns-clause-looks g c =
     subst (λ (cs : List Check). AskedFor (preds_up_to cs db) ws before (g.V.View.sight c.run_checks.new.view)) (ap (map (meant [])) c.as_slice.ensures ∙ c.in_ok-checks.ensures) c.run_checks.ensures.looks
 
 pub returns-in_err-checks-clause-looks : goal.returns-in_err-checks-clause-looks
-returns-in_err-checks-clause-looks g c = none_asked _ _ (g.V.View.sight c.args.view.now)
+returns-in_err-checks-clause-looks g c =
+    let ws = earlier c.args.context.now.number c.args.context.now.undo.now in
+    let before = g.V.View.sight c.args.view.now in
+    none_asked (preds_up_to (row_checks c.args.context.now.tables.now c.args.table c.args.item.now) (applied ws before.database)) ws before

@@ -40,4 +40,7 @@ returns-clause-looks g c =
     subst (λ (cs : List Check). AskedFor (preds_up_to cs db) ws before (g.V.View.sight c.run_checks.new.view)) (ap (map (meant [])) c.as_slice-2.ensures ∙ (c.in_ok-checks.ensures ∙ ap (update_checks c.args.context.now.tables.now c.args.update.now.table c.args.update.now.items.now c.args.context.now.env.now) c.as_slice.ensures.items)) c.run_checks.ensures.looks
 
 pub returns-in_err-checks-clause-looks : goal.returns-in_err-checks-clause-looks
-returns-in_err-checks-clause-looks g c = none_asked _ _ (g.V.View.sight c.args.view.now)
+returns-in_err-checks-clause-looks g c =
+    let ws = earlier c.args.context.now.number c.args.context.now.undo.now in
+    let before = g.V.View.sight c.args.view.now in
+    none_asked (preds_up_to (update_checks c.args.context.now.tables.now c.args.update.now.table c.args.update.now.items.now c.args.context.now.env.now c.args.rows.now) (applied ws before.database)) ws before

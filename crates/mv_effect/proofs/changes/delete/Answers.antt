@@ -1,23 +1,38 @@
-use Rattle.std.proofs.Common.{◌≡◌, ◌∷◌, List, OnOk, map, refl, sym, ap, subst, ◌∙◌}
+use Rattle.std.proofs.Common.{◌≡◌, ◌∷◌, [], ℕ, List, Ok, OnOk, map, refl, sym, ap, subst, ◌∙◌}
 use Rattle.std.proofs.lemmas.Result.{on_ok_weaker}
 use Rattle.mv_values.specs.declared.pred.Pred.{Pred}
 use Rattle.mv_values.specs.declared.rows.Keyed.{Keyed}
 use Rattle.mv_values.specs.declared.patch.Patch.TheVariants as patch
+use Rattle.mv_values.specs.declared.patch.Write.{Write}
+use Rattle.mv_values.specs.declared.schema.TableInfo.{TableInfo}
+use Rattle.mv_values.specs.Keys.{IsRising}
 use Rattle.mv_values.specs.Patching.{applied, found_by}
+use Rattle.mv_values.specs.Tables.{rows_at}
+use Rattle.mv_catalog.specs.declared.resolved.RCond.{RCond}
 use Rattle.mv_catalog.specs.declared.resolved.RStmt.TheOpen.{Delete}
+use Rattle.mv_alone.specs.declared.state.Env.{Env}
 use Rattle.mv_alone.specs.Rows.{is_some_row}
 use Rattle.mv_log.specs.Logged.{Logged}
 use Rattle.mv_record.proofs.Patching.{rising_applied}
-use Rattle.mv_recorded.specs.Asking.{first_fault, preds_up_to, delete_checks}
+use Rattle.mv_recorded.specs.Asking.{Check, first_fault, preds_up_to, delete_checks}
 use Rattle.mv_recorded.specs.Doing.{write}
-use Rattle.mv_recorded.specs.Effects.{effect_unless}
+use Rattle.mv_recorded.specs.Effects.{asks, effect_unless}
 use Rattle.mv_recorded.proofs.Told.{delete_done}
 use Rattle.mv_undo.specs.Owning.{earlier}
-use Rattle.mv_effect.specs.Looking.{AreSoundTables, AskedFor}
-use Rattle.mv_effect.proofs.Asked.{asked_all, asked_by, asked_first, none_asked_by}
-use Rattle.mv_effect.proofs.Checking.{unless_preds}
+use Rattle.mv_view.specs.Viewing.{Sight}
+use Rattle.mv_effect.specs.Looking.{AreSoundTables, AskedBy, AskedFor}
+use Rattle.mv_effect.proofs.Asked.{asked_all, asked_first, none_asked_by}
+use Rattle.mv_effect.proofs.Checking.{asked_unless}
 use Rattle.mv_effect.proofs.Ends.{effect_alone}
 use Rattle.mv_effect.proofs.changes.delete.Goals as goal
+
+-- what is asked of rows that were found
+asked_delete : (tables : List TableInfo) (t : ℕ) (conds : List RCond) (env : Env) (ws : List Write) (pred : Pred) (rows : List Keyed) (before after : Sight) → IsRising (rows_at (applied ws before.database) t) → asks tables t conds [] env ≡ Ok pred
+    → rows ≡ found_by pred (applied ws before.database) → AskedFor (pred ∷ preds_up_to (delete_checks tables t rows) (applied ws before.database)) ws before after → AskedBy tables (Delete t conds) env ws before after
+asked_delete tables t conds env ws pred rows before after rises is found asked =
+    let db : List (List Keyed) = applied ws before.database in
+    let cs : List Check = delete_checks tables t rows in
+    asked_unless tables (Delete t conds) env ws before after (first_fault cs db) (pred ∷ preds_up_to cs db) (is_some_row rows) (map (λ (item : Keyed). write t item.key patch.Delete) rows) (delete_done tables t conds env db pred rows rises is found) asked
 
 pub delete_rows-requires-clause-stands : goal.delete_rows-requires-clause-stands
 delete_rows-requires-clause-stands g c = subst (λ (d : List (List Keyed)). AreSoundTables c.args.context.now.tables.now (earlier c.args.context.now.number c.args.context.now.undo.now) d) (sym c.in_ok-rows.ensures.view.same.database) c.requires.stands
@@ -49,15 +64,12 @@ returns-clause-looks g c =
     let before = g.V.View.sight c.args.view.now in
     let mid = g.V.View.sight c.visible_rows.new.view in
     let t = c.args.table in
-    let rows = c.in_ok-rows.rows in
-    let made = λ (rows : List Keyed) (db : List (List Keyed)). effect_unless (first_fault (delete_checks tables t rows) db) (c.in-Ok.pred ∷ preds_up_to (delete_checks tables t rows) db) (is_some_row rows) (map (λ (item : Keyed). write t item.key patch.Delete) rows) env in
     let rises = rising_applied ws before.database c.requires.stands.database.rising t in
-    let db = applied ws before.database in
     let after = g.V.View.sight c.delete_rows.new.view in
-    let ps = preds_up_to (delete_checks tables t rows) db in
+    let rows = c.in_ok-rows.rows in
+    let ps = preds_up_to (delete_checks tables t rows) (applied ws before.database) in
     let later = subst (λ (d : List (List Keyed)). AskedFor (preds_up_to (delete_checks tables t rows) (applied ws d)) ws mid after) c.in_ok-rows.ensures.view.same.database c.delete_rows.ensures.looks in
-    asked_by tables (Delete t c.args.conds.now) env ws before after (made rows db) (delete_done tables t c.args.conds.now env db c.in-Ok.pred rows rises c.in-Ok.ensures.asks c.in_ok-rows.ensures.found)
-    (subst (λ (qs : List Pred). AskedFor qs ws before after) (sym (unless_preds _ _ _ _ env)) (asked_all c.in-Ok.pred ps ws before mid after c.in_ok-rows.ensures.looks later))
+    asked_delete tables t c.args.conds.now env ws c.in-Ok.pred rows before after rises c.in-Ok.ensures.asks c.in_ok-rows.ensures.found (asked_all c.in-Ok.pred ps ws before mid after c.in_ok-rows.ensures.looks later)
 
 pub returns-in_err-rows-clause-looks : goal.returns-in_err-rows-clause-looks
 returns-in_err-rows-clause-looks g c =
@@ -65,12 +77,12 @@ returns-in_err-rows-clause-looks g c =
     let env = c.args.context.now.env.now in
     let ws = earlier c.args.context.now.number c.args.context.now.undo.now in
     let before = g.V.View.sight c.args.view.now in
-    let after = g.V.View.sight c.visible_rows.new.view in
+    let mid = g.V.View.sight c.visible_rows.new.view in
     let t = c.args.table in
-    let db = applied ws before.database in
-    let rows = found_by c.in-Ok.pred db in
-    asked_by tables (Delete t c.args.conds.now) env ws before after _ (delete_done tables t c.args.conds.now env db c.in-Ok.pred rows (rising_applied ws before.database c.requires.stands.database.rising t) c.in-Ok.ensures.asks refl)
-    (subst (λ (qs : List Pred). AskedFor qs ws before after) (sym (unless_preds _ _ _ _ env)) (asked_first c.in-Ok.pred (preds_up_to (delete_checks tables t rows) db) ws before after c.visible_rows.ensures.looks))
+    let rises = rising_applied ws before.database c.requires.stands.database.rising t in
+    let rows = found_by c.in-Ok.pred (applied ws before.database) in
+    let ps = preds_up_to (delete_checks tables t rows) (applied ws before.database) in
+    asked_delete tables t c.args.conds.now env ws c.in-Ok.pred rows before mid rises c.in-Ok.ensures.asks refl (asked_first c.in-Ok.pred ps ws before mid c.visible_rows.ensures.looks)
 
 pub returns-in-Err-clause-looks : goal.returns-in-Err-clause-looks
 returns-in-Err-clause-looks g c = none_asked_by c.args.context.now.tables.now (Delete c.args.table c.args.conds.now) c.args.context.now.env.now (earlier c.args.context.now.number c.args.context.now.undo.now) (g.V.View.sight c.args.view.now)

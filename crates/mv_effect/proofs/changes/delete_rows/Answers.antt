@@ -5,7 +5,7 @@ use Rattle.mv_undo.specs.Owning.{earlier}
 use Rattle.mv_values.specs.declared.patch.Patch.TheVariants as patch
 use Rattle.mv_values.specs.declared.rows.Keyed.{Keyed}
 use Rattle.mv_alone.specs.Rows.{is_some_row}
-use Rattle.mv_recorded.specs.Asking.{delete_checks}
+use Rattle.mv_recorded.specs.Asking.{preds_up_to, delete_checks}
 use Rattle.mv_recorded.specs.Doing.{write}
 use Rattle.mv_effect.proofs.Asked.{none_asked}
 use Rattle.mv_effect.proofs.Checking.{asks_nothing, checked_ends, checked_passes, no_sets, no_writes}
@@ -45,4 +45,7 @@ returns-clause-ok g c =
     (sym c.in_default.is ∙ c.in_ok-fault.ensures.fault) c.in_ok-push_deletion.ensures.ok
 
 pub returns-in_err-ask-clause-looks : goal.returns-in_err-ask-clause-looks
-returns-in_err-ask-clause-looks g c = none_asked _ _ (g.V.View.sight c.args.view.now)
+returns-in_err-ask-clause-looks g c =
+    let ws = earlier c.args.context.now.number c.args.context.now.undo.now in
+    let before = g.V.View.sight c.args.view.now in
+    none_asked (preds_up_to (delete_checks c.args.context.now.tables.now c.args.table c.args.rows) (applied ws before.database)) ws before

@@ -1,24 +1,41 @@
-use Rattle.std.proofs.Common.{◌≡◌, ◌∷◌, List, OnOk, refl, sym, ap, subst, ◌∙◌}
+use Rattle.std.proofs.Common.{◌≡◌, ◌∷◌, ℕ, List, Ok, OnOk, refl, sym, ap, subst, ◌∙◌}
+use Rattle.std.specs.List.{flat_map}
 use Rattle.std.proofs.lemmas.Result.{on_ok_weaker}
 use Rattle.mv_values.specs.declared.pred.Pred.{Pred}
 use Rattle.mv_values.specs.declared.rows.Keyed.{Keyed}
+use Rattle.mv_values.specs.declared.patch.Write.{Write}
+use Rattle.mv_values.specs.declared.schema.TableInfo.{TableInfo}
 use Rattle.mv_values.specs.Patching.{applied, found_by}
+use Rattle.mv_values.specs.Tables.{KeysStand}
+use Rattle.mv_catalog.specs.declared.resolved.RCond.{RCond}
 use Rattle.mv_catalog.specs.declared.resolved.RSetItem.{RSetItem}
 use Rattle.mv_catalog.specs.declared.resolved.RStmt.TheOpen.{Update}
+use Rattle.mv_alone.specs.declared.state.Env.{Env}
 use Rattle.mv_alone.specs.Rows.{is_some_row}
 use Rattle.mv_log.specs.Logged.{Logged}
-use Rattle.mv_recorded.specs.Asking.{on, first_fault, preds_up_to, update_checks}
-use Rattle.mv_recorded.specs.Effects.{changes, effect_unless, new_of}
+use Rattle.mv_recorded.specs.Asking.{Check, columns_in, on, first_fault, preds_up_to, update_checks}
+use Rattle.mv_recorded.specs.Effects.{asks, changes, effect_unless, new_of}
 use Rattle.mv_recorded.proofs.Checked.{update_plain}
 use Rattle.mv_recorded.proofs.Told.{update_done}
 use Rattle.mv_undo.specs.Owning.{earlier}
-use Rattle.mv_effect.specs.Looking.{AreSoundTables, AskedFor}
-use Rattle.mv_effect.proofs.Asked.{asked_all, asked_by, asked_first, none_asked_by}
-use Rattle.mv_effect.proofs.Checking.{unless_preds}
+use Rattle.mv_view.specs.Viewing.{Sight}
+use Rattle.mv_effect.specs.Looking.{AreSoundTables, AskedBy, AskedFor}
+use Rattle.mv_effect.proofs.Asked.{asked_all, asked_first, none_asked_by}
+use Rattle.mv_effect.proofs.Checking.{asked_unless}
 use Rattle.mv_effect.proofs.Ends.{effect_alone, plain_after}
 use Rattle.mv_effect.proofs.Few.{bytes_of}
 use Rattle.mv_checks.proofs.Referring.{none_set}
 use Rattle.mv_effect.proofs.changes.update.Goals as goal
+
+-- what is asked of rows that were found
+asked_update : (tables : List TableInfo) (t : ℕ) (items : List RSetItem) (conds : List RCond) (env : Env) (ws : List Write) (pred : Pred) (rows : List Keyed) (before after : Sight) → KeysStand tables (applied ws before.database)
+    → asks tables t conds (flat_map (λ i. columns_in i.right) items) env ≡ Ok pred → rows ≡ found_by pred (applied ws before.database)
+    → AskedFor (pred ∷ preds_up_to (update_checks tables t items env rows) (applied ws before.database)) ws before after → AskedBy tables (Update t items conds) env ws before after
+asked_update tables t items conds env ws pred rows before after stand is found asked =
+    let db : List (List Keyed) = applied ws before.database in
+    let cs : List Check = update_checks tables t items env rows in
+    asked_unless tables (Update t items conds) env ws before after (first_fault cs db) (pred ∷ preds_up_to cs db) (is_some_row rows) (on (changes t items (new_of tables t env items) rows) (λ vs. vs))
+    (update_done tables t items conds env db pred rows stand is found) asked
 
 pub set_rows-requires-clause-columns : goal.set_rows-requires-clause-columns
 set_rows-requires-clause-columns g c = bytes_of (λ (i : RSetItem). i.column) c.args.context.now.tables.now c.args.update.now.table c.args.update.now.items.now c.requires.stands.each c.requires.sets.columns
@@ -60,14 +77,11 @@ returns-then-sets_reference-clause-looks g c =
     let mid = g.V.View.sight c.visible_rows.new.view in
     let t = c.args.update.now.table in
     let items = c.args.update.now.items.now in
-    let db = applied ws before.database in
-    let rows = c.in_ok-rows.rows in
-    let made =
-    λ (db : List (List Keyed)). effect_unless (first_fault (update_checks tables t items env rows) db) (c.in-Ok.pred ∷ preds_up_to (update_checks tables t items env rows) db) (is_some_row rows) (on (changes t items (new_of tables t env items) rows) (λ vs. vs)) env in
     let after = g.V.View.sight c.update_rows.new.view in
+    let rows = c.in_ok-rows.rows in
+    let ps = preds_up_to (update_checks tables t items env rows) (applied ws before.database) in
     let later = subst (λ (d : List (List Keyed)). AskedFor (preds_up_to (update_checks tables t items env rows) (applied ws d)) ws mid after) c.in_ok-rows.ensures.view.same.database c.update_rows.ensures.looks in
-    asked_by tables (Update t items c.args.update.now.conds.now) env ws before after (made db) (update_done tables t items c.args.update.now.conds.now env db c.in-Ok.pred rows c.requires.stands.behind c.in-Ok.ensures.asks c.in_ok-rows.ensures.found)
-    (subst (λ (qs : List Pred). AskedFor qs ws before after) (sym (unless_preds _ _ _ _ env)) (asked_all c.in-Ok.pred (preds_up_to (update_checks tables t items env rows) db) ws before mid after c.in_ok-rows.ensures.looks later))
+    asked_update tables t items c.args.update.now.conds.now env ws c.in-Ok.pred rows before after c.requires.stands.behind c.in-Ok.ensures.asks c.in_ok-rows.ensures.found (asked_all c.in-Ok.pred ps ws before mid after c.in_ok-rows.ensures.looks later)
 
 -- none is set
 
@@ -98,12 +112,9 @@ returns-clause-looks g c =
     let mid = g.V.View.sight c.visible_rows.new.view in
     let t = c.args.update.now.table in
     let items = c.args.update.now.items.now in
-    let db = applied ws before.database in
     let rows = c.in_ok-rows.rows in
-    let made =
-    λ (db : List (List Keyed)). effect_unless (first_fault (update_checks tables t items env rows) db) (c.in-Ok.pred ∷ preds_up_to (update_checks tables t items env rows) db) (is_some_row rows) (on (changes t items (new_of tables t env items) rows) (λ vs. vs)) env in
-    asked_by tables (Update t items c.args.update.now.conds.now) env ws before mid (made db) (update_done tables t items c.args.update.now.conds.now env db c.in-Ok.pred rows c.requires.stands.behind c.in-Ok.ensures.asks c.in_ok-rows.ensures.found)
-    (subst (λ (qs : List Pred). AskedFor qs ws before mid) (sym (unless_preds _ _ _ _ env)) (asked_first c.in-Ok.pred (preds_up_to (update_checks tables t items env rows) db) ws before mid c.in_ok-rows.ensures.looks))
+    let ps = preds_up_to (update_checks tables t items env rows) (applied ws before.database) in
+    asked_update tables t items c.args.update.now.conds.now env ws c.in-Ok.pred rows before mid c.requires.stands.behind c.in-Ok.ensures.asks c.in_ok-rows.ensures.found (asked_first c.in-Ok.pred ps ws before mid c.in_ok-rows.ensures.looks)
 
 pub returns-in_err-set_rows-clause-looks : goal.returns-in_err-set_rows-clause-looks
 returns-in_err-set_rows-clause-looks g c =
@@ -114,12 +125,9 @@ returns-in_err-set_rows-clause-looks g c =
     let mid = g.V.View.sight c.visible_rows.new.view in
     let t = c.args.update.now.table in
     let items = c.args.update.now.items.now in
-    let db = applied ws before.database in
     let rows = c.in_ok-rows.rows in
-    let made =
-    λ (db : List (List Keyed)). effect_unless (first_fault (update_checks tables t items env rows) db) (c.in-Ok.pred ∷ preds_up_to (update_checks tables t items env rows) db) (is_some_row rows) (on (changes t items (new_of tables t env items) rows) (λ vs. vs)) env in
-    asked_by tables (Update t items c.args.update.now.conds.now) env ws before mid (made db) (update_done tables t items c.args.update.now.conds.now env db c.in-Ok.pred rows c.requires.stands.behind c.in-Ok.ensures.asks c.in_ok-rows.ensures.found)
-    (subst (λ (qs : List Pred). AskedFor qs ws before mid) (sym (unless_preds _ _ _ _ env)) (asked_first c.in-Ok.pred (preds_up_to (update_checks tables t items env rows) db) ws before mid c.in_ok-rows.ensures.looks))
+    let ps = preds_up_to (update_checks tables t items env rows) (applied ws before.database) in
+    asked_update tables t items c.args.update.now.conds.now env ws c.in-Ok.pred rows before mid c.requires.stands.behind c.in-Ok.ensures.asks c.in_ok-rows.ensures.found (asked_first c.in-Ok.pred ps ws before mid c.in_ok-rows.ensures.looks)
 
 -- the rows weren't found
 
@@ -132,12 +140,9 @@ returns-in_err-rows-clause-looks g c =
     let mid = g.V.View.sight c.visible_rows.new.view in
     let t = c.args.update.now.table in
     let items = c.args.update.now.items.now in
-    let db = applied ws before.database in
-    let rows = found_by c.in-Ok.pred db in
-    let made =
-    λ (db : List (List Keyed)). effect_unless (first_fault (update_checks tables t items env rows) db) (c.in-Ok.pred ∷ preds_up_to (update_checks tables t items env rows) db) (is_some_row rows) (on (changes t items (new_of tables t env items) rows) (λ vs. vs)) env in
-    asked_by tables (Update t items c.args.update.now.conds.now) env ws before mid (made db) (update_done tables t items c.args.update.now.conds.now env db c.in-Ok.pred rows c.requires.stands.behind c.in-Ok.ensures.asks refl)
-    (subst (λ (qs : List Pred). AskedFor qs ws before mid) (sym (unless_preds _ _ _ _ env)) (asked_first c.in-Ok.pred (preds_up_to (update_checks tables t items env rows) db) ws before mid c.visible_rows.ensures.looks))
+    let rows = found_by c.in-Ok.pred (applied ws before.database) in
+    let ps = preds_up_to (update_checks tables t items env rows) (applied ws before.database) in
+    asked_update tables t items c.args.update.now.conds.now env ws c.in-Ok.pred rows before mid c.requires.stands.behind c.in-Ok.ensures.asks refl (asked_first c.in-Ok.pred ps ws before mid c.visible_rows.ensures.looks)
 
 pub returns-in-Err-clause-looks : goal.returns-in-Err-clause-looks
 returns-in-Err-clause-looks g c = none_asked_by c.args.context.now.tables.now (Update c.args.update.now.table c.args.update.now.items.now c.args.update.now.conds.now) c.args.context.now.env.now (earlier c.args.context.now.number c.args.context.now.undo.now) (g.V.View.sight c.args.view.now)

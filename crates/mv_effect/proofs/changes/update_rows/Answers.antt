@@ -3,7 +3,7 @@ use Rattle.mv_values.specs.Patching.{applied}
 use Rattle.mv_log.specs.Logged.{Logged}
 use Rattle.mv_undo.specs.Owning.{earlier}
 use Rattle.mv_alone.specs.Rows.{is_some_row}
-use Rattle.mv_recorded.specs.Asking.{on, first_fault, update_checks}
+use Rattle.mv_recorded.specs.Asking.{on, first_fault, preds_up_to, update_checks}
 use Rattle.mv_recorded.specs.Effects.{changes, new_of}
 use Rattle.mv_recorded.proofs.Checked.{update_checked}
 use Rattle.mv_checks.proofs.Running.{follows_on}
@@ -45,7 +45,10 @@ returns-clause-ok g c =
     (sym c.in_default.is ∙ c.in_ok-fault.ensures.fault) c.in_ok-push_update.ensures.ok
 
 pub returns-in_err-ask-clause-looks : goal.returns-in_err-ask-clause-looks
-returns-in_err-ask-clause-looks g c = none_asked _ _ (g.V.View.sight c.args.view.now)
+returns-in_err-ask-clause-looks g c =
+    let ws = earlier c.args.context.now.number c.args.context.now.undo.now in
+    let before = g.V.View.sight c.args.view.now in
+    none_asked (preds_up_to (update_checks c.args.context.now.tables.now c.args.update.now.table c.args.update.now.items.now c.args.context.now.env.now c.args.rows.now) (applied ws before.database)) ws before
 
 pub push_update-requires-clause-goes : goal.push_update-requires-clause-goes
 push_update-requires-clause-goes g c =

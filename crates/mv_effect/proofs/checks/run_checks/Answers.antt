@@ -1,6 +1,7 @@
 use Rattle.std.proofs.Common.{◌≡◌, ◌+◌, [], ◌∷◌, List, Some, None, map, drop, sym, ap, subst, ◌∙◌}
 use Rattle.mv_values.specs.declared.rows.Keyed.{Keyed}
 use Rattle.mv_values.specs.Patching.{applied}
+use Rattle.mv_values.proofs.Deciding.{always_err}
 use Rattle.mv_log.specs.Logged.{Logged}
 use Rattle.mv_undo.specs.Owning.{earlier}
 use Rattle.mv_recorded.specs.Asking.{Check, fault_of}
@@ -114,7 +115,7 @@ returns-in_err-end-clause-looks g c =
 
 pub returns-in_err-end-clause-err : goal.returns-in_err-end-clause-err
 returns-in_err-end-clause-err g c =
-    c.in_err-end.ensures.err ∙ ap without_effect c.loop-check.invariant.log
+    always_err c.from_residual.result (without_effect c.run_one.new.log ≡ without_effect c.args.log.now) (c.in_err-end.ensures.err ∙ ap without_effect c.loop-check.invariant.log)
 
 pub returns-clause-fault : goal.returns-clause-fault
 returns-clause-fault g c =
