@@ -35,7 +35,7 @@ fn has_key(own: &[Key], item: &Keyed) -> bool
 
 /// Whether the key of each row is one of these.
 fn have_keys(own: &[Key], rows: &[Keyed]) -> bool
-    ensures { result ≡ list_all (is_among own.now) (keys rows.now) }
+    ensures { result ≡ list_all (λ item. is_among own.now item.key) rows.now }
 {
     rows.iter().all(|item| has_key(own, item))
 }

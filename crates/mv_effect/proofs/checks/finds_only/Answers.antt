@@ -1,7 +1,17 @@
-use Rattle.std.proofs.Common.{◌∷◌, [], refl}
+use Rattle.std.proofs.Common.{◌∷◌, [], List, refl, ap, ◌∙◌}
+use Rattle.std.specs.List.{list_all}
+use Rattle.mv_values.specs.declared.rows.Keyed.{Keyed}
+use Rattle.mv_values.specs.Keys.{keys}
 use Rattle.mv_undo.specs.Owning.{earlier}
+use Rattle.mv_recorded.specs.Asking.{is_among}
+use Rattle.mv_checks.proofs.Running.{all_keys}
 use Rattle.mv_effect.proofs.Asked.{asked_one}
 use Rattle.mv_effect.proofs.checks.finds_only.Goals as goal
+
+pub returns-clause-found : goal.returns-clause-found
+returns-clause-found g c =
+    let own = c.args.own.now in
+    c.have_keys.ensures ∙ (all_keys (is_among own) c.as_slice.result.now ∙ ap (λ (rows : List Keyed). list_all (is_among own) (keys rows)) (c.as_slice.ensures.items ∙ c.in_ok-found.ensures.found))
 
 pub returns-clause-looks : goal.returns-clause-looks
 returns-clause-looks g c =
