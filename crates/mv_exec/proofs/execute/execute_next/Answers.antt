@@ -6,6 +6,7 @@ use Rattle.mv_values.proofs.Deciding.{always_err}
 use Rattle.mv_record.specs.declared.record.Record.{Record}
 use Rattle.mv_record.specs.Runs.{writes_in}
 use Rattle.mv_log.specs.Logged.{Logged}
+use Rattle.mv_exec.specs.Running.{preds_ahead}
 use Rattle.mv_exec.specs.Steps.{HasExecuted}
 use Rattle.mv_exec.specs.Tasks.{StandsAsBefore}
 use Rattle.mv_effect.proofs.Asked.{none_asked}
@@ -65,7 +66,9 @@ pub returns-in_err-at-clause-err : goal.returns-in_err-at-clause-err
 returns-in_err-at-clause-err g c = always_err c.from_residual.result (StandsAsBefore c.args.graph.now.procedure c.args.task.now c.come_to.new.task) c.come_to.ensures.same
 
 pub returns-in_err-at-clause-bounded : goal.returns-in_err-at-clause-bounded
-returns-in_err-at-clause-bounded g c = none_asked _ _ (g.V.View.sight c.args.view.now)
+returns-in_err-at-clause-bounded g c =
+    let before = g.V.View.sight c.args.view.now in
+    none_asked (preds_ahead c.args.graph.now before.database c.args.task.now) (writes_in c.args.task.now.log.records) before
 
 pub returns-in_err-at-clause-view : goal.returns-in_err-at-clause-view
 returns-in_err-at-clause-view g c =
