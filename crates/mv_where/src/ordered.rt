@@ -5,8 +5,6 @@ use crate::records::{Inside, field_at, step};
 use mv_lex::token::{Kind, Token};
 use mv_values::list::List;
 use mv_values::memory::NoMemory;
-use mv_values::txt::Txt;
-use mv_values::value::{Key, Value};
 use std::alloc::Global;
 use std::collections::BTreeMap;
 use std::str;
@@ -18,7 +16,7 @@ struct KeyColumn {
     is_number: bool,
 }
 
-/// The fields of one column of a table, by the keys of their rows.
+/// The fields of one column of a table, by the keys of their rows. A key is bytes that compare as its values do.
 #[derive(Drop)]
 struct Fields<'a> {
     alloc: Global,
@@ -27,7 +25,7 @@ struct Fields<'a> {
     /// The number of the column, from 1.
     column: u32,
     /// Where each field is.
-    places: BTreeMap<Key, usize>,
+    places: BTreeMap<List<u8>, usize>,
 }
 
 /// Returns the place of a field of the row of a table with this number in the order of the keys, from 1. The row is one of
@@ -118,7 +116,7 @@ impl Fields<'_> {
         let mut key = List::new(self.alloc);
         for column in self.key.as_slice() {
             let literal = literal_of(self.script, row, column.number);
-            key.push(literal_value(self.alloc, self.script, literal, column.is_number)?)?;
+            add_literal(self.alloc, &mut key, self.script, literal, column.is_number)?;
         }
         if let Some(token) = literal_of(self.script, row, self.column).first() {
             self.places.insert(key, token.at as usize)?;
@@ -147,8 +145,7 @@ impl Fields<'_> {
         let mut key = List::new(self.alloc);
         for column in self.key.as_slice() {
             let field = field_of(record, column.number);
-            let text = unquoted(self.alloc, field, b'"')?;
-            key.push(value_of(self.alloc, text.as_slice(), column.is_number)?)?;
+            add_text(self.alloc, &mut key, field, b'"', column.is_number)?;
         }
         let field = field_at(record, self.column);
         self.places.insert(key, place.saturating_add(field))?;
@@ -165,22 +162,21 @@ fn literal_of<'a>(script: &[u8], row: &'a [Token], column: u32) -> &'a [Token] {
     }
 }
 
-fn literal_value(
+/// Adds a literal to a key.
+fn add_literal(
     alloc: Global,
+    key: &mut List<u8>,
     script: &[u8],
     literal: &[Token],
     is_number: bool,
-) -> Result<Value, NoMemory> {
+) -> Result<(), NoMemory> {
     match literal {
         [sign, digits, ..] if bytes_of(script, sign) == b"-".as_slice() => {
             let number = number_of(bytes_of(script, digits));
-            Ok(Value::Int(0i64.saturating_sub(number)))
+            add_number(key, 0i64.saturating_sub(number))
         }
-        [token, ..] => {
-            let text = unquoted(alloc, bytes_of(script, token), b'\'')?;
-            value_of(alloc, text.as_slice(), is_number)
-        }
-        [] => Ok(Value::Int(0)),
+        [token, ..] => add_text(alloc, key, bytes_of(script, token), b'\'', is_number),
+        [] => Ok(()),
     }
 }
 
@@ -214,12 +210,28 @@ fn unquoted(alloc: Global, text: &[u8], quote: u8) -> Result<List<u8>, NoMemory>
     Ok(plain)
 }
 
-fn value_of(alloc: Global, text: &[u8], is_number: bool) -> Result<Value, NoMemory> {
+/// Adds to a key the value that a text stands for, which may be in quotes.
+fn add_text(
+    alloc: Global,
+    key: &mut List<u8>,
+    text: &[u8],
+    quote: u8,
+    is_number: bool,
+) -> Result<(), NoMemory> {
+    let plain = unquoted(alloc, text, quote)?;
     if is_number {
-        Ok(Value::Int(number_of(text)))
-    } else {
-        Ok(Value::Text(Txt::of(alloc, text)?))
+        return add_number(key, number_of(plain.as_slice()));
     }
+    // No text has a byte 0. So a text comes before those that it begins.
+    key.append(plain.as_slice())?;
+    key.push(0)
+}
+
+/// Adds a number to a key. The first bit is changed, since a number below 0 has it set.
+fn add_number(key: &mut List<u8>, number: i64) -> Result<(), NoMemory> {
+    let [first, rest @ ..] = number.to_be_bytes();
+    key.push(first ^ 128)?;
+    key.append(&rest)
 }
 
 /// Returns the number that digits spell, perhaps after a `-`, or 0 if they don't spell one.
