@@ -22,11 +22,15 @@ use mv_values::value::Key;
 use std::alloc::Global;
 
 /// Whether the key of each row is one of these.
-#[tactic(auto, using(mv_checks::proofs::Running::all_keys))]
 fn have_keys(own: &[Key], rows: &[Entry<'_>]) -> bool
     ensures { result ≡ list_all (is_among own.now) (keys (map seen rows.now)) }
 {
-    rows.iter().all(|entry| is_among(own, entry.key))
+    for entry in rows {
+        if !is_among(own, entry.key) {
+            return false;
+        }
+    }
+    true
 }
 
 /// Whether there is no row; if `may_be_own`, none but those with these keys.

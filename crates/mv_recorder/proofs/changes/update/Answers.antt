@@ -36,7 +36,7 @@ returns-in-Ok c =
     let rows = map seen c.as_slice-items.result.now in
     let found = ap (map seen) c.as_slice-items.ensures.value ∙ c.in_ok-found.ensures.rows in
     let asked = c.in_ok-end.ensures.preds ∙ ap (λ (ps : List Pred). ps ++ preds_up_to (update_checks tables t items env rows) db) c.in_ok-preds.ensures in
-    update_is tables t items c.args.update.now.conds.now env db c.in_ok-pred.pred rows c.check_update.new.preds c.in-Ok.writes c.is_any.result _ c.in_ok-changed.ensures c.is_any.ensures (sym c.in_default.is ∙ c.in_ok-end.ensures.fault) asked c.requires.sound.tables.keys
+    update_is tables t items c.args.update.now.conds.now env db c.in_ok-pred.pred rows c.check_update.new.preds c.in-Ok.writes c.is_any.result _ c.in_ok-changed-in-Ok.ensures c.is_any.ensures (sym c.in_default.is ∙ c.in_ok-end.ensures.fault) asked c.requires.sound.tables.keys
     c.in_ok-pred.ensures.asks found c.in-Ok.ensures
 
 pub returns : goal.returns
