@@ -229,9 +229,9 @@ fn add_text(
 
 /// Adds a number to a key. The first bit is changed, since a number below 0 has it set.
 fn add_number(key: &mut List<u8>, number: i64) -> Result<(), NoMemory> {
-    let [first, rest @ ..] = number.to_be_bytes();
-    key.push(first ^ 128)?;
-    key.append(&rest)
+    let bytes = number.to_be_bytes();
+    key.push(bytes[0] ^ 128)?;
+    key.append(&bytes[1..])
 }
 
 /// Returns the number that digits spell, perhaps after a `-`, or 0 if they don't spell one.
