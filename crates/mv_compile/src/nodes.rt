@@ -36,7 +36,7 @@ fn own_node(
     requires room { size statement.now < 2 ^ 16 }
     requires few { length slots.tables.now ≤ 64 }
     requires each { All IsTable slots.tables.now }
-    ensures { IfOk result (λ node. node ≡ own_node slots.tables.now slots.params slots.found (out-RStmt statement.now) holder loops.now (size statement.now)) }
+    ensures { IfOk result (λ node. node ≡ own_node slots.entry.tables.now slots.entry.params slots.entry.found (out-RStmt statement.now) holder loops.now (size statement.now)) }
 {
     let loops = loops.copy(alloc)?;
     let reads = reads(alloc, slots.params, statement)?;
@@ -76,7 +76,7 @@ pub(crate) fn add_nodes(
     requires room { length nodes.old + total_size (map size statements.now) < 2 ^ 16 }
     requires few { length slots.tables.now ≤ 64 }
     requires each { All IsTable slots.tables.now }
-    ensures nodes { OnOk result (nodes.new ≡ nodes.old ++ body_nodes slots.tables.now slots.params slots.found statements.now (length nodes.old + 1) holder loops.now) }
+    ensures nodes { OnOk result (nodes.new ≡ nodes.old ++ body_nodes slots.entry.tables.now slots.entry.params slots.entry.found statements.now (length nodes.old + 1) holder loops.now) }
     ensures count { OnOk result (length nodes.new ≡ length nodes.old + total_size (map size statements.now)) }
 {
     for statement in statements {
@@ -98,7 +98,7 @@ fn add_node(
     requires room { length nodes.old + size statement.now < 2 ^ 16 }
     requires few { length slots.tables.now ≤ 64 }
     requires each { All IsTable slots.tables.now }
-    ensures { OnOk result (nodes.new ≡ nodes.old ++ nodes_of slots.tables.now slots.params slots.found statement.now (length nodes.old + 1) holder loops.now) }
+    ensures { OnOk result (nodes.new ≡ nodes.old ++ nodes_of slots.entry.tables.now slots.entry.params slots.entry.found statement.now (length nodes.old + 1) holder loops.now) }
 {
     nodes.push(own_node(alloc, slots, statement, holder, loops)?)?;
     add_held(alloc, nodes, slots, statement, loops)
@@ -116,7 +116,7 @@ fn add_held(
     requires room { length nodes.old + size statement.now ≤ 2 ^ 16 }
     requires few { length slots.tables.now ≤ 64 }
     requires each { All IsTable slots.tables.now }
-    ensures { OnOk result (nodes.new ≡ nodes.old ++ nodes_inside slots.tables.now slots.params slots.found (out-RStmt statement.now) (length nodes.old) loops.now) }
+    ensures { OnOk result (nodes.new ≡ nodes.old ++ nodes_inside slots.entry.tables.now slots.entry.params slots.entry.found (out-RStmt statement.now) (length nodes.old) loops.now) }
 {
     match statement {
         RStmt::ForSelect { body, .. } => add_turns(alloc, nodes, slots, body.as_slice(), loops),
@@ -142,7 +142,7 @@ fn add_turns(
     requires room { length nodes.old + total_size (map size body.now) < 2 ^ 16 }
     requires few { length slots.tables.now ≤ 64 }
     requires each { All IsTable slots.tables.now }
-    ensures { OnOk result (nodes.new ≡ nodes.old ++ body_nodes slots.tables.now slots.params slots.found body.now (length nodes.old + 1) (Some (length nodes.old)) (loops.now ++ length nodes.old ∷ [])) }
+    ensures { OnOk result (nodes.new ≡ nodes.old ++ body_nodes slots.entry.tables.now slots.entry.params slots.entry.found body.now (length nodes.old + 1) (Some (length nodes.old)) (loops.now ++ length nodes.old ∷ [])) }
 {
     let number = nodes.len() as u16;
     let inside = with_loop(alloc, loops, number)?;
