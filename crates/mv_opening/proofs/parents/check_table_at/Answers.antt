@@ -15,4 +15,4 @@ pub returns-in-Some : goal.returns-in-Some
 returns-in-Some c =
     let there = rw c.as_slice.ensures at c.in-Some.ensures.lookup in
     let is = there.1 ∙ get_or_default c.args.opening.now c.args.table c.in-Some.rows.now [] there.3.0 in
-    rw (c.columns_of-columns.ensures, c.as_slice-2.ensures.items, is) at c.check_table.ensures
+    rw (c.columns_of-columns.ensures, c.as_slice-in-Some.ensures.items, is) at c.check_table.ensures
