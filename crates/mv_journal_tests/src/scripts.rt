@@ -75,7 +75,8 @@ COPY u <<
 ];
 
 /// Four procedures.
-const PROCEDURES: &[u8] = b"CREATE PROCEDURE p0(:a INT, :x INT) DECLARE :b = 0; DECLARE :c = 0; BEGIN % PRINT :b, :c; END;
+const PROCEDURES: &[u8] =
+    b"CREATE PROCEDURE p0(:a INT, :x INT) DECLARE :b = 0; DECLARE :c = 0; BEGIN % PRINT :b, :c; END;
 CREATE PROCEDURE p1(:a INT, :x INT) DECLARE :b = 0; DECLARE :c = 0; BEGIN % PRINT :b, :c; END;
 CREATE PROCEDURE p2(:a INT, :x INT) DECLARE :b = 0; DECLARE :c = 0; BEGIN % PRINT :b, :c; END;
 CREATE PROCEDURE p3(:a INT, :x INT) READ ONLY DECLARE :b = 0; DECLARE :c = 0; BEGIN { PRINT :b, :c; END;
