@@ -34,5 +34,6 @@ has_keys bytes script s = keyed bytes s.0 script s.2.grammar
 -- so the program of accepted bytes is consistent
 pub accepted_fits : (bytes : List ℕ) (program : Program) → Accepts bytes program → FitsText program.resolved
 accepted_fits bytes program a =
-    let script : Script = a.1.0 in
-    subst FitsText (sym (a.2.0 ∙ a.1.2.1)) (fits_text script a.1.2.0 (kept_limits bytes script a.1.1) (has_keys bytes script a.1.1))
+    let loaded = a.0 in
+    let script : Script = loaded.1.0 in
+    subst FitsText (sym (loaded.2.0 ∙ loaded.1.2.1)) (fits_text script loaded.1.2.0 (kept_limits bytes script loaded.1.1) (has_keys bytes script loaded.1.1))
