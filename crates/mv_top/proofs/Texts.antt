@@ -1,10 +1,12 @@
 -- What workers leave has the text of a run, and a text fixes its journal.
-use Rattle.std.proofs.Common.{◌≡◌, inl, inr, ◌<◌, ◌≤◌, ℕ, List, [], ◌∷◌, ◌++◌, Option, Some, None, Result, Ok, Err, All, refl, sym, ap, ◌∙◌, arith, length}
+use Rattle.std.proofs.Common.{◌≡◌, inl, inr, ◌<◌, ◌≤◌, ℕ, Bool, true, false, if◌then◌else◌, List, [], ◌∷◌, ◌++◌, Option, Some, None, Result, Ok, Err, All, refl, sym, ap, ◌∙◌, arith, length}
 use Rattle.std.specs.Prelude.{codes, slice_get}
 use Rattle.std.proofs.lemmas.List.Elements.{All-nil, All-push, All-map, All-weaker}
 use Rattle.mv_values.specs.declared.schema.TableInfo.{TableInfo}
 use Rattle.mv_values.specs.declared.calls.Call.{Call}
 use Rattle.mv_values.specs.declared.calls.End.{End}
+use Rattle.mv_values.specs.declared.calls.End.TheVariants.{MissingParent, HasChildren}
+use Rattle.mv_values.specs.References.{references, references_to}
 use Rattle.mv_values.specs.declared.calls.Options.{Options}
 use Rattle.mv_values.specs.declared.calls.Reply.{Reply}
 use Rattle.mv_values.specs.Tables.{key_columns, columns_at, rows_at, Tables}
@@ -18,10 +20,11 @@ use Rattle.mv_alone.specs.declared.state.Env.{Env}
 use Rattle.mv_alone.specs.declared.state.State.{State}
 use Rattle.mv_alone.specs.Outcome.{then_do}
 use Rattle.mv_alone.specs.Value.{value_of, values_of}
-use Rattle.mv_alone.specs.Rows.{tests_of, aggregate}
-use Rattle.mv_alone.specs.Changes.{new_row, put_row, keyed, updated, set_row}
+use Rattle.mv_alone.specs.Rows.{tests_of, aggregate, is_some_row}
+use Rattle.mv_alone.specs.Changes.{new_row, put_row, keyed, updated, set_row_by, without}
+use Rattle.mv_alone.specs.References.{has_parents, has_children, fit_in}
 use Rattle.mv_alone.specs.Line.{line_of}
-use Rattle.mv_alone.specs.Alone.{alone, matching_in, offset_of}
+use Rattle.mv_alone.specs.Alone.{alone, matching_in, offset_of, with_rows}
 use Rattle.mv_alone.specs.TableAfter.{begun, outcome, outcome_at, outcome_in, reply_in as reply_from}
 use Rattle.mv_record.specs.declared.record.Record.{Record}
 use Rattle.mv_recorded.specs.Doing.{itself, fixed_rows}
@@ -147,6 +150,15 @@ then_prints : {X : Type 0} (r : Result X End) (go : X → Result State End) (st 
 then_prints (Ok x) go st rs h = h x
 then_prints (Err e) go st rs h = tt
 
+-- a state after a check, which leaves the lines
+prints_if : (b : Bool) (e : End) (st next : State) (rs : List Record) → Prints st rs (Ok next) → Prints st rs (if b then Ok next else Err e)
+prints_if true e st next rs h = h
+prints_if false e st next rs h = tt
+
+prints_unless : (b : Bool) (e : End) (st next : State) (rs : List Record) → Prints st rs (Ok next) → Prints st rs (if b then Err e else Ok next)
+prints_unless true e st next rs h = tt
+prints_unless false e st next rs h = h
+
 prints_own : {Y : Type 0} (tables : List TableInfo) (y : RStmt-F Y) (st : State) (rs : List Record) → Prints st rs (itself tables y st)
 prints_own tables (Assign x e) st rs = then_prints (value_of e st.env []) _ st rs (λ v h. h)
 prints_own tables (Select cs xs t conds sorts offset) st rs = then_prints (tests_of (key_columns tables t) conds st.env) _ st rs (λ tests. then_prints (offset_of offset st.env) _ st rs (λ at h. h))
@@ -155,11 +167,14 @@ prints_own {Y} tables (ForSelect x once cs t conds sorts body) st rs = then_prin
 prints_own tables (ForRows x y body) st rs = λ h. h
 prints_own tables (Branch e ys ns) st rs = then_prints (value_of e st.env []) _ st rs (λ v h. h)
 prints_own tables (Insert t es) st rs =
-    then_prints (new_row (columns_at tables t) es st.env) _ st rs (λ row. then_prints (put_row (keyed (key_columns tables t) row) (rows_at st.tables t)) _ st rs (λ rows h. h))
+    then_prints (new_row (columns_at tables t) es st.env) _ st rs (λ row. then_prints (put_row (keyed (key_columns tables t) row) (rows_at st.tables t)) _ st rs
+    (λ rows. prints_if (has_parents (references tables t) (keyed (key_columns tables t) row) st.tables) MissingParent st (with_rows t rows true st) rs (λ h. h)))
 prints_own tables (Update t items conds) st rs =
     then_prints (tests_of (key_columns tables t) conds st.env) _ st rs (λ tests.
-    then_prints (updated (λ row. set_row (columns_at tables t) (key_columns tables t) st.env row items row) tests (rows_at st.tables t)) _ st rs (λ rows h. h))
-prints_own tables (Delete t conds) st rs = then_prints (tests_of (key_columns tables t) conds st.env) _ st rs (λ tests h. h)
+    then_prints (updated (λ row. set_row_by (fit_in tables t st.tables) (key_columns tables t) st.env row items row) tests (rows_at st.tables t)) _ st rs (λ rows h. h))
+prints_own tables (Delete t conds) st rs =
+    then_prints (tests_of (key_columns tables t) conds st.env) _ st rs (λ tests.
+    prints_unless (has_children (references_to tables t) t tests st.tables (matching_in t tests st)) HasChildren st (with_rows t (without tests (rows_at st.tables t)) (is_some_row (matching_in t tests st)) st) rs (λ h. h))
 prints_own tables (Print es) st rs = then_prints (values_of es st.env) _ st rs (λ vs h. All-push IsPrinted st.lines (line_of vs) h (vs, refl))
 prints_own tables (Rollback reason) st rs = tt
 

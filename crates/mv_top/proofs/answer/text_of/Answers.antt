@@ -11,7 +11,7 @@ use Rattle.mv_top.proofs.answer.text_of.Goals as goal
 pub print_text-requires : goal.print_text-requires
 print_text-requires g c =
     let accepted = subst (λ (k : Command). AcceptsScript k c.args.bytes.now c.args.program) c.in-Tpcc-default-true-default-default.is c.requires.accepted in
-    record { spelled = (accepted.1.0, accepted.1.1) }
+    record { spelled = (accepted.0.1.0, accepted.0.1.1) }
 
 pub returns-in-Replay-clause-only : goal.returns-in-Replay-clause-only
 returns-in-Replay-clause-only g c =
