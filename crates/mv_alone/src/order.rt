@@ -12,7 +12,7 @@ use crate::find::order_of;
 use mv_catalog::resolved::RSort;
 use mv_table::table::Stored;
 use mv_values::memory::NoMemory;
-use mv_values::value::{Value, compare_keys};
+use mv_values::value::Value;
 use std::alloc::Global;
 use std::cmp::Ordering;
 
@@ -37,7 +37,7 @@ fn compare<R: Stored>(sorts: &[RSort], a: &R, b: &R) -> Ordering
             return order;
         }
     }
-    compare_keys(a.key().as_slice(), b.key().as_slice())
+    a.key().order(b.key())
 }
 
 /// Borrows each of the rows.

@@ -18,22 +18,18 @@ use mv_record::record::Record;
 use mv_table::key_map::KeyMap;
 use mv_table::table::Tables;
 use mv_values::copied::Copied;
+use mv_values::key::key_after;
 use mv_values::list::List;
 use mv_values::memory::NoMemory;
 use mv_values::patch::Write;
-use mv_values::value::{Key, Row, Value, compare_keys};
+use mv_values::value::{Key, Row, compare_keys};
 use std::alloc::Global;
 
 /// Returns a key with its table in front.
 fn place_of(alloc: Global, table: u8, key: &Key) -> Result<Key, NoMemory>
     ensures { IfOk result (λ place. place ≡ Int (pos table) ∷ key.now) }
 {
-    let mut place = List::new(alloc);
-    place.push(Value::Int(table as i64))?;
-    for value in key.as_slice() {
-        place.push(value.copy(alloc)?)?;
-    }
-    Ok(place)
+    Ok(key_after(alloc, table as i64, key)?)
 }
 
 /// Returns the row under a key of a table, if there is one.

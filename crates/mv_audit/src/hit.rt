@@ -16,7 +16,7 @@ use mv_record::record::Record;
 use mv_values::list::List;
 use mv_values::patch::Write;
 use mv_values::pred::Pred;
-use mv_values::value::{Row, Value, compare_keys};
+use mv_values::value::{Row, Value};
 
 /// Whether two rows have the same value in a column. A column that a row lacks counts as 0.
 fn is_same_in(column: u8, a: &[Value], b: &[Value]) -> bool
@@ -80,7 +80,7 @@ fn sees_same(pred: &Pred, change: &Change) -> bool
 fn is_to(write: &Write, change: &Change) -> bool
     ensures { result ≡ is_on change.now.table change.now.key write.now }
 {
-    write.table == change.table && compare_keys(write.key.as_slice(), change.key.as_slice()).is_eq()
+    write.table == change.table && write.key.order(&change.key).is_eq()
 }
 
 /// Whether the record wrote the key of the change.

@@ -20,7 +20,7 @@ use mv_values::copied::Copied;
 use mv_values::list::List;
 use mv_values::memory::NoMemory;
 use mv_values::patch::Write;
-use mv_values::value::{Row, compare_keys};
+use mv_values::value::{Key, Row, compare_keys};
 use mv_view::view::{Refused, View};
 use std::alloc::Global;
 use std::cmp::Ordering;
@@ -35,7 +35,7 @@ fn order_to(change: &Change, write: &Write) -> Ordering
     if change.table > write.table {
         return Ordering::Greater;
     }
-    compare_keys(change.key.as_slice(), write.key.as_slice())
+    change.key.order(&write.key)
 }
 
 /// Returns the number of changes before the place of a write. Takes time logarithmic in their number.
@@ -62,10 +62,10 @@ fn is_there(changes: &List<Change>, at: usize, write: &Write) -> bool
 }
 
 /// Returns a change of nothing. It allocates no memory.
-fn no_change(alloc: Global) -> Change {
+fn no_change() -> Change {
     Change {
         table: 0,
-        key: List::new(alloc),
+        key: Key::new(),
         before: None,
         after: None,
     }
@@ -120,7 +120,7 @@ fn add_write<V: View>(
     }
     let at = place_in(changes, write);
     if is_there(changes, at, write) {
-        let was = changes.replace(at, no_change(alloc));
+        let was = changes.replace(at, no_change());
         let next = next_change(alloc, was, write)?;
         changes.set(at, next);
         return Ok(());

@@ -6,7 +6,6 @@ use Rattle.std.specs.Prelude.{All, IsPermutation, slice_index_or, cond}
 use Rattle.std.specs.Option.{is_some}
 use Rattle.std.specs.Map.{lookup, keys_of}
 use Rattle.std.specs.BTreeMap.{is_at, insert_entry}
-use Rattle.std.specs.Cmp.Lexicographic.{slice_cmp}
 use Rattle.std.specs.List.Sorted.{IsStrictlySortedBy}
 use Rattle.std.specs.Ordering.{ordering_reverse, match_ordering, is_eq}
 use Rattle.std.specs.declared.cmp.Ordering.{Ordering}
@@ -17,27 +16,15 @@ use Rattle.std.proofs.lemmas.List.Kept.{AllPairs-cons}
 use Rattle.std.proofs.lemmas.List.Sorted.{IsPermutation-refl, IsPermutation-cons, IsPermutation-sym, IsPermutation-trans, IsPermutation-to_front, IsPermutation-middle}
 use Rattle.std.proofs.lemmas.Map.Views.{All-after_first}
 use Rattle.std.specs.Cmp.{Equal-is}
-use Rattle.mv_values.specs.contracts.value.ValueOrd.TheImpl.{ghosts}
 use Rattle.mv_values.specs.declared.value.Value.{Value}
-use Rattle.mv_values.specs.declared.value.Value.TheVariants.{Int, Text}
 use Rattle.mv_values.specs.declared.rows.Keyed.{Keyed}
 use Rattle.mv_values.specs.Keys.{IsRising, IsBelow, stored}
-use Rattle.mv_values.specs.Order.{value_order, key_order}
+use Rattle.mv_values.specs.Order.{key_order}
 use Rattle.mv_values.proofs.KeyOrder.{key_order_total, exact_keys}
 use Rattle.mv_csvio.specs.Joining.{HasKey}
 
 abbrev Entry : Type 0
 Entry = List Value × List Value
-
--- the order that values are compared by is their order
-values_alike : (x y : Value) → ghosts.cmp x y ≡ value_order x y
-values_alike (Int m) (Int n) = refl
-values_alike (Int m) (Text t) = refl
-values_alike (Text s) (Int n) = refl
-values_alike (Text s) (Text t) = refl
-
-pub keys_alike : slice_cmp ghosts.cmp ≡ key_order
-keys_alike = λ i. slice_cmp (λ x y. values_alike x y i)
 
 -- a key that is found stands among the rows
 key_later : (item : Keyed) (rows : List Keyed) (key : List Value) → HasKey rows key → HasKey (item ∷ rows) key
@@ -81,23 +68,17 @@ pub enters : (item : Keyed) (es : List Entry) → is_some (lookup (is_at (key_or
     → IsPermutation (stored es ++ item ∷ []) (stored (insert_entry key_order es item.key item.row))
 enters item es h = IsPermutation-trans _ _ _ (IsPermutation-to_front (stored es) item) (enter item.key item.row es h)
 
--- the order that a map compares its keys by
-abbrev pub compared : List Value → List Value → Ordering
-compared = slice_cmp ghosts.cmp
+pub stands : (rows : List Keyed) (key : List Value) (es : List Entry) → stored es ≡ rows → is_some (lookup (is_at (key_order key)) es) ≡ true → HasKey rows key
+stands rows key es is h = subst (λ rs. HasKey rs key) is (found key es h)
 
-pub stands : (rows : List Keyed) (key : List Value) (es : List Entry) → stored es ≡ rows → is_some (lookup (is_at (compared key)) es) ≡ true → HasKey rows key
-stands rows key es is h = subst (λ rs. HasKey rs key) is (found key es (subst (λ (cmp : List Value → List Value → Ordering). is_some (lookup (is_at (cmp key)) es) ≡ true) keys_alike h))
+pub sorted_rises : (rows : List Keyed) (es : List Entry) → stored es ≡ rows → IsStrictlySortedBy key_order (keys_of es) → IsRising rows
+sorted_rises rows es is h = subst IsRising is (rises es h)
 
-pub sorted_rises : (rows : List Keyed) (es : List Entry) → stored es ≡ rows → IsStrictlySortedBy compared (keys_of es) → IsRising rows
-sorted_rises rows es is h = subst IsRising is (rises es (subst (λ (cmp : List Value → List Value → Ordering). IsStrictlySortedBy cmp (keys_of es)) keys_alike h))
-
-pub entered : (rows : List Keyed) (item : Keyed) (es fs : List Entry) → stored es ≡ rows → is_some (lookup (is_at (compared item.key)) es) ≡ false → IsStrictlySortedBy compared (keys_of fs)
-    → fs ≡ insert_entry compared es item.key item.row → IsRising (stored fs) × IsPermutation (rows ++ item ∷ []) (stored fs)
+pub entered : (rows : List Keyed) (item : Keyed) (es fs : List Entry) → stored es ≡ rows → is_some (lookup (is_at (key_order item.key)) es) ≡ false → IsStrictlySortedBy key_order (keys_of fs)
+    → fs ≡ insert_entry key_order es item.key item.row → IsRising (stored fs) × IsPermutation (rows ++ item ∷ []) (stored fs)
 entered rows item es fs is none sorted made = (
   sorted_rises (stored fs) fs refl sorted,
-  subst (λ rs. IsPermutation (rs ++ item ∷ []) (stored fs)) is
-      (subst (λ gs. IsPermutation (stored es ++ item ∷ []) (stored gs)) (sym (made ∙ ap (λ (cmp : List Value → List Value → Ordering). insert_entry cmp es item.key item.row) keys_alike))
-      (enters item es (subst (λ (cmp : List Value → List Value → Ordering). is_some (lookup (is_at (cmp item.key)) es) ≡ false) keys_alike none))),
+  subst (λ rs. IsPermutation (rs ++ item ∷ []) (stored fs)) is (subst (λ gs. IsPermutation (stored es ++ item ∷ []) (stored gs)) (sym made) (enters item es none)),
 )
 
 -- the rows in front of one are below it
@@ -122,9 +103,9 @@ enter_last key row (e ∷ es) h =
     last_by key row e es (key_order key e.0) (key_order_total.antisymm key e.0 ∙ ap ordering_reverse below) (enter_last key row es (All-tail (IsBelow key) (record { key = e.0; row = e.1 }) (stored es) h))
 
 -- a row of rising rows enters behind those in front of it
-pub enters_last : (rows behind : List Keyed) (item : Keyed) (es fs : List Entry) → IsRising rows → stored es ++ item ∷ behind ≡ rows → fs ≡ insert_entry compared es item.key item.row
+pub enters_last : (rows behind : List Keyed) (item : Keyed) (es fs : List Entry) → IsRising rows → stored es ++ item ∷ behind ≡ rows → fs ≡ insert_entry key_order es item.key item.row
     → stored fs ++ behind ≡ rows
 enters_last rows behind item es fs rising is made =
     let low = front_below rows (stored es) behind item rising is in
-    let made2 : fs ≡ es ++ (item.key, item.row) ∷ [] = made ∙ (ap (λ (cmp : List Value → List Value → Ordering). insert_entry cmp es item.key item.row) keys_alike ∙ enter_last item.key item.row es low) in
+    let made2 : fs ≡ es ++ (item.key, item.row) ∷ [] = made ∙ enter_last item.key item.row es low in
     ap (λ l. l ++ behind) (ap stored made2 ∙ map-append (λ (e : Entry). record { key = e.0; row = e.1 }) es ((item.key, item.row) ∷ [])) ∙ (append_assoc (stored es) (item ∷ []) behind ∙ is)

@@ -29,7 +29,7 @@ use mv_values::memory::NoMemory;
 use mv_values::pred::Pred;
 use mv_values::rows::{Keyed, Rows};
 use mv_values::schema::TableInfo;
-use mv_values::value::{Key, Row, compare_keys};
+use mv_values::value::{Key, Row};
 use mv_view::key_set::KeySet;
 use mv_view::view::{Refused, View};
 use std::alloc::Global;
@@ -143,8 +143,8 @@ fn is_met_before(direction: Direction, key: &Key, other: Option<&Keyed>) -> bool
         return true;
     };
     match direction {
-        Direction::Forward => compare_keys(key.as_slice(), item.key.as_slice()).is_lt(),
-        Direction::Backward => compare_keys(item.key.as_slice(), key.as_slice()).is_lt(),
+        Direction::Forward => key.order(&item.key).is_lt(),
+        Direction::Backward => item.key.order(key).is_lt(),
     }
 }
 

@@ -1,7 +1,6 @@
 //! Which shard has a row.
 
 use mv_shards::parts::shard_of;
-use mv_values::list::List;
 use mv_values::memory::NoMemory;
 use mv_values::txt::Txt;
 use mv_values::value::{Key, Value};
@@ -10,13 +9,13 @@ use std::test::*;
 
 /// Returns a key. None stands for a text.
 fn key_with(alloc: Global, parts: &[Option<i64>]) -> Result<Key, NoMemory> {
-    let mut key = List::new(alloc);
+    let mut key = Key::new();
     for part in parts {
         let value = match part {
             Some(number) => Value::Int(*number),
             None => Value::Text(Txt::new(alloc)),
         };
-        key.push(value)?;
+        key.push(alloc, value)?;
     }
     Ok(key)
 }

@@ -6,7 +6,7 @@ use mv_values::memory::NoMemory;
 use mv_values::patch::Write;
 use mv_values::pred::Pred;
 use mv_values::rows::{Database, Keyed};
-use mv_values::value::{Key, Row, Value, are_same};
+use mv_values::value::{Key, Row, Value};
 use std::alloc::Global;
 
 /// The tables after some commits, and the records of each call after it has run alone on them.
@@ -26,7 +26,7 @@ pub(crate) fn records_at(points: &[Point], commits: u32, call: u32) -> Option<&[
 /// Returns the row under a key.
 fn row_under<'r>(rows: &'r [Keyed], key: &Key) -> Option<&'r Row> {
     for item in rows {
-        if are_same(item.key.as_slice(), key.as_slice()) {
+        if item.key == *key {
             return Some(&item.row);
         }
     }
@@ -57,7 +57,7 @@ fn are_changed(pred: &Pred, before: Option<&Row>, after: Option<&Row>) -> bool {
 /// Whether one of these writes is to the key.
 fn has_written(writes: &[Write], table: u8, key: &Key) -> bool {
     for write in writes {
-        if write.table == table && are_same(write.key.as_slice(), key.as_slice()) {
+        if write.table == table && write.key == *key {
             return true;
         }
     }

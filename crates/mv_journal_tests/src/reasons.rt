@@ -9,7 +9,6 @@ use crate::kept::{
 use mv_record::record::{Read, Record};
 use mv_values::list::List;
 use mv_values::memory::NoMemory;
-use mv_values::value::compare_keys;
 use mv_why::cause::{Cause, Reason};
 use std::alloc::Global;
 use std::cmp::Ordering;
@@ -36,7 +35,7 @@ fn is_first_read(
 /// Compares the places of two rows, by table and then by key.
 fn order(a: &Place<'_>, b: &Place<'_>) -> Ordering {
     match a.table.cmp(&b.table) {
-        Ordering::Equal => compare_keys(a.key.as_slice(), b.key.as_slice()),
+        Ordering::Equal => a.key.order(&b.key),
         order => order,
     }
 }

@@ -4,14 +4,14 @@ ghost use Rattle.std.specs.Prelude.{◌≡◌, ◌↔◌, ◌==◌, ◌<◌, IsT
 ghost use Rattle.std.specs.List.{list_any};
 ghost use Rattle.std.specs.Option.{option_copied};
 ghost use Rattle.mv_values.specs.Columns.{column_of, columns_of};
-ghost use Rattle.mv_values.specs.Preds.{matches, agrees, admits, matched, sees, names};
+ghost use Rattle.mv_values.specs.Preds.{matches, admits, matched, sees, names};
 ghost use Rattle.mv_log.specs.Heads.{pred_of};
 ghost use Rattle.mv_log.specs.Fitting.{AskedFit, AskedFits, marks_of};
 
 use crate::head::Asked;
 use crate::lists::Lists;
-use mv_values::pred::{Pred, Test, meets};
-use mv_values::value::{Row, Value};
+use mv_values::pred::{Pred, Test, agrees, meets};
+use mv_values::value::{Key, Row, Value};
 use std::marker::Model;
 
 /// A predicate that is lent. Contracts see the predicate.
@@ -28,19 +28,6 @@ impl<'a> Model for PredRef<'a> {
     ghost Value = { Pred };
 
     ghost view = { λ p. record { table = p.table; tests = p.tests.now; columns = p.columns.now } };
-}
-
-/// Whether a key passes the test. Every key passes a test of a column outside the key.
-fn agrees(test: &Test, key: &[Value]) -> bool
-    ensures { result ≡ agrees key.now test.now }
-{
-    match test.key_place {
-        None => true,
-        Some(place) => match key.get(place as usize) {
-            Some(value) => test.allows(value),
-            None => test.allows(&Value::Int(0)),
-        },
-    }
 }
 
 /// Whether two rows have the same value in a column. A column that a row lacks counts as 0.
@@ -119,10 +106,9 @@ impl<'a> PredRef<'a> {
     }
 
     /// Whether the key passes every test of a key column. The cost is linear in the number of tests.
-    pub fn admits(&self, key: &Row) -> bool
+    pub fn admits(&self, key: &Key) -> bool
         ensures { result ≡ admits self.now key.now }
     {
-        let key = key.as_slice();
         self.tests.iter().all(|test| agrees(test, key))
     }
 

@@ -57,7 +57,7 @@ fn row_at(rows: &Rows, place: Result<usize, usize>) -> Option<&Row>
 pub fn find_row<'a>(rows: &'a Rows, key: &Key) -> Option<&'a Row>
     ensures { option_copied result ≡ row_of rows.now key.now }
 {
-    row_at(rows, rows.place_of(key.as_slice()))
+    row_at(rows, rows.place_of(key))
 }
 
 /// Stores or removes a row under a key whose place is known.
@@ -96,7 +96,7 @@ pub fn put_row(alloc: Global, rows: &mut Rows, key: &Key, row: Option<Row>) -> R
     ensures ok { OnOk result (rows.new ≡ placed key.now row rows.old) }
     ensures err { OnErr result (rows.new ≡ rows.old) }
 {
-    let place = rows.place_of(key.as_slice());
+    let place = rows.place_of(key);
     put_at(alloc, rows, key, place, row)
 }
 
@@ -105,7 +105,7 @@ fn patch_rows(alloc: Global, rows: &mut Rows, key: &Key, patch: &Patch) -> Resul
     ensures ok { OnOk result (rows.new ≡ patched_rows key.now patch.now rows.old) }
     ensures err { OnErr result (rows.new ≡ rows.old) }
 {
-    let place = rows.place_of(key.as_slice());
+    let place = rows.place_of(key);
     let row = patch_row(alloc, patch, row_at(rows, place))?;
     put_at(alloc, rows, key, place, row)
 }

@@ -4,3 +4,4 @@ pub mod Stored
 pub mod Reading
 pub mod Sights
 pub mod Ledgers
+pub mod Firsts

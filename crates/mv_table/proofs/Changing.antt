@@ -4,8 +4,6 @@ use Rattle.std.specs.Option.{OnSome}
 use Rattle.std.specs.Ordering.{is_eq}
 use Rattle.std.specs.Map.{set_value}
 use Rattle.std.specs.BTreeMap.{is_at}
-use Rattle.std.specs.Cmp.Lexicographic.{slice_cmp}
-use Rattle.mv_values.specs.contracts.value.ValueOrd.TheImpl.{cmp-value}
 use Rattle.mv_values.specs.declared.value.Value.{Value}
 use Rattle.mv_values.specs.Order.{key_order}
 use Rattle.mv_table.specs.Entries.{item_of, KeysRise}
@@ -17,6 +15,6 @@ on_some None P f = tt
 on_some (Some x) P f = f x refl
 
 module _ {T : Type 0} where
-  pub lent_item : (key : List Value) (w was : T) (old new : List (List Value × T)) → KeysRise old → item_of old key ≡ Some was → new ≡ set_value (is_at (slice_cmp cmp-value.it key)) old w
+  pub lent_item : (key : List Value) (w was : T) (old new : List (List Value × T)) → KeysRise old → item_of old key ≡ Some was → new ≡ set_value (is_at (key_order key)) old w
       → ((other : List Value) → item_of new other ≡ cond (is_eq (key_order key other)) (Some w) (item_of old other)) → KeysRise new → HasItem key w old new
   lent_item key w was old new rising there is at more = record { are = is ∙ value_set key w was old rising there; at = at; rising = more }

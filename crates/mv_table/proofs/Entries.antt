@@ -1,12 +1,8 @@
 -- What a map's look-ups, insertions and removals are of its entries.
 use Rattle.std.proofs.Common.{◌≡◌, List, [], ◌∷◌, Bool, cond, Option, None, Some, All, refl, sym, ap, ◌∙◌, arith}
-use mathlib.Core.Path.{fun_ext, subst}
-use Rattle.std.specs.Cmp.Lexicographic.{slice_cmp}
 use Rattle.std.proofs.lemmas.List.Elements.{All-nil, All-cons}
 use Rattle.std.proofs.lemmas.List.Kept.{AllPairs-cons}
-use Rattle.mv_values.specs.contracts.value.ValueOrd.TheImpl.{cmp-value}
-use Rattle.mv_values.specs.Order.{value_order, key_order}
-use Rattle.mv_values.specs.declared.value.Value.TheVariants.{Int, Text}
+use Rattle.mv_values.specs.Order.{key_order}
 use Rattle.std.specs.Prelude.{IfSome}
 use Rattle.std.specs.Ordering.{is_eq, ordering_reverse}
 use Rattle.std.specs.Map.{lookup, remove_entry, keys_of}
@@ -22,37 +18,27 @@ use Rattle.mv_values.specs.declared.value.Value.{Value}
 use Rattle.mv_values.proofs.KeyOrder.{key_order_total, exact_keys}
 use Rattle.mv_table.specs.Entries.{item_of, with_item, KeysRise}
 
-values_alike : (a b : Value) → value_order a b ≡ cmp-value.it a b
-values_alike (Int m) (Int n) = refl
-values_alike (Int m) (Text t) = refl
-values_alike (Text s) (Int n) = refl
-values_alike (Text s) (Text t) = refl
-
--- keys are ordered as lists of values are
-pub keys_alike : key_order ≡ slice_cmp cmp-value.it
-keys_alike = ap (λ order. slice_cmp order) (fun_ext (λ a. fun_ext (λ b. values_alike a b)))
-
 reversed : (a b : List Value) → key_order a b ≡ ordering_reverse (key_order b a)
 reversed a b = key_order_total.antisymm a b
 
 -- a key that ties with another is the same
-pub tied_keys : {A : Type 0} (k : A → List Value) (key : List Value) (found : Option A) → IfSome found (λ e. slice_cmp cmp-value.it key (k e) ≡ Equal) → IfSome found (λ e. k e ≡ key)
+pub tied_keys : {A : Type 0} (k : A → List Value) (key : List Value) (found : Option A) → IfSome found (λ e. key_order key (k e) ≡ Equal) → IfSome found (λ e. k e ≡ key)
 tied_keys k key None same = tt
-tied_keys k key (Some e) same = sym (exact_keys key (k e) (subst (λ (order : List Value → List Value → Ordering). order key (k e) ≡ Equal) (sym keys_alike) same))
+tied_keys k key (Some e) same = sym (exact_keys key (k e) same)
 
 module _ {T : Type 0} where
-  looked_up : (key : List Value) (es : List (List Value × T)) → lookup (is_at (key_order key)) es ≡ item_of es key
-  looked_up key [] = refl
-  looked_up key (e ∷ es) = by (key_order key e.0) refl (looked_up key es)
+  pub entries_looked_up : (key : List Value) (es : List (List Value × T)) → lookup (is_at (key_order key)) es ≡ item_of es key
+  entries_looked_up key [] = refl
+  entries_looked_up key (e ∷ es) = by (key_order key e.0) refl (entries_looked_up key es)
     where
       by : (o : Ordering) → key_order key e.0 ≡ o → lookup (is_at (key_order key)) es ≡ item_of es key → lookup (is_at (key_order key)) (e ∷ es) ≡ item_of (e ∷ es) key
       by Less h more = rw (reversed e.0 key, h) more
       by Equal h more = rw (reversed e.0 key, h) refl
       by Greater h more = rw (reversed e.0 key, h) more
 
-  inserted : (key : List Value) (item : T) (es : List (List Value × T)) → insert_entry key_order es key item ≡ with_item key (Some item) es
-  inserted key item [] = refl
-  inserted key item (e ∷ es) = by (key_order key e.0) refl (inserted key item es)
+  pub entries_inserted : (key : List Value) (item : T) (es : List (List Value × T)) → insert_entry key_order es key item ≡ with_item key (Some item) es
+  entries_inserted key item [] = refl
+  entries_inserted key item (e ∷ es) = by (key_order key e.0) refl (entries_inserted key item es)
     where
       by : (o : Ordering) → key_order key e.0 ≡ o → insert_entry key_order es key item ≡ with_item key (Some item) es → insert_entry key_order (e ∷ es) key item ≡ with_item key (Some item) (e ∷ es)
       by Less h more = rw (reversed e.0 key, h) refl
@@ -63,10 +49,10 @@ module _ {T : Type 0} where
   below key e [] h all = refl
   below key e (f ∷ es) h all = rw (key_order_total.trans key e.0 f.0 h all.0) (ap (λ l. f ∷ l) (below key e es h all.1))
 
-  removed : (key : List Value) (es : List (List Value × T)) → IsStrictlySortedBy key_order (keys_of es) → remove_entry (is_at (key_order key)) es ≡ with_item key None es
+  pub entries_removed : (key : List Value) (es : List (List Value × T)) → IsStrictlySortedBy key_order (keys_of es) → remove_entry (is_at (key_order key)) es ≡ with_item key None es
   unfolding IsStrictlySortedBy
-  removed key [] sorted = refl
-  removed key (e ∷ es) sorted = by (key_order key e.0) refl (removed key es sorted.1)
+  entries_removed key [] sorted = refl
+  entries_removed key (e ∷ es) sorted = by (key_order key e.0) refl (entries_removed key es sorted.1)
     where
       by : (o : Ordering) → key_order key e.0 ≡ o → remove_entry (is_at (key_order key)) es ≡ with_item key None es → remove_entry (is_at (key_order key)) (e ∷ es) ≡ with_item key None (e ∷ es)
       by Less h more = rw (reversed e.0 key, h) (ap (λ l. e ∷ l) (below key e es h sorted.0))
@@ -77,40 +63,20 @@ module _ {T : Type 0} where
   all_later e [] h = All-nil (λ (b : List Value × T). key_order e.0 b.0 ≡ Less)
   all_later e (f ∷ es) h = All-cons (λ (b : List Value × T). key_order e.0 b.0 ≡ Less) f es h.0 (all_later e es h.1)
 
-  rising : (es : List (List Value × T)) → IsStrictlySortedBy key_order (keys_of es) → KeysRise es
+  pub entries_rise : (es : List (List Value × T)) → IsStrictlySortedBy key_order (keys_of es) → KeysRise es
   unfolding IsStrictlySortedBy
-  rising [] h = λ i j d lt within. absurd (omega (arith, within))
-  rising (e ∷ es) h = AllPairs-cons (λ (a b : List Value × T). key_order a.0 b.0 ≡ Less) e es (all_later e es h.0) (rising es h.1)
-
-  -- the same in the order that a map of keys has
-
-  pub entries_looked_up : (key : List Value) (es : List (List Value × T)) → lookup (is_at (slice_cmp cmp-value.it key)) es ≡ item_of es key
-  entries_looked_up key es = subst (λ order. lookup (is_at (order key)) es ≡ item_of es key) keys_alike (looked_up key es)
-
-  pub entries_inserted : (key : List Value) (item : T) (es : List (List Value × T)) → insert_entry (slice_cmp cmp-value.it) es key item ≡ with_item key (Some item) es
-  entries_inserted key item es = subst (λ order. insert_entry order es key item ≡ with_item key (Some item) es) keys_alike (inserted key item es)
-
-  pub entries_removed : (key : List Value) (es : List (List Value × T)) → IsStrictlySortedBy (slice_cmp cmp-value.it) (keys_of es) → remove_entry (is_at (slice_cmp cmp-value.it key)) es ≡ with_item key None es
-  entries_removed key es = subst (λ order. IsStrictlySortedBy order (keys_of es) → remove_entry (is_at (order key)) es ≡ with_item key None es) keys_alike (removed key es)
-
-  pub entries_rise : (es : List (List Value × T)) → IsStrictlySortedBy (slice_cmp cmp-value.it) (keys_of es) → KeysRise es
-  entries_rise es = subst (λ order. IsStrictlySortedBy order (keys_of es) → KeysRise es) keys_alike (rising es)
+  entries_rise [] h = λ i j d lt within. absurd (omega (arith, within))
+  entries_rise (e ∷ es) h = AllPairs-cons (λ (a b : List Value × T). key_order a.0 b.0 ≡ Less) e es (all_later e es h.0) (entries_rise es h.1)
 
   -- what an update of one key leaves under each
-  pub entries_updated : (key other : List Value) (item : Option T) (es new : List (List Value × T)) → lookup (is_at (slice_cmp cmp-value.it other)) new ≡ cond (is_at (slice_cmp cmp-value.it key) other) item (lookup (is_at (slice_cmp cmp-value.it other)) es)
+  pub entries_updated : (key other : List Value) (item : Option T) (es new : List (List Value × T)) → lookup (is_at (key_order other)) new ≡ cond (is_at (key_order key) other) item (lookup (is_at (key_order other)) es)
       → item_of new other ≡ cond (is_eq (key_order key other)) item (item_of es other)
-  entries_updated key other item es new h =
-      sym (entries_looked_up other new)
-      ∙ (h ∙ (ap (λ (b : Bool). cond b item (lookup (is_at (slice_cmp cmp-value.it other)) es)) (ap (λ (order : List Value → List Value → Ordering). is_eq (order key other)) (sym keys_alike))
-      ∙ ap (cond (is_eq (key_order key other)) item) (entries_looked_up other es)))
+  entries_updated key other item es new h = sym (entries_looked_up other new) ∙ (h ∙ ap (cond (is_eq (key_order key other)) item) (entries_looked_up other es))
 
   -- what a map gives between two keys, and from a key on
 
-  pub entries_between_keys : (low high : List Value) (es : List (List Value × T)) → entries_between (slice_cmp cmp-value.it) (Included low) (Excluded high) es ≡ filter (λ e. is_within (record { low = low; high = Some high }) e.0) es
-  entries_between_keys low high es = subst (λ (order : List Value → List Value → Ordering). entries_between order (Included low) (Excluded high) es ≡ filter (λ e. is_within (record { low = low; high = Some high }) e.0) es) keys_alike refl
+  pub entries_between_keys : (low high : List Value) (es : List (List Value × T)) → entries_between key_order (Included low) (Excluded high) es ≡ filter (λ e. is_within (record { low = low; high = Some high }) e.0) es
+  entries_between_keys low high es = refl
 
-  from_alone : (low : List Value) (es : List (List Value × T)) → entries_between key_order (Included low) Unbounded es ≡ filter (λ e. is_within (record { low = low; high = None }) e.0) es
-  from_alone low es = refl
-
-  pub entries_from_key : (low : List Value) (es : List (List Value × T)) → entries_between (slice_cmp cmp-value.it) (Included low) Unbounded es ≡ filter (λ e. is_within (record { low = low; high = None }) e.0) es
-  entries_from_key low es = subst (λ (order : List Value → List Value → Ordering). entries_between order (Included low) Unbounded es ≡ filter (λ e. is_within (record { low = low; high = None }) e.0) es) keys_alike (from_alone low es)
+  pub entries_from_key : (low : List Value) (es : List (List Value × T)) → entries_between key_order (Included low) Unbounded es ≡ filter (λ e. is_within (record { low = low; high = None }) e.0) es
+  entries_from_key low es = refl

@@ -6,11 +6,9 @@ use Rattle.std.specs.List.{filter}
 use Rattle.std.specs.Ordering.{is_eq, ordering_reverse}
 use Rattle.std.specs.Map.{set_value}
 use Rattle.std.specs.BTreeMap.{is_at}
-use Rattle.std.specs.Cmp.Lexicographic.{slice_cmp}
 use Rattle.std.specs.declared.cmp.Ordering.{Ordering}
 use Rattle.std.specs.declared.cmp.Ordering.TheVariants.{Less, Equal, Greater}
 use Rattle.std.proofs.lemmas.List.{take_more, get_or-take, length-take, get_or_default}
-use Rattle.mv_values.specs.contracts.value.ValueOrd.TheImpl.{cmp-value}
 use Rattle.mv_values.specs.declared.value.Value.{Value}
 use Rattle.mv_values.specs.declared.rows.Keyed.{Keyed}
 use Rattle.mv_values.specs.Keys.{IsRising, IsBelow, stored}
@@ -18,7 +16,6 @@ use Rattle.mv_values.specs.Order.{key_order}
 use Rattle.mv_values.specs.Patching.{row_of, placed, standing}
 use Rattle.mv_values.proofs.KeyOrder.{key_order_total, exact_keys}
 use Rattle.mv_table.specs.Entries.{item_of, with_item, KeysRise}
-use Rattle.mv_table.proofs.Entries.{keys_alike}
 
 abbrev pub Pair : Type 0
 Pair = List Value × List Value
@@ -123,18 +120,15 @@ module _ {T : Type 0} where
       let rest : item_of xs key ≡ Some was = rw above at g in
       missing key was xs x (rising_later e (x ∷ xs) rising) above rest
 
-  set_there : (key : List Value) (item was : T) (es : List (List Value × T)) → KeysRise es → item_of es key ≡ Some was → set_value (is_at (key_order key)) es item ≡ with_item key (Some item) es
-  set_there key item was [] rising h = cc
-  set_there key item was (e ∷ es) rising h = by (key_order e.0 key) refl h (set_there key item was es (rising_later e es rising))
+  pub value_set : (key : List Value) (item was : T) (es : List (List Value × T)) → KeysRise es → item_of es key ≡ Some was → set_value (is_at (key_order key)) es item ≡ with_item key (Some item) es
+  value_set key item was [] rising h = cc
+  value_set key item was (e ∷ es) rising h = by (key_order e.0 key) refl h (value_set key item was es (rising_later e es rising))
     where
       by : (o : Ordering) → key_order e.0 key ≡ o → cond (is_eq o) (Some e.1) (item_of es key) ≡ Some was → (item_of es key ≡ Some was → set_value (is_at (key_order key)) es item ≡ with_item key (Some item) es)
           → set_value (is_at (key_order key)) (e ∷ es) item ≡ with_item key (Some item) (e ∷ es)
       by Less f g more = rw (key_order_total.antisymm key e.0, f) (ap (λ l. e ∷ l) (more g))
       by Equal f g more = rw (key_order_total.antisymm key e.0, f) (ap (λ (k : List Value). (k, item) ∷ es) (exact_keys e.0 key f))
       by Greater f g more = absurd (missing key was es e rising f g)
-
-  pub value_set : (key : List Value) (item was : T) (es : List (List Value × T)) → KeysRise es → item_of es key ≡ Some was → set_value (is_at (slice_cmp cmp-value.it key)) es item ≡ with_item key (Some item) es
-  value_set key item was es rising h = subst (λ (order : List Value → List Value → Ordering). set_value (is_at (order key)) es item ≡ with_item key (Some item) es) keys_alike (set_there key item was es rising h)
 
 -- Rows one after another
 

@@ -18,13 +18,14 @@ ghost use Rattle.mv_table.specs.Scans.{NeverFallsAt, RisesAt};
 ghost use Rattle.mv_table.specs.Spans.{is_past, is_within, IsForward, Admits, CoversAdmitted, FindsAll, Agrees, bounds, HoldsAt, is_place, is_bounded, are_fixed_before, AdmitsOnly};
 
 use mv_values::copied::Copied;
+use mv_values::key::key_from;
 use mv_values::list::List;
 use mv_values::memory::NoMemory;
 use mv_values::op::Op;
 use mv_values::pred::Test;
 use mv_values::rows::Keyed;
 use mv_values::txt::Txt;
-use mv_values::value::{Key, Value, compare_keys};
+use mv_values::value::{Key, Value};
 use std::alloc::Global;
 
 /// The keys from `low` on and below `high`. Without `high` the span has no end.
@@ -120,10 +121,10 @@ pub fn whole_key(alloc: Global, tests: &[Test], len: usize) -> Result<Option<Key
     if !is_fixed_before(tests, len) {
         return Ok(None);
     }
-    let mut key = List::with_room(alloc, len)?;
+    let mut key = Key::new();
     for place in 0..len {
         match test_at(tests, place, Side::Both) {
-            Some(test) => key.push(test.value.copy(alloc)?)?,
+            Some(test) => key.push(alloc, test.value.copy(alloc)?)?,
             None => return Ok(None),
         }
     }
@@ -170,23 +171,12 @@ fn end_of(alloc: Global, test: &Test) -> Result<Value, NoMemory>
     }
 }
 
-/// Copies these values.
-fn copies(alloc: Global, values: &[Value]) -> Result<Key, NoMemory>
-    ensures { IfOk result (λ key. key ≡ values.now) }
-{
-    let mut key = List::new(alloc);
-    for value in values {
-        key.push(value.copy(alloc)?)?;
-    }
-    Ok(key)
-}
-
 /// Copies these values, and adds one more at the end.
 fn key_with(alloc: Global, front: &[Value], last: Value) -> Result<Key, NoMemory>
     ensures { IfOk result (λ key. key ≡ front.now ++ last ∷ []) }
 {
-    let mut key = copies(alloc, front)?;
-    key.push(last)?;
+    let mut key = key_from(alloc, front)?;
+    key.push(alloc, last)?;
     Ok(key)
 }
 
@@ -252,12 +242,11 @@ fn low_end(alloc: Global, tests: &[Test], front: List<Value>) -> Result<Key, NoM
     ensures { IfOk result (λ low. (key : List Value) → Admits tests.now key → Agrees key front → is_le (key_order low key) ≡ true) }
 {
     match least_at(alloc, tests, front.len())? {
-        None => Ok(without_last_zeros(front)),
-        Some(least) => {
-            let mut low = front;
-            low.push(least)?;
-            Ok(low)
+        None => {
+            let front = without_last_zeros(front);
+            Ok(key_from(alloc, front.as_slice())?)
         }
+        Some(least) => Ok(key_with(alloc, front.as_slice(), least)?),
     }
 }
 
@@ -268,7 +257,7 @@ impl Span {
         ensures same { IfOk result (λ span. (key : List Value) → is_le (key_order low key) ≡ true → is_past high key ≡ false → is_within span key ≡ true) }
     {
         if let Some(end) = &high {
-            if compare_keys(low.as_slice(), end.as_slice()).is_gt() {
+            if low.order(end).is_gt() {
                 let high = Some(low.copy(alloc)?);
                 return Ok(Span { low, high });
             }
@@ -290,12 +279,12 @@ impl Span {
     }
 
     /// Whether the key is below the end of the span.
-    fn is_before_end(&self, key: &[Value]) -> bool
+    fn is_before_end(&self, key: &Key) -> bool
         ensures { result ≡ not (is_past self.now.high key.now) }
     {
         match &self.high {
             None => true,
-            Some(high) => compare_keys(high.as_slice(), key).is_gt(),
+            Some(high) => high.order(key).is_gt(),
         }
     }
 
@@ -310,12 +299,12 @@ impl Span {
         let from = rows.partition_point(
             |item: &Keyed| -> bool
                 ensures { result ≡ not (is_le (key_order self.entry.now.low item.now.key)) }
-            { compare_keys(self.low.as_slice(), item.key.as_slice()).is_gt() },
+            { self.low.order(&item.key).is_gt() },
         );
         let to = rows.partition_point(
             |item: &Keyed| -> bool
                 ensures { result ≡ not (is_past self.entry.now.high item.now.key) }
-            { self.is_before_end(item.key.as_slice()) },
+            { self.is_before_end(&item.key) },
         );
         part(rows, from, to)
     }

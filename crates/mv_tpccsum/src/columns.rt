@@ -175,9 +175,9 @@ pub(crate) fn number_at(row: &[Value], column: usize) -> i64
 pub(crate) fn key_at(alloc: Global, row: &[Value], columns: &[usize]) -> Result<Key, NoMemory>
     ensures { IfOk result (λ key. key ≡ columns_of row.now columns.now) }
 {
-    let mut key = List::new(alloc);
+    let mut key = Key::new();
     for column in columns {
-        key.push(value_at(alloc, row, *column)?)?;
+        key.push(alloc, value_at(alloc, row, *column)?)?;
     }
     Ok(key)
 }

@@ -12,7 +12,7 @@ use crate::lookup::write_at;
 use crate::owned::Owned;
 use mv_table::span::Span;
 use mv_values::memory::NoMemory;
-use mv_values::value::{Key, Value, compare_keys};
+use mv_values::value::{Key, Value};
 use std::cmp::Ordering;
 
 /// Returns the write at a place.
@@ -30,23 +30,26 @@ fn order_of_tables(table: u8, other: u16) -> Ordering
 }
 
 /// Compares a key of a table with a key of another.
-fn compare(table: u8, key: &[Value], other: u16, other_key: &[Value]) -> Ordering
+fn compare(table: u8, key: &Key, other: u16, other_key: &Key) -> Ordering
     ensures { result ≡ key_order (Int (pos table) ∷ key.now) (Int (pos other) ∷ other_key.now) }
 {
     let order = order_of_tables(table, other);
     if order.is_ne() {
         return order;
     }
-    compare_keys(key, other_key)
+    key.order(other_key)
 }
 
 /// Compares the key of the write at a place with a key of a table.
-fn compare_at(items: &[Owned], place: usize, table: u16, key: &[Value]) -> Ordering
+fn compare_at(items: &[Owned], place: usize, table: u16, key: &Key) -> Ordering
     ensures { result ≡ key_order (key_at items.now place) (Int (pos table) ∷ key.now) }
 {
     match at(items, place) {
-        Some(owned) => compare(owned.write.table, owned.write.key.as_slice(), table, key),
-        None => compare(0, &[], table, key),
+        Some(owned) => compare(owned.write.table, &owned.write.key, table, key),
+        None => {
+            let empty = Key::new();
+            compare(0, &empty, table, key)
+        }
     }
 }
 
@@ -60,7 +63,7 @@ fn part(order: &[usize], from: usize, to: usize) -> &[usize]
 }
 
 /// Counts the places whose writes are below a key of a table. Costs the logarithm of the number of places.
-pub(crate) fn count_below(items: &[Owned], places: &[usize], table: u16, key: &[Value]) -> usize
+pub(crate) fn count_below(items: &[Owned], places: &[usize], table: u16, key: &Key) -> usize
     requires { AreLast items.now places.now }
     ensures within { result ≤ length places.now }
     ensures below { IsCut (is_below items.now (Int (pos table) ∷ key.now)) places.now result }
@@ -74,7 +77,7 @@ pub(crate) fn count_below(items: &[Owned], places: &[usize], table: u16, key: &[
 
 /// Counts the places whose writes are up to and including a key of a table. Costs the logarithm of the number of
 /// places.
-pub(crate) fn count_up_to(items: &[Owned], places: &[usize], table: u16, key: &[Value]) -> usize
+pub(crate) fn count_up_to(items: &[Owned], places: &[usize], table: u16, key: &Key) -> usize
     requires { AreLast items.now places.now }
     ensures within { result ≤ length places.now }
     ensures up_to { IsCut (is_up_to items.now (Int (pos table) ∷ key.now)) places.now result }
@@ -115,7 +118,7 @@ pub(crate) fn last_on(items: &[Owned], order: &[usize], table: u8, key: &Key) ->
     requires { IsIndexed items.now order.now }
     ensures { IsLastOn items.now table key.now result }
 {
-    let at = count_up_to(items, order, table as u16, key.as_slice());
+    let at = count_up_to(items, order, table as u16, key);
     found_at(items, order, at, table, key)
 }
 
@@ -146,8 +149,11 @@ fn count_before_end(items: &[Owned], order: &[usize], table: u8, span: &Span) ->
     ensures before { IsCut (is_below items.now (end_in table span.now)) order.now result }
 {
     match &span.high {
-        Some(high) => count_below(items, order, table as u16, high.as_slice()),
-        None => count_below(items, order, table as u16 + 1, &[]),
+        Some(high) => count_below(items, order, table as u16, high),
+        None => {
+            let empty = Key::new();
+            count_below(items, order, table as u16 + 1, &empty)
+        }
     }
 }
 
@@ -164,7 +170,7 @@ pub(crate) fn places_in<'a>(
     ensures last { AreLast items.now result.now }
     ensures each { (key : List Value) → is_within span.now key ≡ true → HasNone items.now table key result.now → owned_on table key items.now ≡ [] }
 {
-    let from = count_below(items, order, table as u16, span.low.as_slice());
+    let from = count_below(items, order, table as u16, &span.low);
     let to = count_before_end(items, order, table, span);
     part(order, from, to)
 }

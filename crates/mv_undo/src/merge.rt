@@ -12,7 +12,7 @@ ghost use Rattle.mv_undo.specs.Overlaying.{begins_up_to};
 use mv_values::copied::Copied;
 use mv_values::memory::NoMemory;
 use mv_values::rows::{Keyed, Rows};
-use mv_values::value::{Key, Row, compare_keys};
+use mv_values::value::{Key, Row};
 use std::alloc::Global;
 use std::collections::VecDeque;
 
@@ -20,7 +20,7 @@ use std::collections::VecDeque;
 fn is_below(item: &Keyed, key: &Key) -> bool
     ensures { result ≡ is_lt (key_order item.now.key key.now) }
 {
-    compare_keys(item.key.as_slice(), key.as_slice()).is_lt()
+    item.key.order(key).is_lt()
 }
 
 /// Rows in key order, into which others are put from the least key to the greatest. `done` has those up to the last key
@@ -49,7 +49,7 @@ impl Merge {
         ensures { result ≡ begins_up_to key.now self.now.ahead.items }
     {
         match self.ahead.front() {
-            Some(item) => compare_keys(item.key.as_slice(), key.as_slice()).is_le(),
+            Some(item) => item.key.order(key).is_le(),
             None => false,
         }
     }

@@ -4,7 +4,7 @@ ghost use Rattle.std.specs.Prelude.{◌≡◌, nat_lt};
 ghost use Rattle.mv_record.specs.Writes.{is_on};
 
 use mv_values::patch::Write;
-use mv_values::value::{Key, compare_keys};
+use mv_values::value::Key;
 
 /// A write and the number of its record.
 #[derive(Drop)]
@@ -25,6 +25,6 @@ impl Owned {
     pub(crate) fn is_on(&self, table: u8, key: &Key) -> bool
         ensures { result ≡ is_on table key.now self.now.write }
     {
-        self.write.table == table && compare_keys(self.write.key.as_slice(), key.as_slice()).is_eq()
+        self.write.table == table && self.write.key.order(key).is_eq()
     }
 }

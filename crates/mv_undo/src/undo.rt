@@ -94,7 +94,7 @@ impl Undo {
     {
         let items = self.items.as_slice();
         let order = self.order.as_slice();
-        let at = count_up_to(items, order, write.table as u16, write.key.as_slice());
+        let at = count_up_to(items, order, write.table as u16, &write.key);
         let before = found_at(items, order, at, write.table, &write.key);
         let composed = self.composed.as_slice();
         let patch = patch_with(self.alloc, items, composed, before, &write)?;

@@ -5,7 +5,7 @@ ghost use Rattle.mv_log.specs.Logged.{no_effect};
 ghost use Rattle.mv_record.specs.Writes.{AreRising};
 
 use crate::cases::ensure_at;
-use crate::values::row;
+use crate::values::{key, row};
 use mv_cases::ensure::ensure;
 use mv_changes::changes::Changes;
 use mv_changes::commit::changes_of_commit;
@@ -30,7 +30,7 @@ use std::test::Fail;
 fn rows(alloc: Global, keys: &[i64]) -> Result<Rows, NoMemory> {
     let mut rows = Rows::new(alloc);
     for n in keys {
-        let key = row(alloc, &[*n])?;
+        let key = key(alloc, &[*n])?;
         let row = row(alloc, &[*n, 100, 0])?;
         put_row(alloc, &mut rows, &key, Some(row))?;
     }
@@ -69,7 +69,7 @@ fn patch(alloc: Global, n: i64, kind: &Kind) -> Result<Patch, NoMemory> {
 }
 
 fn write(alloc: Global, table: u8, n: i64, kind: &Kind) -> Result<Write, NoMemory> {
-    let key = row(alloc, &[n])?;
+    let key = key(alloc, &[n])?;
     let patch = patch(alloc, n, kind)?;
     Ok(Write { table, key, patch })
 }
@@ -113,7 +113,7 @@ fn second(row: &Option<Row>) -> Option<i64> {
 
 fn told(change: &Change) -> Told {
     (
-        number(&change.key, 0),
+        change.key.part(0).number(),
         second(&change.before),
         second(&change.after),
     )
@@ -260,7 +260,7 @@ fn own(alloc: Global) -> Result<Undo, NoMemory> {
 }
 
 fn change(alloc: Global, case: &Case) -> Result<Change, NoMemory> {
-    let key = row(alloc, &[1])?;
+    let key = key(alloc, &[1])?;
     let before = some_row(alloc, &case.before)?;
     let after = some_row(alloc, &case.after)?;
     Ok(Change {
@@ -304,7 +304,7 @@ fn changes_hit_what_a_predicate_sees(rt: HostRuntime) -> Result<(), Fail> {
 fn one(alloc: Global, n: i64) -> Result<Changes, NoMemory> {
     let change = Change {
         table: 0,
-        key: row(alloc, &[n])?,
+        key: key(alloc, &[n])?,
         before: Some(row(alloc, &[n, 100, 0])?),
         after: Some(row(alloc, &[n, 101, 0])?),
     };

@@ -5,7 +5,7 @@ ghost use Rattle.mv_values.specs.declared.value.Value.{Value as Val};
 
 use crate::changes::three;
 use crate::stores::{look_up, opening};
-use crate::values::row;
+use crate::values::{key, row};
 use mv_cases::ensure::ensure;
 use mv_changes::recent::Recent;
 use mv_collect::collect::collect;
@@ -38,7 +38,7 @@ fn put(
     table: u8,
     patch: Patch,
 ) -> Result<(), NoMemory> {
-    let key = row(alloc, &[0, 1])?;
+    let key = key(alloc, &[0, 1])?;
     store.put(alloc, call, &Write { table, key, patch })
 }
 
@@ -79,7 +79,7 @@ fn later_commits_are_kept(rt: HostRuntime) -> Result<(), Fail> {
         return Err("a low before any collection".into());
     }
     collect_two(&mut store, &mut recent);
-    let key = row(alloc, &[0, 1])?;
+    let key = key(alloc, &[0, 1])?;
     for n in 2..=3u32 {
         let want = row(alloc, &[0, 1, n as i64, 0])?;
         ensure(

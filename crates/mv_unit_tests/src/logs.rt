@@ -1,7 +1,7 @@
 //! What records a log has after it was written, cut and repaired, and what its predicates tell, worked out by hand.
 
 use crate::cases::ensure_at;
-use crate::values::row;
+use crate::values::{key, row};
 use mv_log::log::Log;
 use mv_log::pred_ref::{PredRef, Preds};
 use mv_log::record_ref::RecordRef;
@@ -127,7 +127,7 @@ fn ask(log: &mut Log, table: u8, number: i64) -> Result<(), Fail> {
 
 /// Adds a deletion of a key.
 fn delete(alloc: Global, log: &mut Log, number: i64) -> Result<(), Fail> {
-    let key = row(alloc, &[number])?;
+    let key = key(alloc, &[number])?;
     Ok(log.push_write(Write {
         table: 0,
         key,
@@ -286,7 +286,7 @@ fn add_rows(alloc: Global, text: &mut String, rows: &[Row]) -> Result<(), Fail> 
 
 fn add_writes(alloc: Global, text: &mut String, writes: &[Write]) -> Result<(), Fail> {
     for write in writes {
-        add(alloc, text, "w", number_in(write.key.as_slice().first()))?;
+        add(alloc, text, "w", write.key.part(0).number().unwrap_or(0))?;
     }
     Ok(())
 }
@@ -371,7 +371,7 @@ fn fronts_end_at_the_last_record(rt: HostRuntime) -> Result<(), Fail> {
 
 /// Moves a write out of a record, and leaves a deletion of the key 5 there.
 fn take(alloc: Global, log: &mut Log, number: u32, at: u32) -> Result<Write, Fail> {
-    let key = row(alloc, &[5])?;
+    let key = key(alloc, &[5])?;
     log.end_repair();
     if number >= log.len() {
         return Err("no such record".into());
@@ -393,7 +393,7 @@ fn a_write_is_moved_out_alone(rt: HostRuntime) -> Result<(), Fail> {
     let mut log = Log::new(alloc);
     take_steps(alloc, &mut log, RUN)?;
     let write = take(alloc, &mut log, 2, 1)?;
-    ensure_at(alloc, number_in(write.key.as_slice().first()) == 9, 0)?;
+    ensure_at(alloc, write.key.part(0).number().unwrap_or(0) == 9, 0)?;
     let want = " #1 r3 s4=40 #2 r4=0 a0=7 f70 f71 #3 p1 t1 a0=8 a1=9 s5=1 w8 w5";
     ensure_at(alloc, show(alloc, &log.records())?.as_str() == want, 1)
 }
@@ -412,7 +412,7 @@ const SIGHTS: &[Sight] = &[
 
 fn sees_as_told(alloc: Global, pred: &PredRef<'_>, sight: &Sight) -> Result<bool, Fail> {
     let (before, after, matches, same, admits) = *sight;
-    let key = row(alloc, &before[..1])?;
+    let key = key(alloc, &before[..1])?;
     let before = row(alloc, &before)?;
     let after = row(alloc, &after)?;
     Ok(

@@ -3,7 +3,7 @@
 ghost use Rattle.std.specs.Prelude.{◌↔◌, ◌≤◌, IsTrue, All};
 
 use crate::cases::ensure_at;
-use crate::values::row;
+use crate::values::{key, row};
 use mv_record::applying::put_row;
 use mv_undo::owned::Owned;
 use mv_undo::undo::Undo;
@@ -45,7 +45,7 @@ fn push(alloc: Global, undo: &mut Undo, written: &Written) -> Result<(), Fail> {
     let (number, table, numbers) = *written;
     let write = Write {
         table,
-        key: row(alloc, &numbers)?,
+        key: key(alloc, &numbers)?,
         patch: Patch::Delete,
     };
     push_write(undo, number, write)
@@ -62,7 +62,7 @@ fn undo_of(alloc: Global) -> Result<Undo, Fail> {
 /// Whether a key of a table is touched for a record.
 fn touched(alloc: Global, undo: &Undo, sought: &Written) -> Result<bool, NoMemory> {
     let (number, table, numbers) = *sought;
-    let key = row(alloc, &numbers)?;
+    let key = key(alloc, &numbers)?;
     Ok(undo.touched(number, table, &key))
 }
 
@@ -197,7 +197,7 @@ fn push_from(alloc: Global, undo: &mut Undo, from: usize) -> Result<(), Fail> {
         }
         let write = Write {
             table: 0,
-            key: row(alloc, &[*n])?,
+            key: key(alloc, &[*n])?,
             patch: patch_of(alloc, *n, kind)?,
         };
         push_write(undo, *number, write)?;
@@ -210,7 +210,7 @@ fn push_from(alloc: Global, undo: &mut Undo, from: usize) -> Result<(), Fail> {
 fn rows_of(alloc: Global, numbers: Numbers, own: Option<(&Undo, usize)>) -> Result<Rows, NoMemory> {
     let mut rows = Rows::new(alloc);
     for item in numbers {
-        let key = row(alloc, &[item[0]])?;
+        let key = key(alloc, &[item[0]])?;
         let is_wanted = match own {
             Some((undo, number)) => {
                 undo.touched(number, 0, &key) && !undo.fixes(number, 0, &key)
@@ -225,8 +225,7 @@ fn rows_of(alloc: Global, numbers: Numbers, own: Option<(&Undo, usize)>) -> Resu
 }
 
 fn is_same(item: &Keyed, other: &Keyed) -> bool {
-    are_same(item.key.as_slice(), other.key.as_slice())
-        && are_same(item.row.as_slice(), other.row.as_slice())
+    item.key == other.key && are_same(item.row.as_slice(), other.row.as_slice())
 }
 
 fn are_equal(rows: &[Keyed], want: &[Keyed]) -> bool {
@@ -294,7 +293,7 @@ fn push_numbers(alloc: Global, undo: &mut Undo, from: u32, to: u32) -> Result<()
     for number in from..to {
         let write = Write {
             table: 0,
-            key: row(alloc, &[1])?,
+            key: key(alloc, &[1])?,
             patch: Patch::Insert(row(alloc, &[1, number as i64, 0])?),
         };
         push_write(undo, number as usize, write)?;
@@ -305,7 +304,7 @@ fn push_numbers(alloc: Global, undo: &mut Undo, from: u32, to: u32) -> Result<()
 /// Whether a record finds the row that another one wrote.
 fn finds(alloc: Global, undo: &Undo, number: u32, other: u32) -> Result<bool, NoMemory> {
     let want = row(alloc, &[1, other as i64, 0])?;
-    match undo.row_behind(alloc, number as usize, 0, &row(alloc, &[1])?, None)? {
+    match undo.row_behind(alloc, number as usize, 0, &key(alloc, &[1])?, None)? {
         Some(found) => Ok(are_same(found.as_slice(), want.as_slice())),
         None => Ok(false),
     }

@@ -26,7 +26,7 @@ use mv_values::list::List;
 use mv_values::patch::{Assign, Patch, Write};
 use mv_values::rows::Database;
 use mv_values::txt::Txt;
-use mv_values::value::{Row, Value};
+use mv_values::value::{Key, Row, Value};
 use std::alloc::Global;
 use std::slice;
 use std::test::Fail;
@@ -218,6 +218,11 @@ fn tell_values(alloc: Global, out: &mut String, values: &[Value]) -> Result<(), 
     tell_text(out, line.as_slice())
 }
 
+fn tell_key(alloc: Global, out: &mut String, key: &Key) -> Result<(), Fail> {
+    let values = key.values(alloc)?;
+    tell_values(alloc, out, values.as_slice())
+}
+
 /// Adds a text and a value.
 fn tell_value(alloc: Global, out: &mut String, front: &str, value: &Value) -> Result<(), Fail> {
     out.push_str(front)?;
@@ -313,7 +318,7 @@ fn tell_write(alloc: Global, out: &mut String, write: &Write) -> Result<(), Fail
         _ => " puts ",
     };
     out.push_str(word)?;
-    tell_values(alloc, out, write.key.as_slice())?;
+    tell_key(alloc, out, &write.key)?;
     match &write.patch {
         Patch::Delete => Ok(()),
         Patch::Insert(row) => {

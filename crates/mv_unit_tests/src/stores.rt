@@ -9,7 +9,7 @@ ghost use Rattle.mv_store.specs.Changes.{KeepsReads};
 ghost use Rattle.mv_store.specs.Stored.{database_at, newest, own_writes};
 
 use crate::cases::ensure_at;
-use crate::values::row;
+use crate::values::{key, row};
 use mv_record::applying::apply;
 use mv_store::store::Store;
 use mv_store::view::StoreView;
@@ -110,7 +110,7 @@ fn any_write(alloc: Global, random: &mut SplitMix64) -> Result<Write, NoMemory> 
     } else {
         byte(random) % TABLES
     };
-    let key = row(alloc, &[group, item])?;
+    let key = key(alloc, &[group, item])?;
     let patch = any_patch(alloc, group, item, random)?;
     Ok(Write { table, key, patch })
 }
@@ -190,7 +190,7 @@ fn step(alloc: Global, history: &mut History, random: &mut SplitMix64) -> Result
 // Reads
 
 fn same(a: &Keyed, b: &Keyed) -> bool {
-    are_same(a.key.as_slice(), b.key.as_slice()) && are_same(a.row.as_slice(), b.row.as_slice())
+    a.key == b.key && are_same(a.row.as_slice(), b.row.as_slice())
 }
 
 /// Whether the rows found are those of the table that the predicate matches, in their order.
@@ -289,8 +289,7 @@ fn finds_all(
 }
 
 fn row_under<'a>(rows: &'a [Keyed], key: &Key) -> Option<&'a Keyed> {
-    rows.iter()
-        .find(|item| are_same(item.key.as_slice(), key.as_slice()))
+    rows.iter().find(|item| item.key == *key)
 }
 
 /// Whether each of the six keys has its row.
@@ -302,7 +301,7 @@ fn has_rows(
     rows: &[Keyed],
 ) -> Result<bool, NoMemory> {
     for place in 0..6i64 {
-        let key = row(alloc, &[place / 3, place % 3])?;
+        let key = key(alloc, &[place / 3, place % 3])?;
         let right = match (look_up(alloc, store, n, table, &key), row_under(rows, &key)) {
             (Ok(Some(row)), Some(item)) => are_same(row.as_slice(), item.row.as_slice()),
             (Ok(None), None) => true,
@@ -354,7 +353,7 @@ pub(crate) fn opening(alloc: Global) -> Result<Database, NoMemory> {
     for table in 0..TABLES {
         let mut rows = Rows::new(alloc);
         rows.push(Keyed {
-            key: row(alloc, &[0, 1])?,
+            key: key(alloc, &[0, 1])?,
             row: row(alloc, &[0, 1, table as i64, 7])?,
         })?;
         database.push(rows)?;
@@ -401,11 +400,11 @@ fn a_commit_is_read_from_its_number_on(rt: HostRuntime) -> Result<(), Fail> {
     let mut writes = Vec::new(alloc);
     writes.push(Write {
         table: 1,
-        key: row(alloc, &[0, 1])?,
+        key: key(alloc, &[0, 1])?,
         patch: Patch::Delete,
     })?;
     commit(alloc, &mut store, 5, 1, &writes)?;
-    let key = row(alloc, &[0, 1])?;
+    let key = key(alloc, &[0, 1])?;
     let before = match look_up(alloc, &store, 0, 1, &key) {
         Ok(Some(row)) => row.len() == 4,
         _ => false,

@@ -13,18 +13,27 @@ use mv_values::patch::{Assign, Patch, Write};
 use mv_values::pred::{Pred, Test};
 use mv_values::rows::{Keyed, Rows};
 use mv_values::txt::Txt;
-use mv_values::value::{Row, Value, compare_keys};
+use mv_values::value::{Key, Row, Value};
 use std::alloc::Global;
 use std::cmp::Ordering;
 use std::test::Fail;
 
-/// Returns a row or a key of numbers.
+/// Returns a row of numbers.
 pub(crate) fn row(alloc: Global, numbers: &[i64]) -> Result<Row, NoMemory> {
     let mut row = List::new(alloc);
     for n in numbers {
         row.push(Value::Int(*n))?;
     }
     Ok(row)
+}
+
+/// Returns a key of numbers.
+pub(crate) fn key(alloc: Global, numbers: &[i64]) -> Result<Key, NoMemory> {
+    let mut key = Key::new();
+    for n in numbers {
+        key.push(alloc, Value::Int(*n))?;
+    }
+    Ok(key)
 }
 
 fn is_printable(byte: u8) -> bool
@@ -51,7 +60,7 @@ fn txt(alloc: Global, text: &str) -> Result<Txt, NoMemory> {
 
 /// Returns rows with one row, under this key.
 fn only(alloc: Global, n: i64) -> Result<Rows, NoMemory> {
-    let key = row(alloc, &[n])?;
+    let key = key(alloc, &[n])?;
     let row = row(alloc, &[n])?;
     let mut rows = Rows::new(alloc);
     rows.push(Keyed { key, row })?;
@@ -59,8 +68,8 @@ fn only(alloc: Global, n: i64) -> Result<Rows, NoMemory> {
 }
 
 fn place_of(alloc: Global, rows: &Rows, n: i64) -> Result<Result<usize, usize>, NoMemory> {
-    let key = row(alloc, &[n])?;
-    Ok(rows.place_of(key.as_slice()))
+    let key = key(alloc, &[n])?;
+    Ok(rows.place_of(&key))
 }
 
 /// A key, and its place, or its gap, if the only key is 7.
@@ -126,8 +135,8 @@ fn values_stand_in_order(rt: HostRuntime) -> Result<(), Fail> {
 
 #[test]
 fn a_shorter_key_stands_first(rt: HostRuntime) -> Result<(), Fail> {
-    let key = row(rt.alloc(), &[1])?;
-    let order = compare_keys(&[], key.as_slice());
+    let key = key(rt.alloc(), &[1])?;
+    let order = Key::new().order(&key);
     ensure(rt.alloc(), order == Ordering::Less, "an empty key")
 }
 
@@ -167,7 +176,7 @@ const MATCHED: &[Matched] = &[
 
 fn matches(alloc: Global, pred: &Pred, case: &Matched) -> Result<bool, NoMemory> {
     let (numbers, matches, admits) = *case;
-    let key = row(alloc, &[numbers[0]])?;
+    let key = key(alloc, &[numbers[0]])?;
     let row = row(alloc, &numbers)?;
     Ok(pred.matches(&row) == matches && pred.admits(&key) == admits)
 }
@@ -241,7 +250,7 @@ fn a_predicate_sees_what_it_tests_and_selects(rt: HostRuntime) -> Result<(), Fai
 
 /// Returns a write of column 3 of a row of table 2.
 fn write(alloc: Global) -> Result<Write, NoMemory> {
-    let key = row(alloc, &[7])?;
+    let key = key(alloc, &[7])?;
     let mut items = List::new(alloc);
     items.push(Assign {
         column: 3,

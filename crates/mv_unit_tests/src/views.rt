@@ -7,7 +7,7 @@ ghost use Rattle.mv_record.specs.Admitting.{Admitted};
 ghost use Rattle.mv_view.specs.Viewing.{with_row_call};
 
 use crate::cases::ensure_at;
-use crate::values::row;
+use crate::values::{key, row};
 use mv_cases::ensure::ensure;
 use mv_record::applying::put_row;
 use mv_store::store::Store;
@@ -32,7 +32,7 @@ const ACCOUNTS: &[(i64, i64)] = &[(0, 0), (1, 100), (2, 100), (3, 100), (4, 100)
 fn accounts(alloc: Global) -> Result<Rows, NoMemory> {
     let mut rows = Rows::new(alloc);
     for (id, balance) in ACCOUNTS {
-        let key = row(alloc, &[*id])?;
+        let key = key(alloc, &[*id])?;
         let mut account = row(alloc, &[*id, *balance])?;
         account.push(Value::Text(Txt::new(alloc)))?;
         put_row(alloc, &mut rows, &key, Some(account))?;
@@ -266,7 +266,7 @@ fn match_of<V: View>(
 fn has_match(alloc: Global, tables: &Database, case: &Matched) -> Result<bool, Fail> {
     let (id, column, op, value, want) = *case;
     let pred = where_is(alloc, column, op, value)?;
-    let key = row(alloc, &[id])?;
+    let key = key(alloc, &[id])?;
     let store = Store::new(alloc, tables)?;
     let in_memory = match_of(alloc, &pred, &key, &mut Plain::new(tables))?;
     let in_store = match_of(alloc, &pred, &key, &mut StoreView::new(&store, 0))?;
@@ -290,7 +290,7 @@ fn a_row_is_found_under_its_key_if_it_matches(rt: HostRuntime) -> Result<(), Fai
 fn shows(alloc: Global, view: &mut Plain, table: u8, id: i64, want: Option<i64>) -> Result<(), Fail>
     ensures counted { IfOk result (λ shown. view.new ≡ with_row_call view.old) }
 {
-    let key = row(alloc, &[id])?;
+    let key = key(alloc, &[id])?;
     match view.row(alloc, table, &key) {
         Ok(Some(row)) => ensure(alloc, number(&row, 1) == want, "another row"),
         Ok(None) => ensure(alloc, want == None, "no row"),

@@ -113,7 +113,8 @@ fn write_change(
     text.push(b' ')?;
     text.append(table)?;
     text.push(b' ')?;
-    let line = line_from(alloc, key.as_slice())?;
+    let values = key.values(alloc)?;
+    let line = line_from(alloc, values.as_slice())?;
     text.append(line.as_slice())
 }
 

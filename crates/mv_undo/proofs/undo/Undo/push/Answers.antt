@@ -1,10 +1,8 @@
 use Rattle.std.proofs.Common.{◌≡◌, ◌≤◌, ◌++◌, ◌∷◌, [], All, List, Option, ap, subst, sym, ◌∙◌}
-use Rattle.std.specs.Prelude.{pos}
 use Rattle.mv_values.specs.declared.patch.Patch.{Patch}
-use Rattle.mv_values.specs.declared.value.Value.TheVariants.{Int}
 use Rattle.mv_undo.specs.declared.links.Link.{Link}
 use Rattle.mv_undo.specs.declared.owned.Owned.{Owned}
-use Rattle.mv_undo.specs.Indexing.{IsCut, IsIndexed, is_up_to, renewed}
+use Rattle.mv_undo.specs.Indexing.{IsIndexed, renewed}
 use Rattle.mv_undo.proofs.Growing.{composed_more, far_on, found_last, indexed_more, linked_more}
 use Rattle.mv_undo.proofs.Looking.{order_more}
 use Rattle.mv_undo.proofs.undo.Undo.push.Goals as goal
@@ -31,7 +29,7 @@ invariant_of-self-2 c =
     let order : c.renew.new.order.items ≡ renewed O at before c.len-last.result = c.in_ok-renew.ensures.ok ∙ ap (λ l. renewed l at before c.len-last.result) (sym c.as_slice-order.ensures.value) in
     let last = c.len-last.ensures ∙ sym c.as_slice-items.ensures.len in
     let ix : IsIndexed S O = rw (c.as_slice-items.ensures.value, c.as_slice-order.ensures.value) c.self.invariant.3 in
-    let cut = subst (λ l. IsCut (is_up_to S (Int (pos c.args.write.table) ∷ l)) O at) c.as_slice.ensures c.count_up_to-at.ensures.up_to in
+    let cut = c.count_up_to-at.ensures.up_to in
     let found = found_last S O at c.args.write.table c.args.write.key before ix c.count_up_to-at.ensures.within c.found_at-before.ensures in (
       order_more S c.push-3.new.self.items o new (rw c.as_slice-items.ensures.value c.self.invariant.0)
           (subst (λ (l : List Owned). All (λ (x : Owned). x.number ≤ c.args.number) l) (sym (c.as_slice-items.ensures.value ∙ c.self.view_is)) c.requires),
