@@ -15,6 +15,8 @@ mod edges;
 #[cfg(test)]
 mod journals;
 #[cfg(test)]
+mod keys;
+#[cfg(test)]
 mod logs;
 #[cfg(test)]
 mod own_writes;

@@ -99,12 +99,12 @@ fn rows_are_copied(rt: HostRuntime) -> Result<(), Fail> {
 }
 
 /// A value of a case.
-enum Given {
+pub(crate) enum Given {
     Number(i64),
     Text(&'static str),
 }
 
-fn value(alloc: Global, given: &Given) -> Result<Value, NoMemory> {
+pub(crate) fn value(alloc: Global, given: &Given) -> Result<Value, NoMemory> {
     match given {
         Given::Number(n) => Ok(Value::Int(*n)),
         Given::Text(text) => Ok(Value::Text(txt(alloc, text)?)),
