@@ -64,7 +64,9 @@ pub(crate) fn blank_of(alloc: Global, script: &Script) -> Result<Blank, NoMemory
 
 /// Returns the key of this number.
 fn key_of(alloc: Global, number: i64) -> Result<Key, NoMemory> {
-    List::of(alloc, Value::Int(number))
+    let mut key = Key::new();
+    key.push(alloc, Value::Int(number))?;
+    Ok(key)
 }
 
 /// Writes the balance of account 1 at a start, or that its rows may be gone.
