@@ -74,6 +74,7 @@ impl Numbers {
     }
 
     /// Compares them with others by the first in which they differ. If there is none, fewer numbers come first.
+    #[inline(always)]
     pub(crate) fn order(&self, other: &Numbers) -> Ordering
         ensures { result ≡ slice_cmp int_cmp self.now other.now }
     {
@@ -93,7 +94,16 @@ impl Numbers {
     }
 }
 
+/// Compares numbers of which there may be more on one side. It stays out of its callers, which rarely need it.
+#[inline(never)]
+fn compare_lengths(a: &[i64], b: &[i64]) -> Ordering
+    ensures { result ≡ slice_cmp int_cmp a.now b.now }
+{
+    a.cmp(b)
+}
+
 /// Compares the first numbers of two lists, which have none after them.
+#[inline(always)]
 fn compare_fronts(len: usize, items: &[i64], other_len: usize, other_items: &[i64]) -> Ordering
     requires within { len ≤ length items.now }
     requires other_within { other_len ≤ length other_items.now }
@@ -102,7 +112,7 @@ fn compare_fronts(len: usize, items: &[i64], other_len: usize, other_items: &[i6
     ensures { result ≡ slice_cmp int_cmp (take len items.now) (take other_len other_items.now) }
 {
     if len != other_len {
-        return items[..len].cmp(&other_items[..other_len]);
+        return compare_lengths(&items[..len], &other_items[..other_len]);
     }
     items.cmp(other_items)
 }
