@@ -64,10 +64,16 @@ pub fn parent_in(columns: &[Column], column: u16) -> Option<u8>
 }
 
 /// Whether the row's key is the value.
+#[tactic(auto, using(mv_values::proofs::Parts::left_from))]
 pub fn is_under(item: &Keyed, value: &Value) -> bool
     ensures { result ≡ has_key value.now item.now }
 {
-    item.key.as_slice().iter().all(|w| w.order(value).is_eq())
+    for at in 0..item.key.len() {
+        if item.key.part(at).order(value).is_ne() {
+            return false;
+        }
+    }
+    true
 }
 
 /// Compares the value of a column with another value.
@@ -113,6 +119,7 @@ pub fn test_on(keys: &[u8], column: u8, op: Op, value: Value) -> Test
 }
 
 /// Returns the tests that a column of a table with these key columns holds a key.
+#[tactic(auto, using(mv_values::proofs::Parts::left_from))]
 pub fn tests_of_key(
     alloc: Global,
     keys: &[u8],
@@ -123,8 +130,9 @@ pub fn tests_of_key(
     ensures { IfOk result (λ tests. tests ≡ map (λ v. test_on keys.now column Eq v) key.now) }
 {
     let mut tests = List::with_room(alloc, key.len())?;
-    for value in key.as_slice() {
-        tests.push(test_on(keys, column, Op::Eq, value.copy(alloc)?))?;
+    for at in 0..key.len() {
+        let value = key.part(at).copy(alloc)?;
+        tests.push(test_on(keys, column, Op::Eq, value))?;
     }
     Ok(tests)
 }

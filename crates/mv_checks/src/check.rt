@@ -5,7 +5,7 @@ ghost use Rattle.mv_recorded.specs.Asking.{is_among};
 
 use mv_values::calls::End;
 use mv_values::pred::Pred;
-use mv_values::value::{Key, compare_keys};
+use mv_values::value::Key;
 
 /// What a statement checks after it made a row or found rows, and how the call ends if that fails.
 #[derive(Drop)]
@@ -22,6 +22,5 @@ pub enum Check {
 pub fn is_among(keys: &[Key], key: &Key) -> bool
     ensures { result ≡ is_among keys.now key.now }
 {
-    keys.iter()
-        .any(|k| compare_keys(k.as_slice(), key.as_slice()).is_eq())
+    keys.iter().any(|k| k.order(key).is_eq())
 }

@@ -183,7 +183,7 @@ fn is_there(alloc: Global, opening: &Database, table: u8, value: &Value) -> Resu
     requires { HaveOneKey (rows_at opening.now table) }
     ensures { IfOk result (λ b. b ≡ is_there value.now (rows_at opening.now table)) }
 {
-    let key = List::of(alloc, value.copy(alloc)?)?;
+    let key = Key::of(alloc, value.copy(alloc)?)?;
     Ok(is_in(opening, table, &key))
 }
 

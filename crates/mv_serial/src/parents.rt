@@ -17,7 +17,6 @@ use mv_alone::state::Stop;
 use mv_table::table::{Table, Tables};
 use mv_values::calls::End;
 use mv_values::copied::Copied;
-use mv_values::list::List;
 use mv_values::memory::NoMemory;
 use mv_values::rows::Keyed;
 use mv_values::schema::{Column, TableInfo};
@@ -46,7 +45,7 @@ fn is_there(alloc: Global, tables: &Tables, table: u8, value: &Value) -> Result<
     requires { HaveOneKey (rows_at tables.now table) }
     ensures { IfOk result (λ b. b ≡ is_there value.now (rows_at tables.now table)) }
 {
-    let key = List::of(alloc, value.copy(alloc)?)?;
+    let key = Key::of(alloc, value.copy(alloc)?)?;
     Ok(is_in(tables, table, &key))
 }
 
