@@ -36,3 +36,4 @@ pub mod Quiet
 pub mod ReferenceExamples
 pub mod Parents
 pub mod Orphans
+pub mod Kinship

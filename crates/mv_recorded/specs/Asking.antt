@@ -80,7 +80,7 @@ with_sorts cs sorts = cs ++ map (λ s. s.column) sorts
 
 -- Checks
 
--- what a statement checks behind its first query: that a value has no fault; that a predicate finds a row; that it finds
+-- what a statement checks after its first query: that a value has no fault; that a predicate finds a row; that it finds
 -- no rows but those with some keys
 pub data Check : Type 0 where
   faults : End → Check

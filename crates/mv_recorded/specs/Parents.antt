@@ -1,13 +1,14 @@
 -- The laws of parents: an INSERT, UPDATE or DELETE ends with the first fault of what it checks, and no statement leaves a
--- row without its parent. This project's own.
-use Rattle.std.specs.Prelude.{◌≡◌, ℕ, true, List, Ok}
+-- row without its parent. So no row of an accepted script ever lacks one. This project's own.
+use Rattle.std.specs.Prelude.{◌≡◌, ℕ, true, List, [], Ok}
 use Rattle.mv_values.specs.declared.value.Value.{Value}
 use Rattle.mv_values.specs.declared.pred.Test.{Test}
 use Rattle.mv_values.specs.declared.rows.Keyed.{Keyed}
 use Rattle.mv_values.specs.declared.schema.TableInfo.{TableInfo}
 use Rattle.mv_values.specs.Columns.{column_of}
-use Rattle.mv_values.specs.References.{Reference, references, is_there}
+use Rattle.mv_values.specs.References.{Reference, references, is_there, orphans}
 use Rattle.mv_values.specs.Tables.{rows_at, columns_at, key_columns, Tables}
+use Rattle.mv_catalog.specs.declared.resolved.Program.{Program}
 use Rattle.mv_catalog.specs.declared.resolved.RExpr.{RExpr}
 use Rattle.mv_catalog.specs.declared.resolved.RCond.{RCond}
 use Rattle.mv_catalog.specs.declared.resolved.RSetItem.{RSetItem}
@@ -17,6 +18,7 @@ use Rattle.mv_alone.specs.declared.state.State.{State}
 use Rattle.mv_alone.specs.Changes.{new_row}
 use Rattle.mv_alone.specs.Alone.{matching_in}
 use Rattle.mv_alone.specs.Rows.{tests_of}
+use Rattle.mv_alone.specs.TableAfter.{table_after}
 use Rattle.mv_record.specs.Databases.{IsDatabaseOf}
 use Rattle.mv_recorded.specs.Asking.{first_fault, insert_checks, update_checks, delete_checks}
 use Rattle.mv_recorded.specs.Doing.{effect_of, itself}
@@ -45,3 +47,11 @@ ReferencesStand tables db = (t : ℕ) → Each (HasParents db (references tables
 -- a statement that doesn't end the call leaves no row without its parent
 abbrev pub ReferencesKept : Type 0
 ReferencesKept = (tables : List TableInfo) (s : RStmt-F RStmt) (st next : State) → ReferencesStand tables st.tables → itself tables s st ≡ Ok next → ReferencesStand tables next.tables
+
+-- no row of a database lacks a parent if the check of opening rows finds none that does
+abbrev pub NoOrphanStands : Type 0
+NoOrphanStands = (tables : List TableInfo) (db : Tables) → orphans tables db ≡ [] → ReferencesStand tables db
+
+-- if no opening row lacks a parent, no row does after any calls of the program, in any order
+abbrev pub CallsKeepReferences : Type 0
+CallsKeepReferences = (p : Program) → ReferencesStand p.resolved.tables p.opening → (order : List ℕ) (k : ℕ) → ReferencesStand p.resolved.tables (table_after p order k)

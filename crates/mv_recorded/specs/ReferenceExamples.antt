@@ -91,7 +91,7 @@ Shuts =
     (effect_of firm shut (given 1 0) ≡ only_end (of_key 0 1 ∷ of_second 1 1 ∷ []) HasChildren)
     × (effect_of firm shut (given 2 0) ≡ record empty { preds = of_key 0 2 ∷ of_second 1 2 ∷ []; sets = sets 2 1 ∷ []; writes = removed 0 2 ∷ [] })
 
--- a department that isn't there; a key that is there, behind which nothing is looked for; and an employee hired
+-- a department that isn't there; a key that is there, after which nothing is looked for; and an employee hired
 abbrev pub Hires : Type 0
 Hires =
     (effect_of firm hire (given 11 3) ≡ only_end (of_key 1 11 ∷ of_key 0 3 ∷ []) MissingParent)

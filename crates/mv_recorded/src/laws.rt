@@ -1,6 +1,6 @@
 //! Laws of the records of a full run. They apply to every procedure, call and database.
 
-ghost use Rattle.mv_recorded.specs.Parents.{EndsAreFaults, ReferencesKept};
+ghost use Rattle.mv_recorded.specs.Parents.{EndsAreFaults, ReferencesKept, NoOrphanStands, CallsKeepReferences};
 ghost use Rattle.mv_recorded.specs.ReferenceExamples.{Shuts, Hires, Joins, Leaves, Bosses};
 ghost use Rattle.mv_recorded.specs.Examples.{AddsFive, AddOverflows, UpdateOverflows, LooksInVain, Transfers, TransferRollsBack, AddsUp, Closes, ReadsTwice, DividesByZero};
 ghost use Rattle.mv_recorded.specs.Laws.{MeaningsTell, NamesEarlierOnes, PathsAreInOrder, EffectsTold, ColumnsThere, KeysKept, DatabaseKept, FrontsAreDatabases, TablesAfterAre, ReadersChangeNothing, RecordsAreOwn, EffectsRest, OnePlaceOnePath};
@@ -86,10 +86,13 @@ pub fn worked_examples()
 {}
 
 /// A statement that changes rows ends with the first fault of what it checks: of its predicates up to that of the fault.
-/// No statement leaves a row without its parent.
+/// No statement leaves a row without its parent. So if no opening row lacks its parent, which refusal 23 sees to, no row
+/// does after any calls, in any order.
 pub fn parents_are_kept()
     ensures ends { EndsAreFaults }
     ensures parents { ReferencesKept }
+    ensures opening { NoOrphanStands }
+    ensures calls { CallsKeepReferences }
 {}
 
 /// What small statements with REFERENCES check, worked out by hand.
