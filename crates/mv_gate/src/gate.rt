@@ -347,6 +347,25 @@ fn work_at<N: Making, R: Threads + Wait + Sync, P: Pace>(
     let _left = worker(rt, alloc, gate, &mut post.pass, number, pace);
 }
 
+/// Works at each of these posts, by this many threads.
+fn run_workers<N: Making + Send + Sync, R: Threads + Wait + Sync, P: Pace>(
+    rt: &R,
+    alloc: Global,
+    gate: &Gate<N>,
+    posts: &mut [Post<N>],
+    workers: u32,
+    pace: &P,
+)
+    requires { 0 < workers }
+{
+    thread::for_each_mut(
+        rt,
+        posts,
+        workers as usize,
+        &|_, post: &mut Post<N>| work_at(rt, alloc, gate, post, pace),
+    );
+}
+
 /// Runs the calls of a gate's script by 1 to 64 workers, and then those that they have left. Returns the outcome of a
 /// lawful and bounded journal, in which each call is done. So the calls are serializable by the outcome. Fails with
 /// `NoMemory` if memory runs out.
@@ -369,13 +388,7 @@ pub fn run_all<N: Making + Send + Sync, R: Threads + Wait + Sync, P: Pace>(
         let post = new_post(mine, number);
         posts.push(post)?;
     }
-    let shared = &gate;
-    thread::for_each_mut(
-        rt,
-        posts.as_mut_slice(),
-        workers as usize,
-        &|_, post: &mut Post<N>| work_at(rt, alloc, shared, post, pace),
-    );
+    run_workers(rt, alloc, &gate, posts.as_mut_slice(), workers, pace);
     let Gate {
         board,
         shards,

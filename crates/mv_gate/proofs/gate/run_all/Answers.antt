@@ -1,24 +1,6 @@
-use denote.Exit.{no}
-use denote.Param.{param}
-use denote.Param.Send.{sendable, param_sync, arg_sync, shr_sync}
-use Rattle.std.specs.contracts.alloc.Global as Global
-use Rattle.std.proofs.alloc.Global.TheSendSync as global
-use Rattle.mv_gate.specs.contracts.gate.Gate as Gate
 use Rattle.mv_shards.specs.Scripts.{work}
-use Rattle.mv_gate.proofs.Crossing.{four_sync, gate_sync}
 use Rattle.mv_gate.proofs.Serializing.{serializable_left}
 use Rattle.mv_gate.proofs.gate.run_all.Goals as goal
-
-pub for_each_mut-requires-sync-F : goal.for_each_mut-requires-sync-F
-for_each_mut-requires-sync-F g c κs within =
-    let r = c.type_bounds.sync-R in
-    let p = c.type_bounds.sync-P in
-    let n = param 0 g.row.N in
-    param_sync 2 _ (arg_sync _ no _ (four_sync _ _ _ _ _
-    (shr_sync _ _ (param 1 g.row.R) (search (r, sendable)))
-    (shr_sync _ _ Global.the_row global.the_sync)
-    (shr_sync _ _ (Gate.the_row n g.N.Making) (gate_sync n g.N.Making))
-    (shr_sync _ _ (param 2 g.row.P) (search (p, sendable)))))
 
 pub returns-clause-serializable : goal.returns-clause-serializable
 returns-clause-serializable g c = serializable_left (work g.N.Making.script) c.outcome.result c.outcome.ensures.readers c.outcome.ensures.outcome
