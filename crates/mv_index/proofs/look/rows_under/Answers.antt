@@ -1,0 +1,40 @@
+use Rattle.std.proofs.Common.{length, refl, sym, ap, subst, ◌∙◌}
+use Rattle.mv_values.specs.Tables.{rows_at}
+use Rattle.mv_index.specs.Asking.{AskedAtMost}
+use Rattle.mv_index.specs.Forms.{KeyList, lent}
+use Rattle.mv_index.specs.Indexing.{HaveKeys}
+use Rattle.mv_index.proofs.Asked.{not_asked, passes_ok}
+use Rattle.mv_index.proofs.Finding.{none_found, only_of}
+use Rattle.mv_index.proofs.look.rows_under.Goals as goal
+
+pub returns-in-None-clause-found : goal.returns-in-None-clause-found
+returns-in-None-clause-found g c =
+    let pred = c.args.pred.now in
+    let rows = rows_at (g.V.View.sight c.args.view.now).database pred.table in
+    c.new.ensures ∙ sym (none_found pred rows (c.requires.rising pred.table) (subst (λ keys. HaveKeys pred keys rows) (sym c.lend.ensures ∙ ap lent c.in-None.is) c.requires.all))
+
+pub returns-in-None-clause-asked : goal.returns-in-None-clause-asked
+returns-in-None-clause-asked g c = not_asked 0 (length c.args.keys.now) (g.V.View.sight c.args.view.now)
+
+pub returns-in-None-clause-passes_on : goal.returns-in-None-clause-passes_on
+returns-in-None-clause-passes_on g c = passes_ok (g.V.View.sight c.args.view.now) (g.V.View.sight c.args.view.now) c.new.result refl
+
+pub rows_alone-requires-clause-only : goal.rows_alone-requires-clause-only
+rows_alone-requires-clause-only g c =
+    let pred = c.args.pred.now in
+    let rows = rows_at (g.V.View.sight c.args.view.now).database pred.table in
+    only_of pred rows c.in-One.key.now (subst (λ keys. HaveKeys pred keys rows) (sym c.lend.ensures ∙ ap lent c.in-One.is) c.requires.all)
+
+pub returns-in-One-clause-asked : goal.returns-in-One-clause-asked
+returns-in-One-clause-asked g c =
+    subst (λ (keys : KeyList). AskedAtMost 0 (length keys) (g.V.View.sight c.args.view.now) (g.V.View.sight c.rows_alone.new.view)) (sym (sym c.lend.ensures ∙ ap lent c.in-One.is)) c.rows_alone.ensures.asked
+
+pub rows_among-requires-clause-all : goal.rows_among-requires-clause-all
+rows_among-requires-clause-all g c =
+    let pred = c.args.pred.now in
+    let rows = rows_at (g.V.View.sight c.args.view.now).database pred.table in
+    subst (λ keys. HaveKeys pred keys rows) (sym c.lend.ensures ∙ ap lent c.in-Many.is) c.requires.all
+
+pub returns-in-Many-clause-asked : goal.returns-in-Many-clause-asked
+returns-in-Many-clause-asked g c =
+    subst (λ (keys : KeyList). AskedAtMost 0 (length keys) (g.V.View.sight c.args.view.now) (g.V.View.sight c.rows_among.new.view)) (sym (sym c.lend.ensures ∙ ap lent c.in-Many.is)) c.rows_among.ensures.asked

@@ -1,0 +1,47 @@
+use Rattle.std.proofs.Common.{◌≡◌, sym, ap, subst, ◌∙◌}
+use Rattle.std.specs.Prelude.{IfOk}
+use Rattle.mv_values.specs.Patching.{found_by}
+use Rattle.mv_values.specs.Tables.{rows_at}
+use Rattle.mv_values.specs.Counts.{one_more}
+use Rattle.mv_record.specs.Admitting.{Admitted}
+use Rattle.mv_record.specs.Writes.{AreRising}
+use Rattle.mv_view.specs.Viewing.{with_rows_call, answered, MayAnswer}
+use Rattle.mv_index.specs.Indexing.{Covers}
+use Rattle.mv_index.specs.Asking.{Indexed, sight_of, LooksUp}
+use Rattle.mv_index.proofs.Asked.{counted, same_database, seen_through, stale_through}
+use Rattle.mv_index.proofs.view.IndexViewView.rows.Goals as goal
+
+pub find-requires-clause-covers : goal.find-requires-clause-covers
+find-requires-clause-covers g c = c.self.invariant.0
+
+pub find-requires-clause-rising : goal.find-requires-clause-rising
+find-requires-clause-rising g c = c.self.invariant.1
+
+pub find-requires-clause-admitted : goal.find-requires-clause-admitted
+find-requires-clause-admitted g c = subst (λ (v : Indexed). Admitted c.args.pred.now (rows_at v.inner.database c.args.pred.now.table)) (sym c.self.view_is) c.requires
+
+pub invariant_of-self : goal.invariant_of-self
+invariant_of-self g c =
+    let same = same_database c.find.result (g.V.View.sight c.self.inside.inner.now) (g.V.View.sight c.find.new.view) c.find.ensures.looks.passes_on in
+    (subst (Covers c.self.inside.index.now) (sym same) c.self.invariant.0, subst AreRising (sym same) c.self.invariant.1)
+
+pub returns-clause-found : goal.returns-clause-found
+returns-clause-found g c = subst (λ (v : Indexed). IfOk c.find.result (λ found. found ≡ found_by c.args.pred.now v.inner.database)) c.self.view_is c.find.ensures.found
+
+pub returns-clause-counts : goal.returns-clause-counts
+returns-clause-counts g c =
+    let after = g.V.View.sight c.find.new.view in
+    subst (λ (v : Indexed). counted after c.saturating_add-self-inside.result c.self.inside.row_calls ≡ answered c.find.result (with_rows_call (sight_of v))) c.self.view_is
+    (ap (λ n. counted after n c.self.inside.row_calls) c.saturating_add-self-inside.ensures ∙ seen_through c.find.result (g.V.View.sight c.self.inside.inner.now) after (one_more c.self.inside.rows_calls) c.self.inside.row_calls c.find.ensures.looks.passes_on)
+
+pub returns-clause-stale : goal.returns-clause-stale
+returns-clause-stale g c =
+    let after = g.V.View.sight c.find.new.view in
+    subst (λ (v : Indexed). MayAnswer (sight_of v) (counted after c.saturating_add-self-inside.result c.self.inside.row_calls) c.find.result) c.self.view_is
+    (stale_through c.find.result (g.V.View.sight c.self.inside.inner.now) after c.self.inside.rows_calls c.self.inside.row_calls c.saturating_add-self-inside.result c.self.inside.row_calls c.find.ensures.looks.passes_on)
+
+pub returns-clause-index : goal.returns-clause-index
+returns-clause-index g c = ap (λ (v : Indexed). v.index) c.self.view_is
+
+pub returns-clause-looks : goal.returns-clause-looks
+returns-clause-looks g c = subst (λ (v : Indexed). LooksUp v.index c.args.pred.now v.inner (g.V.View.sight c.find.new.view) c.find.result) c.self.view_is c.find.ensures.looks

@@ -1,0 +1,160 @@
+//! The keys of the rows that have one value.
+
+ghost use Rattle.std.specs.Prelude.{◌≡◌, ◌∷◌, [], length, None, Some, OnOk, OnErr, List, if◌then◌else◌};
+ghost use Rattle.std.specs.Option.{is_some};
+ghost use Rattle.std.specs.Ordering.{is_eq};
+ghost use Rattle.mv_values.specs.declared.value.Value.{Value};
+ghost use Rattle.mv_values.specs.Order.{key_order};
+ghost use Rattle.mv_table.specs.Entries.{item_of, KeysRise};
+ghost use Rattle.mv_index.specs.Forms.{held, lent};
+
+use mv_table::key_map::KeyMap;
+use mv_values::copied::Copied;
+use mv_values::memory::NoMemory;
+use mv_values::value::Key;
+use std::alloc::Global;
+use std::marker::Model;
+
+/// No key, one key in place, or a map of keys.
+#[derive(Drop)]
+enum Form {
+    None,
+    One(Key),
+    Many(KeyMap<()>),
+}
+
+/// Keys of rows, in ascending order. One key takes no memory beside its own. Contracts see them as the entries of a map.
+pub struct Keys {
+    form: Form,
+}
+
+impl Drop for Keys {
+    /// Drops what it holds. A drop of its own is one step for who drops keys; a derived one is a step for each form.
+    fn drop(self) {
+        let Keys { form: _ } = self;
+    }
+}
+
+impl Model for Keys {
+    ghost use Rattle.mv_index.specs.Forms.{KeyList, held};
+
+    ghost Value = { KeyList };
+
+    ghost view = { λ k. held k.form };
+}
+
+/// Keys that are lent.
+#[derive(Clone, Copy)]
+pub(crate) enum Lent<'a> {
+    None,
+    One(&'a Key),
+    Many(&'a KeyMap<()>),
+}
+
+/// Puts a key beside others. If memory runs out, they are as before.
+fn put_key(form: &mut Form, alloc: Global, key: Key) -> Result<(), NoMemory>
+    ensures ok { OnOk result ((k : List Value) → item_of (held form.new) k ≡ (if is_eq (key_order key k) then Some tt else item_of (held form.old) k)) }
+    ensures err { OnErr result (held form.new ≡ held form.old) }
+{
+    match form {
+        Form::None => {
+            *form = Form::One(key);
+            Ok(())
+        }
+        Form::One(only) => {
+            let mut keys = KeyMap::new(alloc);
+            keys.put(only.copy(alloc)?, ())?;
+            keys.put(key, ())?;
+            *form = Form::Many(keys);
+            Ok(())
+        }
+        Form::Many(keys) => {
+            keys.put(key, ())?;
+            Ok(())
+        }
+    }
+}
+
+/// Takes a key out, if it is there.
+fn take_key(form: &mut Form, key: &Key)
+    ensures { (k : List Value) → item_of (held form.new) k ≡ (if is_eq (key_order key.now k) then None else item_of (held form.old) k) }
+{
+    match form {
+        Form::None => {}
+        Form::One(only) => {
+            if only.order(key).is_eq() {
+                *form = Form::None;
+            }
+        }
+        Form::Many(keys) => {
+            keys.take(key);
+        }
+    }
+}
+
+impl Keys {
+    /// Returns no keys. It allocates nothing.
+    pub(crate) fn new() -> Keys
+        ensures { result ≡ [] }
+    {
+        Keys { form: Form::None }
+    }
+
+    /// Returns one key. It allocates nothing.
+    pub(crate) fn of(key: Key) -> Keys
+        ensures { result ≡ (key, tt) ∷ [] }
+    {
+        Keys {
+            form: Form::One(key),
+        }
+    }
+
+    /// Returns the number of keys.
+    pub fn len(&self) -> usize
+        ensures len { result ≡ length self.now }
+        ensures rising { KeysRise self.now }
+    {
+        match &self.form {
+            Form::None => 0,
+            Form::One(_) => 1,
+            Form::Many(keys) => keys.len(),
+        }
+    }
+
+    /// Whether a key is there. Takes time logarithmic in the number of keys.
+    pub fn contains(&self, key: &Key) -> bool
+        ensures { result ≡ is_some (item_of self.now key.now) }
+    {
+        match &self.form {
+            Form::None => false,
+            Form::One(only) => only.order(key).is_eq(),
+            Form::Many(keys) => keys.get(key).is_some(),
+        }
+    }
+
+    /// Lends the keys.
+    pub(crate) fn lend(&self) -> Lent<'_>
+        ensures { lent result ≡ self.now }
+    {
+        match &self.form {
+            Form::None => Lent::None,
+            Form::One(key) => Lent::One(key),
+            Form::Many(keys) => Lent::Many(keys),
+        }
+    }
+
+    /// Puts a key beside the others. Takes time logarithmic in their number. If memory runs out, they are as before.
+    pub(crate) fn put(&mut self, alloc: Global, key: Key) -> Result<(), NoMemory>
+        ensures ok { OnOk result ((k : List Value) → item_of self.new k ≡ (if is_eq (key_order key k) then Some tt else item_of self.old k)) }
+        ensures err { OnErr result (self.new ≡ self.old) }
+    {
+        put_key(&mut self.form, alloc, key)
+    }
+
+    /// Takes a key out, if it is there. Takes time logarithmic in the number of keys, and allocates no memory.
+    pub(crate) fn take(&mut self, key: &Key)
+        ensures { (k : List Value) → item_of self.new k ≡ (if is_eq (key_order key.now k) then None else item_of self.old k) }
+    {
+        take_key(&mut self.form, key);
+    }
+}
