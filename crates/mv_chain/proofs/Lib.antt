@@ -5,3 +5,5 @@ pub mod Values
 pub mod Stamps
 pub mod Blank
 pub mod Compact
+pub mod Having
+pub mod Going

@@ -11,7 +11,7 @@ use Rattle.mv_values.specs.declared.patch.Patch.TheVariants.{Insert, Set, Delete
 use Rattle.mv_chain.specs.declared.undo.Undo.{Undo}
 use Rattle.mv_chain.specs.Undoing.{set_back, item_on, before}
 
-back_length : (items : List Assign) (row : List Value) → length (set_back items row) ≡ length row
+pub back_length : (items : List Assign) (row : List Value) → length (set_back items row) ≡ length row
 back_length [] row = refl
 back_length (a ∷ as') row = length-set (set_back as' row) a.column a.value ∙ back_length as' row
 

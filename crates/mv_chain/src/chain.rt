@@ -1,13 +1,17 @@
 //! The versions of a row.
 
-ghost use Rattle.std.specs.Prelude.{◌≡◌, ◌↔◌, IsTrue, ◌<◌, ◌≤◌, ℕ, [], IfOk, OnOk, OnErr, OnSome, IfSome, length, slice_get};
+ghost use Rattle.std.specs.Prelude.{◌≡◌, ◌↔◌, ◌||◌, true, IsTrue, ◌<◌, ◌≤◌, ℕ, [], IfOk, OnOk, OnErr, OnSome, IfSome, length, slice_get};
 ghost use Rattle.std.specs.Option.{is_some, option_and_then, option_copied};
+ghost use Rattle.mv_values.specs.declared.value.Value.{Value as Val};
 ghost use Rattle.mv_values.specs.Preds.{matched};
 ghost use Rattle.mv_chain.specs.Versions.{row_at, newest, IsAboveAll, own_of, without, with_own, stamped, collected, is_blank};
 ghost use Rattle.mv_chain.specs.Holding.{versions_of, is_plain};
+ghost use Rattle.mv_chain.specs.Having.{has_value, undos_have};
 
+use crate::column::row_has;
 use crate::history::{History, copy_of_match};
-use crate::undo::column_of;
+use crate::pending::Pending;
+use crate::undo::{Undo, column_of};
 use mv_values::copied::Copied;
 use mv_values::memory::NoMemory;
 use mv_values::patch::Patch;
@@ -132,6 +136,82 @@ impl Chain {
         match &self.held {
             Form::Nothing | Form::Only(_) => false,
             Form::History(history) => history.has_own(call),
+        }
+    }
+
+    /// Returns the patches that are not committed.
+    pub fn own(&self) -> &[Pending]
+        ensures { result.now ≡ self.now.own }
+    {
+        match &self.held {
+            Form::Nothing | Form::Only(_) => &[],
+            Form::History(history) => history.own(),
+        }
+    }
+
+    /// Returns a call's patch, if it has one that is not committed.
+    pub fn own_of(&self, call: u32) -> Option<&Patch>
+        ensures { option_copied result ≡ own_of call self.now.own }
+    {
+        match &self.held {
+            Form::Nothing | Form::Only(_) => None,
+            Form::History(history) => history.own_of(call),
+        }
+    }
+
+    /// Returns what undoes the commits up to `low`. A value that no version has once `collect` has dropped the rows
+    /// before `low` stands in it.
+    pub fn dropped(&self, low: u32) -> &[Undo]
+        ensures { (c : ℕ) (v : Val) → has_value c v self.now ≡ true → (has_value c v (collected low self.now) || undos_have c v result.now) ≡ true }
+    {
+        match &self.held {
+            Form::Nothing | Form::Only(_) => &[],
+            Form::History(history) => history.dropped(low),
+        }
+    }
+
+    /// Whether one of the versions has a value in a column: a row, or a patch that is not committed. A column that a row
+    /// lacks counts as 0. It copies no row. Takes time linear in the size of the patches.
+    pub fn has_value(&self, column: u8, value: &Value) -> bool
+        ensures { result ≡ has_value column value.now self.now }
+    {
+        match &self.held {
+            Form::Nothing => false,
+            Form::Only(row) => row_has(row, column, value),
+            Form::History(history) => history.has_value(column, value),
+        }
+    }
+
+    /// Whether one of the versions has a value in a column once `drop_of` has dropped the patch of a call.
+    pub fn has_without(&self, call: u32, column: u8, value: &Value) -> bool
+        ensures { result ≡ has_value column value.now (record self.now { own = without call self.now.own }) }
+    {
+        match &self.held {
+            Form::Nothing => false,
+            Form::Only(row) => row_has(row, column, value),
+            Form::History(history) => history.has_without(call, column, value),
+        }
+    }
+
+    /// Whether one of the versions has a value in a column once `stamp` has turned the patch of a call into a commit.
+    pub fn has_stamped(&self, call: u32, column: u8, value: &Value) -> bool
+        ensures { (n : ℕ) → result ≡ has_value column value.now (stamped call n self.now) }
+    {
+        match &self.held {
+            Form::Nothing => false,
+            Form::Only(row) => row_has(row, column, value),
+            Form::History(history) => history.has_stamped(call, column, value),
+        }
+    }
+
+    /// Whether one of the versions has a value in a column once `collect` has dropped the rows before commit `low`.
+    pub fn has_from(&self, low: u32, column: u8, value: &Value) -> bool
+        ensures { result ≡ has_value column value.now (collected low self.now) }
+    {
+        match &self.held {
+            Form::Nothing => false,
+            Form::Only(row) => row_has(row, column, value),
+            Form::History(history) => history.has_from(low, column, value),
         }
     }
 

@@ -1,12 +1,15 @@
 //! The versions of a row that has more than one, or patches of calls that have not committed.
 
-ghost use Rattle.std.specs.Prelude.{◌≡◌, ◌↔◌, ◌==◌, ◌&&◌, not, IsTrue, ◌<◌, ◌≤◌, ◌++◌, ◌∷◌, ℕ, [], IfOk, OnOk, OnErr, OnSome, IfSome, length, slice_get};
+ghost use Rattle.std.specs.Prelude.{◌≡◌, ◌↔◌, ◌==◌, ◌&&◌, ◌||◌, not, true, IsTrue, ◌<◌, ◌≤◌, ◌++◌, ◌∷◌, ℕ, [], IfOk, OnOk, OnErr, OnSome, IfSome, length, slice_get};
 ghost use Rattle.std.specs.Vec.{vec_capacity};
 ghost use Rattle.std.specs.Option.{is_some, option_and_then, option_copied};
+ghost use Rattle.mv_values.specs.declared.value.Value.{Value as Val};
 ghost use Rattle.mv_values.specs.Preds.{matched};
 ghost use Rattle.mv_chain.specs.Versions.{row_at, newest, IsAboveAll, own_of, without, with_own, stamped, collected, is_blank, blank};
 ghost use Rattle.mv_chain.specs.Holding.{is_plain};
+ghost use Rattle.mv_chain.specs.Having.{has_value, undos_have};
 
+use crate::column::{others_have, own_has, patched_has, undone_have};
 use crate::commit::do_patch;
 use crate::compose::compose;
 use crate::pending::{Pending, place_of};
@@ -116,6 +119,69 @@ impl History {
         ensures { result ≡ is_some (own_of call self.now.own) }
     {
         place_of(self.own.as_slice(), call).is_some()
+    }
+
+    /// Returns the patches that are not committed.
+    pub(crate) fn own(&self) -> &[Pending]
+        ensures { result.now ≡ self.now.own }
+    {
+        self.own.as_slice()
+    }
+
+    /// Returns a call's patch, if it has one that is not committed.
+    pub(crate) fn own_of(&self, call: u32) -> Option<&Patch>
+        ensures { option_copied result ≡ own_of call self.now.own }
+    {
+        match place_of(self.own.as_slice(), call) {
+            Some(at) => Some(&self.own[at].patch),
+            None => None,
+        }
+    }
+
+    /// Returns what undoes the commits up to `low`. A value that no version has once they are collected stands in it.
+    pub(crate) fn dropped(&self, low: u32) -> &[Undo]
+        ensures { (c : ℕ) (v : Val) → has_value c v self.now ≡ true → (has_value c v (collected low self.now) || undos_have c v result.now) ≡ true }
+    {
+        let end = place_after(self.undos.as_slice(), low);
+        &self.undos[..end]
+    }
+
+    /// Whether one of the versions has a value in a column.
+    pub(crate) fn has_value(&self, column: u8, value: &Value) -> bool
+        ensures { result ≡ has_value column value.now self.now }
+    {
+        undone_have(self.undos.as_slice(), self.row.as_ref(), column, value)
+            || own_has(self.own.as_slice(), column, value)
+    }
+
+    /// Whether one of the versions has a value in a column without the patch of a call.
+    pub(crate) fn has_without(&self, call: u32, column: u8, value: &Value) -> bool
+        ensures { result ≡ has_value column value.now (record self.now { own = without call self.now.own }) }
+    {
+        undone_have(self.undos.as_slice(), self.row.as_ref(), column, value)
+            || others_have(self.own.as_slice(), call, column, value)
+    }
+
+    /// Whether one of the versions has a value in a column once the patch of a call is stamped.
+    pub(crate) fn has_stamped(&self, call: u32, column: u8, value: &Value) -> bool
+        ensures { (n : ℕ) → result ≡ has_value column value.now (stamped call n self.now) }
+    {
+        match self.own_of(call) {
+            Some(patch) => {
+                patched_has(self.row.as_ref(), patch, column, value)
+                    || self.has_without(call, column, value)
+            }
+            None => self.has_value(column, value),
+        }
+    }
+
+    /// Whether one of the versions has a value in a column once the rows before commit `low` are dropped.
+    pub(crate) fn has_from(&self, low: u32, column: u8, value: &Value) -> bool
+        ensures { result ≡ has_value column value.now (collected low self.now) }
+    {
+        let first = place_after(self.undos.as_slice(), low);
+        undone_have(&self.undos[first..], self.row.as_ref(), column, value)
+            || own_has(self.own.as_slice(), column, value)
     }
 
     /// Whether there are no commits and no patches.

@@ -7,9 +7,10 @@
 #![tactic(auto)]
 
 pub mod chain;
+pub mod column;
 mod commit;
 mod compose;
 mod history;
 pub mod laws;
 pub mod pending;
-mod undo;
+pub mod undo;

@@ -104,7 +104,7 @@ pub(crate) fn stood_before(undos: &[Undo], now: Option<&Row>) -> bool
 }
 
 /// Returns the value of the first item on a column.
-fn item_on(items: &[Assign], column: u8) -> Option<&Value>
+pub(crate) fn item_on(items: &[Assign], column: u8) -> Option<&Value>
     ensures { option_copied result ≡ item_on column items.now }
 {
     for item in items {
