@@ -4,3 +4,4 @@ pub mod Meaning
 pub mod Small
 pub mod Stepped
 pub mod Asking
+pub mod Equalities

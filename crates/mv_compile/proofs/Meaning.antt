@@ -10,7 +10,7 @@ use Rattle.mv_graph.specs.Nodes.{IsGraph}
 use Rattle.mv_compile.specs.Compiled.{graph_of, graphs_of, MeansText}
 
 pub are_graphs : (resolved : Resolved) (graphs : List Graph) → graphs ≡ graphs_of resolved → All IsGraph graphs
-are_graphs resolved graphs is = subst (All IsGraph) (sym is) (All-map IsGraph (graph_of resolved.tables) resolved.procedures (λ k d lt. record { nodes = refl; steps = refl }))
+are_graphs resolved graphs is = subst (All IsGraph) (sym is) (All-map IsGraph (graph_of resolved.tables) resolved.procedures (λ k d lt. record { nodes = refl; steps = refl; tested = refl }))
 
 each_means : (tables : List TableInfo) (procs : List ProcInfo) → AllZip (MeansText tables) (map (graph_of tables) procs) procs
 each_means tables [] = tt

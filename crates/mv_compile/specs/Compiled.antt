@@ -9,10 +9,11 @@ use Rattle.mv_recorded.specs.Recorded.{meaning}
 use Rattle.mv_graph.specs.declared.graph.Graph.{Graph}
 use Rattle.mv_graph.specs.Nodes.{nodes_in, meaning_of}
 use Rattle.mv_graph.specs.Steps.{steps_in}
+use Rattle.mv_graph.specs.Tests.{tested_in}
 
--- the graph of a procedure over these tables, with a node for each statement
+-- the graph of a procedure over these tables, with a node for each statement and the columns that it tests with `=`
 abbrev pub graph_of : List TableInfo → ProcInfo → Graph
-graph_of tables proc = record { tables = tables; procedure = proc; nodes = nodes_in tables proc; steps = steps_in proc }
+graph_of tables proc = record { tables = tables; procedure = proc; nodes = nodes_in tables proc; steps = steps_in proc; tested = tested_in proc }
 
 -- the graph of each procedure, in order
 abbrev pub graphs_of : Resolved → List Graph

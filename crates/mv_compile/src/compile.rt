@@ -5,17 +5,20 @@ ghost use Rattle.std.specs.List.{AllZip};
 ghost use Rattle.mv_catalog.specs.Text.{FitsText, IsTable};
 ghost use Rattle.mv_graph.specs.Nodes.{nodes_in, IsGraph, IsSmall, IsSound, HasFewNodes};
 ghost use Rattle.mv_graph.specs.Steps.{steps_in};
+ghost use Rattle.mv_graph.specs.Tests.{tested_in};
 ghost use Rattle.mv_compile.specs.Compiled.{graph_of, graphs_of, MeansText};
 
 use crate::copies::copy_procedure;
 use crate::nodes::{Slots, add_nodes};
 use crate::steps::add_steps;
+use crate::tested::add_tested;
 use mv_catalog::resolved::{ProcInfo, Resolved};
 use mv_graph::graph::{Graph, Node, Step};
 use mv_values::copied::Copied;
 use mv_values::list::List;
 use mv_values::memory::NoMemory;
 use mv_values::schema::TableInfo;
+use mv_values::tested::Tested;
 use std::alloc::Global;
 
 /// Returns the tables, and how the variables of a procedure are numbered.
@@ -73,6 +76,16 @@ fn steps_in(alloc: Global, procedure: &ProcInfo) -> Result<List<Step>, NoMemory>
     Ok(steps)
 }
 
+/// Returns the columns that a procedure tests with `=`, each once, in the order of the text.
+fn tested_in(alloc: Global, procedure: &ProcInfo) -> Result<List<Tested>, NoMemory>
+    requires { IsSmall procedure.now }
+    ensures { IfOk result (λ tested. tested ≡ tested_in procedure.now) }
+{
+    let mut tested = List::new(alloc);
+    add_tested(&mut tested, procedure.body.as_slice())?;
+    Ok(tested)
+}
+
 /// Returns the graph of a procedure over these tables.
 fn graph_of(
     alloc: Global,
@@ -86,6 +99,7 @@ fn graph_of(
 {
     let nodes = nodes_in(alloc, tables.as_slice(), procedure)?;
     let steps = steps_in(alloc, procedure)?;
+    let tested = tested_in(alloc, procedure)?;
     let tables = tables.copy(alloc)?;
     let procedure = copy_procedure(alloc, procedure)?;
     Ok(Graph {
@@ -93,6 +107,7 @@ fn graph_of(
         procedure,
         nodes,
         steps,
+        tested,
     })
 }
 
@@ -114,13 +129,14 @@ fn graphs_of(
     Ok(graphs)
 }
 
-/// Returns the graphs of a script's procedures, in order. Its cost grows with the size of the script, and with the
-/// square of the number of variables that a statement names.
+/// Returns the graphs of a script's procedures, in order. Its cost grows with the size of the script, with the
+/// square of the number of variables that a statement names, and with the number of `=` tests of a procedure times that
+/// of the columns that it tests so.
 #[tactic(auto, using(crate::proofs::Small::all_small, crate::proofs::Small::all_few_nodes))]
 pub fn compile(alloc: Global, resolved: &Resolved) -> Result<List<Graph>, NoMemory>
     requires { FitsText resolved.now }
     ensures graphs { IfOk result (λ graphs. graphs ≡ graphs_of resolved.now) }
-    // Each graph has the nodes of its procedure, and means what the procedure's text means.
+    // Each graph has the nodes and the tested columns of its procedure, and means what the procedure's text means.
     ensures nodes { IfOk result (All IsGraph) }
     ensures few { IfOk result (All HasFewNodes) }
     ensures sound { IfOk result (All IsSound) }

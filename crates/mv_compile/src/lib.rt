@@ -7,3 +7,4 @@ mod nodes;
 mod reads;
 mod sizes;
 mod steps;
+mod tested;

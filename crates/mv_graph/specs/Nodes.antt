@@ -17,6 +17,7 @@ use Rattle.mv_recorded.specs.Recorded.{meaning}
 use Rattle.mv_graph.specs.declared.graph.Graph.{Graph}
 use Rattle.mv_graph.specs.declared.graph.Node.{Node}
 use Rattle.mv_graph.specs.Steps.{steps_in}
+use Rattle.mv_graph.specs.Tests.{wheres_of, tested_in, AreNarrow}
 use Rattle.mv_graph.specs.declared.graph.Keyword.{Keyword}
 use Rattle.mv_graph.specs.declared.graph.Keyword.TheVariants as keyword
 
@@ -151,10 +152,11 @@ nodes_in tables proc =
 
 -- Graphs
 
--- its nodes and steps are those of its procedure
+-- its nodes, its steps and its tested columns are those of its procedure
 pub record IsGraph (g : Graph) : Type 0 where
   pub nodes : g.nodes ≡ nodes_in g.tables g.procedure
   pub steps : g.steps ≡ steps_in g.procedure
+  pub tested : g.tested ≡ tested_in g.procedure
 
 -- its meaning is its procedure's
 abbrev pub meaning_of : Graph → Behavior
@@ -164,7 +166,8 @@ meaning_of g = meaning g.tables g.procedure
 abbrev pub is_read_only : Graph → Bool
 is_read_only g = g.procedure.read_only
 
--- its tables and its procedure fit together, as those of a program do, and its nodes and steps are those of its procedure
+-- its tables and its procedure fit together, as those of a program do, and its nodes, its steps and its
+-- tested columns are those of its procedure
 pub record IsSound (g : Graph) : Type 0 where
   pub few : length g.tables ≤ 64
   pub tables : All IsTable g.tables
@@ -184,6 +187,7 @@ most_variables = 80
 pub record IsSmall (proc : ProcInfo) : Type 0 where
   pub statements : total_size (map size proc.body) ≤ most_statements
   pub variables : length proc.params + length proc.defaults ≤ most_variables
+  pub tables : AreNarrow (wheres_of proc.body)
 
 -- there are no more nodes than a procedure may have statements
 abbrev pub HasFewNodes : Graph → Type 0

@@ -9,6 +9,7 @@ ghost use Rattle.mv_graph.specs.Edges.{is_number, is_one_of, node_at, has_common
 use mv_catalog::resolved::{ProcInfo, RStmt};
 use mv_values::list::List;
 use mv_values::schema::TableInfo;
+use mv_values::tested::Tested;
 
 /// The keyword that a statement begins with.
 #[derive(Clone, Copy)]
@@ -71,6 +72,8 @@ pub struct Graph {
     pub nodes: List<Node>,
     /// A step for each statement, in the order of the text.
     pub steps: List<Step>,
+    /// The columns that a WHERE of the procedure tests with `=`, each once, in the order of the text.
+    pub tested: List<Tested>,
 }
 
 /// How a statement may depend on another: the other directly holds it, sets a variable that it reads, or changes a table
@@ -139,6 +142,13 @@ impl Graph {
             None => None,
             Some(place) => self.nodes.as_slice().get(place as usize),
         }
+    }
+
+    /// Borrows the columns that a WHERE of the procedure tests with `=`, each once, in the order of the text.
+    pub fn tested(&self) -> &[Tested]
+        ensures { result.now ≡ self.now.tested }
+    {
+        self.tested.as_slice()
     }
 
     /// Returns how statement `to` may depend on statement `from`, both counted from 1. There are no edges if either

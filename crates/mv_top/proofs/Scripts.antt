@@ -42,7 +42,7 @@ can_run : (p : Program) (call : Call) (proc : ProcInfo) → FitsText p.resolved 
 can_run p call proc fits k suits =
     let whole : IsProcedure p.resolved.tables proc = all_get (IsProcedure p.resolved.tables) p.resolved.procedures call.procedure proc fits.procedures k in
     record {
-      sound = record { few = fits.few; tables = fits.tables; parents = fits.parents; procedure = whole; nodes = record { nodes = refl; steps = refl } };
+      sound = record { few = fits.few; tables = fits.tables; parents = fits.parents; procedure = whole; nodes = record { nodes = refl; steps = refl; tested = refl } };
       over = refl;
       few = let same = AllZip-long Suits proc.params call.arguments suits in omega (arith, same, whole.few);
       suits = suits;
