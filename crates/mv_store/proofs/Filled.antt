@@ -60,7 +60,7 @@ pub filled_others : (key : List Value) (w : Versions) (old new : Entries) → Ha
 filled_others key w old new h f other differs = subst (λ o. IfSome o IsFull) (sym (h.at other ∙ ap (λ b. cond b (Some w) (item_of old other)) differs)) (f other)
 
 -- a patch was added in place, or nothing was
-pub filled_put : {E : Type 0} (r : Result (Unit {0}) E) (call : ℕ) (patch : Patch) (key : List Value) (was w : Versions) (old new : Entries) → item_of old key ≡ Some was → OnOk r (w ≡ with_patch call patch was) → OnErr r (w ≡ was)
+pub filled_put : {A E : Type 0} (r : Result A E) (call : ℕ) (patch : Patch) (key : List Value) (was w : Versions) (old new : Entries) → item_of old key ≡ Some was → OnOk r (w ≡ with_patch call patch was) → OnErr r (w ≡ was)
     → HasItem key w old new → AreFilled old → AreFilled new
 filled_put (Ok x) call patch key was w old new there ok err h f = filled_there key w old new (ap is_blank ok ∙ patch_fills call patch was) h f
 filled_put (Err e) call patch key was w old new there ok err h f = filled_there key w old new (ap is_blank err ∙ subst (λ o. IfSome o IsFull) there (f key)) h f

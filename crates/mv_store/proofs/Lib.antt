@@ -9,3 +9,6 @@ pub mod Collecting
 pub mod Rows
 pub mod Noted
 pub mod Views
+pub mod Indexing
+pub mod Covered
+pub mod Putting

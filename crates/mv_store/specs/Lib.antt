@@ -2,3 +2,4 @@ pub mod Stored
 pub mod Changes
 pub mod Kept
 pub mod Opened
+pub mod Indexed

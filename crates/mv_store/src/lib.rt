@@ -8,9 +8,11 @@
 mod change;
 mod close;
 mod collect;
+mod entries;
 mod find;
 mod open;
 pub mod store;
+mod tables;
 pub mod view;
 mod write;
 mod written_keys;

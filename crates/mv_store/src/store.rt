@@ -14,20 +14,24 @@ ghost use Rattle.mv_store.specs.Changes.{IsAsBefore, HasPut, HasDropped, HasStam
 use crate::change::{Fate, settle_noted};
 use crate::close::close_all;
 use crate::collect::collect_all;
-use crate::find::{find, find_foremost, find_match, find_row};
+use crate::entries::ValueIndex;
 use crate::open::open_all;
+use crate::tables::TablesView;
 use crate::write::put_write;
 use crate::written_keys::WrittenKeys;
 use mv_chain::chain::Chain;
+use mv_index::view::IndexView;
 use mv_table::key_map::KeyMap;
 use mv_table::scan::Direction;
+use mv_values::list::List;
 use mv_values::memory::NoMemory;
 use mv_values::patch::Write;
 use mv_values::pred::Pred;
 use mv_values::rows::{Database, Keyed, Rows};
+use mv_values::tested::Tested;
 use mv_values::value::{Key, Row};
 use mv_view::key_set::KeySet;
-use mv_view::view::Refused;
+use mv_view::view::{Refused, View};
 use std::alloc::Global;
 use std::marker::Model;
 
@@ -35,6 +39,7 @@ use std::marker::Model;
 #[derive(Drop)]
 pub struct Store {
     tables: Vec<KeyMap<Chain>>,
+    index: ValueIndex,
     table_keys: WrittenKeys,
     last: u32,
     low: u32,
@@ -43,25 +48,28 @@ pub struct Store {
 impl Model for Store {
     ghost use Rattle.mv_store.specs.Stored.{Versioned};
     ghost use Rattle.mv_store.specs.Kept.{AreKeptVersions};
+    ghost use Rattle.mv_store.specs.Indexed.{IsIndexOf};
 
     ghost Value = { Versioned };
 
     ghost view = { λ s. record { tables = s.tables.items; last = s.last; low = s.low } };
 
-    ghost invariant = { λ s. AreKeptVersions s.tables.items s.table_keys s.last };
+    ghost invariant = { λ s. AreKeptVersions s.tables.items s.table_keys s.last × IsIndexOf s.tables.items s.index };
 }
 
 impl Store {
-    /// Returns a store of this database, before any commit. It copies the rows.
-    pub fn new(alloc: Global, opening: &Database) -> Result<Store, NoMemory>
+    /// Returns a store of this database, before any commit, with an index of these columns. It copies the rows.
+    pub fn new(alloc: Global, opening: &Database, columns: &List<Tested>) -> Result<Store, NoMemory>
         ensures database { IfOk result (λ store. (n : ℕ) → database_at store n ≡ opening.now) }
         ensures own { IfOk result (λ store. (call : ℕ) → own_writes store call ≡ []) }
         ensures last { IfOk result (λ store. store.last ≡ 0) }
         ensures low { IfOk result (λ store. store.low ≡ 0) }
     {
         let tables = open_all(alloc, opening)?;
+        let index = ValueIndex::new(alloc, columns, opening)?;
         Ok(Store {
             tables,
+            index,
             table_keys: WrittenKeys::new(alloc),
             last: 0,
             low: 0,
@@ -94,8 +102,7 @@ impl Store {
         ensures fresh { self.now.low ≤ n → IfErr result (λ e. e ≡ Wanting) }
     {
         self.check_fresh(n)?;
-        let found = self.find(alloc, n, pred)?;
-        Ok(found)
+        self.find(alloc, n, pred)
     }
 
     /// Returns a copy of the first row in this direction that the predicate matches after commit n and whose key isn't
@@ -116,8 +123,7 @@ impl Store {
         ensures fresh { self.now.low ≤ n → IfErr result (λ e. e ≡ Wanting) }
     {
         self.check_fresh(n)?;
-        let row = self.find_foremost(alloc, n, pred, direction, passed)?;
-        Ok(row)
+        self.find_foremost(alloc, n, pred, direction, passed)
     }
 
     /// Returns a copy of the row under a key of the predicate's table after commit n, if there is one and the predicate
@@ -135,8 +141,7 @@ impl Store {
         ensures fresh { self.now.low ≤ n → IfErr result (λ e. e ≡ Wanting) }
     {
         self.check_fresh(n)?;
-        let row = self.find_match(alloc, n, pred, key)?;
-        Ok(row)
+        self.find_match(alloc, n, pred, key)
     }
 
     /// Returns a copy of the row under a key of a table after commit n, if there is one. Fails with `Stale` exactly if
@@ -154,8 +159,7 @@ impl Store {
         ensures fresh { self.now.low ≤ n → IfErr result (λ e. e ≡ Wanting) }
     {
         self.check_fresh(n)?;
-        let row = self.find_row(alloc, n, table, key)?;
-        Ok(row)
+        self.find_row(alloc, n, table, key)
     }
 
     /// Moves all tables after commit n out, which may not be below the store's low. Fails with `NoMemory` if memory runs
@@ -182,14 +186,14 @@ impl Store {
         Ok(())
     }
 
-    fn find(&self, alloc: Global, n: u32, pred: &Pred) -> Result<Rows, NoMemory>
+    fn find(&self, alloc: Global, n: u32, pred: &Pred) -> Result<Rows, Refused>
         requires { Admitted pred.now (rows_at (database_at self.now n) pred.now.table) }
-        ensures { IfOk result (λ rows. rows ≡ found_by pred.now (database_at self.now n)) }
+        ensures found { IfOk result (λ rows. rows ≡ found_by pred.now (database_at self.now n)) }
+        ensures memory { IfErr result (λ e. e ≡ Wanting) }
     {
-        match self.tables.get(pred.table as usize) {
-            Some(table) => find(alloc, table, n, pred),
-            None => Ok(Rows::new(alloc)),
-        }
+        let mut tables = TablesView::new(self.tables.as_slice(), n);
+        let mut view = IndexView::new(self.index.entries(), &mut tables);
+        view.rows(alloc, pred)
     }
 
     fn find_foremost<K: KeySet>(
@@ -199,14 +203,14 @@ impl Store {
         pred: &Pred,
         direction: Direction,
         passed: &K,
-    ) -> Result<Option<Keyed>, NoMemory>
+    ) -> Result<Option<Keyed>, Refused>
         requires { Admitted pred.now (rows_at (database_at self.now n) pred.now.table) }
-        ensures { IfOk result (λ row. row ≡ foremost direction (outside (K.has passed.now) (found_by pred.now (database_at self.now n)))) }
+        ensures found { IfOk result (λ row. row ≡ foremost direction (outside (K.has passed.now) (found_by pred.now (database_at self.now n)))) }
+        ensures memory { IfErr result (λ e. e ≡ Wanting) }
     {
-        match self.tables.get(pred.table as usize) {
-            Some(table) => find_foremost(alloc, table, n, pred, direction, passed),
-            None => Ok(None),
-        }
+        let mut tables = TablesView::new(self.tables.as_slice(), n);
+        let mut view = IndexView::new(self.index.entries(), &mut tables);
+        view.foremost(alloc, pred, direction, passed)
     }
 
     fn find_match(
@@ -215,22 +219,20 @@ impl Store {
         n: u32,
         pred: &Pred,
         key: &Key,
-    ) -> Result<Option<Row>, NoMemory>
-        ensures { IfOk result (λ row. row ≡ matched pred.now (row_of (rows_at (database_at self.now n) pred.now.table) key.now)) }
+    ) -> Result<Option<Row>, Refused>
+        ensures found { IfOk result (λ row. row ≡ matched pred.now (row_of (rows_at (database_at self.now n) pred.now.table) key.now)) }
+        ensures memory { IfErr result (λ e. e ≡ Wanting) }
     {
-        match self.tables.get(pred.table as usize) {
-            Some(table) => find_match(alloc, table, n, pred, key),
-            None => Ok(None),
-        }
+        let mut tables = TablesView::new(self.tables.as_slice(), n);
+        tables.match_under(alloc, pred, key)
     }
 
-    fn find_row(&self, alloc: Global, n: u32, table: u8, key: &Key) -> Result<Option<Row>, NoMemory>
-        ensures { IfOk result (λ row. row ≡ row_of (rows_at (database_at self.now n) table) key.now) }
+    fn find_row(&self, alloc: Global, n: u32, table: u8, key: &Key) -> Result<Option<Row>, Refused>
+        ensures found { IfOk result (λ row. row ≡ row_of (rows_at (database_at self.now n) table) key.now) }
+        ensures memory { IfErr result (λ e. e ≡ Wanting) }
     {
-        match self.tables.get(table as usize) {
-            Some(table) => find_row(alloc, table, n, key),
-            None => Ok(None),
-        }
+        let mut tables = TablesView::new(self.tables.as_slice(), n);
+        tables.row(alloc, table, key)
     }
 
     /// Adds a write of a call, after the call's earlier ones. No read sees it until it is stamped. A write to a table
@@ -247,6 +249,7 @@ impl Store {
         put_write(
             alloc,
             &mut self.tables[at],
+            &mut self.index,
             &mut self.table_keys,
             call,
             write,
@@ -275,7 +278,8 @@ impl Store {
         ensures { HasStamped call n self.old self.new }
     {
         let noted = self.table_keys.of_call(call);
-        settle_noted(&mut self.tables, noted, call, Fate::Commit(n));
+        let fate = Fate::Commit(n);
+        settle_noted(&mut self.tables, &mut self.index, noted, call, fate);
         self.table_keys.commit(call, n);
         self.last = n;
     }
@@ -285,7 +289,7 @@ impl Store {
         ensures { HasDropped call self.old self.new }
     {
         let noted = self.table_keys.of_call(call);
-        settle_noted(&mut self.tables, noted, call, Fate::Gone);
+        settle_noted(&mut self.tables, &mut self.index, noted, call, Fate::Gone);
         self.table_keys.forget(call);
     }
 
@@ -297,7 +301,7 @@ impl Store {
         requires { self.old.low ≤ low }
         ensures { HasRaised low self.old self.new }
     {
-        collect_all(&mut self.tables, &mut self.table_keys, low);
+        collect_all(&mut self.tables, &mut self.index, &mut self.table_keys, low);
         self.low = low;
     }
 }

@@ -6,6 +6,7 @@ use Rattle.mv_store.proofs.change.change_all.Goals as goal
 pub loop-table_key-init : goal.loop-table_key-init
 loop-table_key-init c = record {
   versions = done_none (after_change c.args.to) c.args.tables.now.items;
+  index = λ is. is;
   rows = λ t key. rows_same c.args.to (versions_at c.args.tables.now.items t key) (versions_at c.args.tables.now.items t key) refl;
 }
 
@@ -24,6 +25,7 @@ loop-table_key-preserved c =
     let new = c.change_at.new.tables.items in
     record {
       versions = done_one (after_change c.args.to) c.args.table_keys.now c.loop-table_key.table_key-index s old now new c.loop-table_key-test.true c.table_key-item.is c.loop-table_key.invariant.versions c.change_at.ensures.versions;
+      index = λ is. c.change_at.ensures.index (c.loop-table_key.invariant.index is);
       rows = λ t key.
           rows_then c.args.to (versions_at old t key) (versions_at now t key) (versions_at new t key) (c.loop-table_key.invariant.rows t key)
           (rows_changed c.args.to s.table s.key now new c.change_at.ensures.versions c.change_at.ensures.rows t key);

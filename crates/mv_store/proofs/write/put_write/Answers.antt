@@ -1,39 +1,24 @@
-use Rattle.std.proofs.Common.{sym, ap, subst, ◌∙◌, Some}
-use Rattle.std.proofs.lemmas.Result.{on_ok_weaker, on_err_weaker}
-use Rattle.std.specs.Option.{OnSome}
-use Rattle.mv_table.specs.Lending.{HasItem}
-use Rattle.mv_chain.specs.Versions.{is_blank, with_patch}
-use Rattle.mv_store.proofs.Done.{changed_there, changed_new}
-use Rattle.mv_store.proofs.Filled.{put_under, patch_fills, filled_but, filled_by, filled_put}
+use Rattle.mv_store.proofs.Putting.{done_index, done_elsewhere, failed_index, failed_elsewhere}
 use Rattle.mv_store.proofs.write.put_write.Goals as goal
 
-lent : (c : goal.After-table-in-Some-1) → HasItem c.args.write.now.key c.put_patch.new.chain c.args.table.now (c.get_mut.follows.lender c.put_patch.new.chain)
-lent c = subst (λ o. OnSome o (HasItem c.args.write.now.key c.put_patch.new.chain c.args.table.now (c.get_mut.follows.lender c.put_patch.new.chain))) c.in-Some.is (c.get_mut.follows.holds c.put_patch.new.chain)
-
-pub returns-in-Some-clause-ok : goal.returns-in-Some-clause-ok
-returns-in-Some-clause-ok c =
-    on_ok_weaker c.put_patch.result (λ e.
-    changed_there c.args.write.now.key (with_patch c.args.call c.args.write.now.patch) c.in-Some.chain.now c.put_patch.new.chain c.args.table.now (c.get_mut.follows.lender c.put_patch.new.chain) (sym c.in-Some.ensures.item) e (lent c)) c.put_patch.ensures.ok
-
-pub returns-in-Some-clause-err : goal.returns-in-Some-clause-err
-returns-in-Some-clause-err c =
-    on_err_weaker c.put_patch.result (λ e.
-    changed_there c.args.write.now.key (λ v. v) c.in-Some.chain.now c.put_patch.new.chain c.args.table.now (c.get_mut.follows.lender c.put_patch.new.chain) (sym c.in-Some.ensures.item) e (lent c)) c.put_patch.ensures.err
-
-pub returns-clause-ok : goal.returns-clause-ok
-returns-clause-ok c =
-    let f = with_patch c.args.call c.args.write.now.patch in
-    changed_new c.args.write.now.key f c.put_patch-2.new.chain c.args.table.now c.put.new.self (sym c.in_default.ensures.item) (c.in_ok-put_patch.ensures.ok ∙ ap f c.new-chain.ensures)
-    (put_under c.args.write.now.key c.in_ok-key.key c.put_patch-2.new.chain c.args.table.now c.get_mut.follows.lender-at-none c.put.new.self c.get_mut.follows.holds-at-none c.in_ok-key.ensures c.in_ok-put.ensures.at)
-    c.in_ok-put.ensures.rising
-
-pub returns-in-Some-clause-filled : goal.returns-in-Some-clause-filled
-returns-in-Some-clause-filled c =
+pub returns-in-Ok-clause-index : goal.returns-in-Ok-clause-index
+returns-in-Ok-clause-index c =
     let w = c.args.write.now in
-    filled_put c.put_patch.result c.args.call w.patch w.key c.in-Some.chain.now c.put_patch.new.chain c.args.table.now (c.get_mut.follows.lender c.put_patch.new.chain) (sym c.in-Some.ensures.item) c.put_patch.ensures.ok c.put_patch.ensures.err (lent c)
+    done_index w.table w.key c.args.call w.patch c.in-Ok.earlier c.args.table.now c.note_and_put.new.table c.args.index.now c.note_and_put.new.index c.forget_replaced.new.index c.note_and_put.ensures.some (rw c.as_ref.ensures.value at c.forget_replaced.ensures) c.in-Ok.ensures.earlier
+    c.in-Ok.ensures.ok c.in-Ok.ensures.all
 
-pub returns-clause-filled : goal.returns-clause-filled
-returns-clause-filled c =
+pub returns-in-Ok-clause-elsewhere : goal.returns-in-Ok-clause-elsewhere
+returns-in-Ok-clause-elsewhere c =
     let w = c.args.write.now in
-    λ f.
-    filled_by w.key (Some c.put_patch-2.new.chain) c.args.table.now c.put.new.self (put_under w.key c.in_ok-key.key c.put_patch-2.new.chain c.args.table.now c.get_mut.follows.lender-at-none c.put.new.self c.get_mut.follows.holds-at-none c.in_ok-key.ensures c.in_ok-put.ensures.at) (ap is_blank c.in_ok-put_patch.ensures.ok ∙ patch_fills c.args.call w.patch c.new-chain.result) (filled_but w.key c.args.table.now f)
+    done_elsewhere w.table w.key c.args.call w.patch c.in-Ok.earlier c.args.table.now c.note_and_put.new.table c.args.index.now c.note_and_put.new.index c.forget_replaced.new.index c.note_and_put.ensures.some (rw c.as_ref.ensures.value at c.forget_replaced.ensures) c.in-Ok.ensures.earlier
+    c.in-Ok.ensures.ok
+
+pub returns-in-Err-clause-index : goal.returns-in-Err-clause-index
+returns-in-Err-clause-index c =
+    let w = c.args.write.now in
+    failed_index w.table w.key c.args.call w.patch c.args.table.now c.note_and_put.new.table c.args.index.now c.note_and_put.new.index c.forget_unused.new.index c.note_and_put.ensures.some c.forget_unused.ensures c.in-Err.ensures.err
+
+pub returns-in-Err-clause-elsewhere : goal.returns-in-Err-clause-elsewhere
+returns-in-Err-clause-elsewhere c =
+    let w = c.args.write.now in
+    failed_elsewhere w.table w.key c.args.call w.patch c.args.table.now c.note_and_put.new.table c.args.index.now c.note_and_put.new.index c.forget_unused.new.index c.note_and_put.ensures.some c.forget_unused.ensures

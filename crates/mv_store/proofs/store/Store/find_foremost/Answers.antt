@@ -1,27 +1,46 @@
-use Rattle.std.proofs.Common.{◌≡◌, sym, ap, subst, ◌∙◌, rules}
+use Rattle.std.proofs.Common.{◌≡◌, ◌∙◌, sym, ap, subst, map}
 use Rattle.std.specs.Prelude.{IfOk}
+use Rattle.mv_values.specs.Patching.{found_by}
 use Rattle.mv_values.specs.Tables.{rows_at}
-use Rattle.mv_record.specs.Admitting.{Admitted}
 use Rattle.mv_table.specs.Scans.{foremost}
-use Rattle.mv_table.proofs.Scanning.{foremost_none}
-use Rattle.mv_view.specs.Narrowing.{matching, outside}
+use Rattle.mv_record.specs.Admitting.{Admitted}
+use Rattle.mv_record.specs.Writes.{AreRising}
+use Rattle.mv_view.specs.Narrowing.{outside}
+use Rattle.mv_index.specs.Indexing.{Covers}
+use Rattle.mv_index.specs.Asking.{sight_of}
 use Rattle.mv_store.specs.Stored.{database_at, table_at}
-use Rattle.mv_store.proofs.Rows.{table_there, no_table}
+use Rattle.mv_store.specs.Kept.{AllRise}
+use Rattle.mv_store.specs.Indexed.{IsIndexOf}
+use Rattle.mv_store.proofs.Keys.{rows_rise}
+use Rattle.mv_store.proofs.Covered.{covers_from, never_stale}
 use Rattle.mv_store.proofs.store.Store.find_foremost.Goals as goal
 
-pub find_foremost-requires : goal.find_foremost-requires
-find_foremost-requires g c =
-    let is : table_at c.args.n c.in-Some.table.now ≡ rows_at (database_at c.args.self.now c.args.n) c.args.pred.now.table =
-    table_there c.args.n c.self.inside.tables.items c.args.pred.now.table c.in-Some.table.now (search rules) (search rules) ∙ ap (λ v. rows_at (database_at v c.args.n) c.args.pred.now.table) c.self.view_is in
-    subst (Admitted c.args.pred.now) (sym is) c.requires
+pub new-tables-requires : goal.new-tables-requires
+new-tables-requires g c = subst AllRise (sym c.as_slice.ensures.value) c.self.invariant.0.rising
 
-pub returns-in-Some : goal.returns-in-Some
-returns-in-Some g c =
-    let is : table_at c.args.n c.in-Some.table.now ≡ rows_at (database_at c.args.self.now c.args.n) c.args.pred.now.table =
-    table_there c.args.n c.self.inside.tables.items c.args.pred.now.table c.in-Some.table.now (search rules) (search rules) ∙ ap (λ v. rows_at (database_at v c.args.n) c.args.pred.now.table) c.self.view_is in
-    subst (λ all. IfOk c.find_foremost.result (λ row. row ≡ foremost c.args.direction (outside (g.K.KeySet.has c.args.passed.now) (matching c.args.pred.now all)))) is c.find_foremost.ensures
+pub new-view-requires-clause-covers : goal.new-view-requires-clause-covers
+new-view-requires-clause-covers g c =
+    let rise : AllRise c.as_slice.result.now = subst AllRise (sym c.as_slice.ensures.value) c.self.invariant.0.rising in
+    let is : IsIndexOf c.as_slice.result.now c.entries.result.now = rw (c.as_slice.ensures.value, c.entries.ensures) c.self.invariant.1 in
+    subst (λ s. Covers c.entries.result.now s.database) (sym c.new-tables.ensures) (covers_from c.args.n c.as_slice.result.now c.entries.result.now rise is)
 
-pub returns-in-None : goal.returns-in-None
-returns-in-None g c =
-    sym (foremost_none c.args.direction)
-    ∙ ap (λ all. foremost c.args.direction (outside (g.K.KeySet.has c.args.passed.now) (matching c.args.pred.now all))) (sym (no_table c.args.n c.self.inside.tables.items c.args.pred.now.table (search rules)) ∙ ap (λ v. rows_at (database_at v c.args.n) c.args.pred.now.table) c.self.view_is)
+pub new-view-requires-clause-rising : goal.new-view-requires-clause-rising
+new-view-requires-clause-rising g c =
+    let rise : AllRise c.as_slice.result.now = subst AllRise (sym c.as_slice.ensures.value) c.self.invariant.0.rising in
+    subst (λ s. AreRising s.database) (sym c.new-tables.ensures) (rows_rise c.args.n c.as_slice.result.now rise)
+
+pub foremost-requires : goal.foremost-requires
+foremost-requires g c =
+    let db : c.new-view.result.inner.database ≡ database_at c.args.self.now c.args.n =
+    ap (λ v. v.inner.database) c.new-view.ensures ∙ (ap (λ s. s.database) c.new-tables.ensures ∙ (ap (map (table_at c.args.n)) c.as_slice.ensures.value ∙ ap (λ v. database_at v c.args.n) c.self.view_is)) in
+    subst (λ db. Admitted c.args.pred.now (rows_at db c.args.pred.now.table)) (sym db) c.requires
+
+pub returns-clause-found : goal.returns-clause-found
+returns-clause-found g c =
+    let db : c.new-view.result.inner.database ≡ database_at c.args.self.now c.args.n =
+    ap (λ v. v.inner.database) c.new-view.ensures ∙ (ap (λ s. s.database) c.new-tables.ensures ∙ (ap (map (table_at c.args.n)) c.as_slice.ensures.value ∙ ap (λ v. database_at v c.args.n) c.self.view_is)) in
+    subst (λ db. IfOk c.foremost.result (λ row. row ≡ foremost c.args.direction (outside (g.K.KeySet.has c.args.passed.now) (found_by c.args.pred.now db)))) db c.foremost.ensures.found
+
+pub returns-clause-memory : goal.returns-clause-memory
+returns-clause-memory g c =
+    never_stale (sight_of c.new-view.result) (sight_of c.foremost.new.self) c.foremost.result (ap (λ v. v.inner.may_be_stale) c.new-view.ensures ∙ ap (λ s. s.may_be_stale) c.new-tables.ensures) c.foremost.ensures.stale

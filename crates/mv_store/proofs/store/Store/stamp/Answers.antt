@@ -11,18 +11,18 @@ below : (c : goal.After-self-1) → c.self.inside.last < c.args.n
 below c = subst (λ v. v.last < c.args.n) (sym c.self.view_is) c.requires
 
 pub settle_noted-requires : goal.settle_noted-requires
-settle_noted-requires c = may_commit c.args.call c.args.n c.self.inside.last c.self.inside.tables.items c.self.invariant.numbers (subst (λ v. v.last < c.args.n) (sym c.self.view_is) c.requires)
+settle_noted-requires c = may_commit c.args.call c.args.n c.self.inside.last c.self.inside.tables.items c.self.invariant.0.numbers (subst (λ v. v.last < c.args.n) (sym c.self.view_is) c.requires)
 
 changed : (c : goal.After-self-1) → AllChanged (settled (Commit c.args.n) c.args.call) c.self.inside.tables.items c.settle_noted.new.tables.items
-changed c = all_settled (Commit c.args.n) c.args.call c.self.inside.table_keys _ c.self.inside.tables.items c.settle_noted.new.tables.items c.self.invariant.covered (ap table_keys_in c.of_call-noted.ensures) c.settle_noted.ensures
+changed c = all_settled (Commit c.args.n) c.args.call c.self.inside.table_keys _ c.self.inside.tables.items c.settle_noted.new.tables.items c.self.invariant.0.covered (ap table_keys_in c.of_call-noted.ensures) c.settle_noted.ensures.versions
 
 pub invariant_of-self : goal.invariant_of-self
 invariant_of-self c =
-    stamped_kept c.args.call c.args.n c.self.inside.last c.self.inside.tables.items c.settle_noted.new.tables.items c.self.inside.table_keys c.commit.new.self c.self.invariant (below c) (changed c) c.commit.ensures.calls c.commit.ensures.commits
+    (stamped_kept c.args.call c.args.n c.self.inside.last c.self.inside.tables.items c.settle_noted.new.tables.items c.self.inside.table_keys c.commit.new.self c.self.invariant.0 (below c) (changed c) c.commit.ensures.calls c.commit.ensures.commits, c.settle_noted.ensures.index c.self.invariant.1)
 
 pub returns : goal.returns
 returns c =
     let old : Versioned = record { tables = c.self.inside.tables.items; last = c.self.inside.last; low = c.self.inside.low } in
     let new : Versioned = record { tables = c.settle_noted.new.tables.items; last = c.args.n; low = c.self.inside.low } in
     subst (λ v. HasStamped c.args.call c.args.n v new) c.self.view_is
-    (all_stamped c.args.call c.args.n old new c.self.invariant.rising c.self.invariant.numbers (below c) (changed c) refl refl)
+    (all_stamped c.args.call c.args.n old new c.self.invariant.0.rising c.self.invariant.0.numbers (below c) (changed c) refl refl)
