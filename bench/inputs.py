@@ -190,6 +190,50 @@ def loops(calls):
     return {"loop": loop_with("", calls), **scripts}
 
 
+# Indexes: rows of which three share a value.
+
+SHARED = 3
+INDEXED = "CREATE TABLE t (id INT, a INT, b INT, v INT, PRIMARY KEY (id));\n"
+
+
+def tested(columns):
+    """A procedure that tests these columns by `=` and is never called. So they are indexed."""
+    tests = " AND ".join(f"{column} = 0" for column in columns)
+    return [f"CREATE PROCEDURE never () BEGIN DELETE FROM t WHERE {tests}; END;\n"] if columns else []
+
+
+def indexed_rows(count):
+    return block("t", ((number, number // SHARED, number // SHARED, 0) for number in range(count)))
+
+
+def indexed_loop(text, columns, rows, calls, first):
+    """Calls that execute a text in each of 50 turns, on rows with indexes of these columns. A turn has the next number
+    from `first` on, or one of the numbers of rows."""
+    procedure = f"""CREATE PROCEDURE p (:rows ROWS (i INT)) DECLARE :k = 0; DECLARE :x = 0; BEGIN
+  FOR :r IN :rows DO SET :k = :r.i; {text}END FOR;
+END;
+"""
+    number = lambda turn: first + turn if first else 7919 * turn % rows
+    call = lambda at: f"p({rows_of(number(at * TURNS + turn) for turn in range(TURNS))})"
+    return [INDEXED, procedure, *tested(columns), *indexed_rows(rows)], repeated(calls, call)
+
+
+def of_indexes(rows, calls):
+    """The scripts by what they do: look-ups, insertions and updates."""
+    script = lambda text, columns="", first=0: indexed_loop(text, columns, rows, calls, first)
+    insert = "INSERT INTO t VALUES (:k, :k, :k, 0); "
+    update = "UPDATE t SET v = 1 WHERE id = :k; "
+    return {
+        "loop": script(""),
+        "look-up by the key": script("SELECT SUM(v) INTO :x FROM t WHERE id = :k; "),
+        f"look-up of {SHARED} rows by an index": script(f"SELECT SUM(v) INTO :x FROM t WHERE a = :k / {SHARED}; ", "a"),
+        "INSERT": script(insert, "", rows),
+        "INSERT with two indexes": script(insert, "ab", rows),
+        "UPDATE": script(update),
+        "UPDATE beside two indexes": script(update, "ab"),
+    }
+
+
 def empty_calls(count):
     return ["CREATE PROCEDURE p () BEGIN END;\n"], repeated(count, lambda _: "p()")
 

@@ -555,6 +555,26 @@ def rows(bench):
     show("Rows of two numbers, read and written", header, shown)
 
 
+def indexes(bench):
+    calls, count = bench.size(2000), bench.size(100_000)
+    taken = bench.costs(inputs.of_indexes(count, calls), ("run",), bench.more_rounds)
+    time = {name: each.less(taken["loop"]).processor / (calls * inputs.TURNS) for name, each in taken.items()}
+    names = [name for name in time if name != "loop"]
+    shown = []
+    for plain, other in zip(names[::2], names[1::2]):
+        shown.append([plain, f"{1e6 * time[plain]:.2f}", "1.00"])
+        shown.append([other, f"{1e6 * time[other]:.2f}", ratio(time[other], time[plain])])
+    show(f"Indexes, on {rate(count)} rows, by `run`", ["what", "microseconds", "of the first"], shown)
+    scripts = {columns: (inputs.INDEXED, inputs.tested(columns), inputs.indexed_rows(count)) for columns in ("", "a", "ab")}
+    runs = {columns: bench.run(("run",), bench.write(f"indexes-{columns}", *parts)) for columns, parts in scripts.items()}
+    memory = {columns: each.memory for columns, each in medians(runs, bench.rounds).items()}
+    shown = [["0", megabytes(memory[""]), ""]]
+    for columns in ("a", "ab"):
+        added = 1024 * (memory[columns] - memory[""]) / (count * len(columns))
+        shown.append([str(len(columns)), megabytes(memory[columns]), rate(added)])
+    show("Memory of indexes", ["indexes", "MB", "bytes a row and index"], shown)
+
+
 def series(words, taken):
     """Rows for counts that grow. Growth is the seconds over those of the first count, and `of linear` is growth over
     that of the count. The bytes are those that each over the first count adds to the peak."""
@@ -584,6 +604,7 @@ PARTS = {
     "readers": readers,
     "collection": collection,
     "rows": rows,
+    "indexes": indexes,
     "sqlite": sqlite.part,
 }
 NEEDS = {  # what a part needs of the bench
