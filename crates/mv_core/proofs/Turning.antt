@@ -1,5 +1,5 @@
 -- Whole runs: the calls in turn, or a journal.
-use Rattle.std.proofs.Common.{◌≡◌, ◌≤◌, ◌⊎◌, inl, inr, ℕ, suc, ◌+◌, Bool, true, false, List, [], ◌∷◌, ◌++◌, Option, Some, None, Ok, length, drop, refl, sym, ap, subst, ◌∙◌, arith, append_assoc, append-nil, length-append, rules}
+use Rattle.std.proofs.Common.{◌≡◌, ◌≤◌, ◌⊎◌, inl, inr, ℕ, suc, ◌+◌, Bool, true, false, List, [], ◌∷◌, ◌++◌, Option, Some, None, Ok, Err, length, drop, refl, sym, ap, subst, ◌∙◌, arith, append_assoc, append-nil, length-append, rules}
 use Rattle.std.specs.Prelude.{slice_get}
 use Rattle.std.specs.Option.{option_map}
 use Rattle.std.proofs.lemmas.Grind.{flat_map-append}
@@ -28,7 +28,9 @@ use Rattle.mv_script.specs.declared.script.Script.{Script}
 use Rattle.mv_script.specs.Scripts.{work_of}
 use Rattle.mv_core.specs.Calls.{IsLive, IsLiveCall}
 use Rattle.mv_core.specs.Books.{Booked, work_in, Made, IsSame}
-use Rattle.mv_core.specs.Drives.{HasMade, HasTurned, Driven, HasReplayed}
+use Rattle.mv_core.specs.declared.drive.DriveFault.{DriveFault}
+use Rattle.mv_core.specs.declared.drive.DriveFault.TheVariants as fault
+use Rattle.mv_core.specs.Drives.{HasMade, HasTurned, Driven, Stops, HasReplayed}
 use Rattle.mv_core.specs.Cores.{HasTried, HasTriedToEnd, IsStaleAt, IsHitAt}
 use Rattle.mv_core.proofs.Journals.{get_last, live_at}
 use Rattle.mv_core.proofs.Lows.{low_within}
@@ -272,3 +274,9 @@ replayed_outcome s es old new o script course journal h is = (
   ap (λ (x : Script). wrong_from (work_of x) 1 beginning es) (sym script) ∙ (ap (λ c. wrong_from (work_in old) 1 c es) (sym course) ∙ h.0),
   is ∙ (ap (λ x. outcome_of (work_of x) new.journal) (h.1.script ∙ script) ∙ ap (outcome_of (work_of s)) (h.1.journal ∙ ap (λ xs. xs ++ es) journal)),
 )
+
+-- the first fault of a journal
+pub replay_stops : (s : Script) (es : List Event) (old new : Booked) (f : DriveFault) → old.script ≡ s → old.course ≡ beginning → Stops es old new f → HasReplayed (work_of s) es (Err f)
+replay_stops s es old new (fault.Refused n r) script course h = ap (λ (x : Script). wrong_from (work_of x) 1 beginning es) (sym script) ∙ (ap (λ c. wrong_from (work_in old) 1 c es) (sym course) ∙ h.0)
+replay_stops s es old new (fault.Open call) script course h = ap (λ (x : Script). wrong_from (work_of x) 1 beginning es) (sym script) ∙ (ap (λ c. wrong_from (work_in old) 1 c es) (sym course) ∙ h.0)
+replay_stops s es old new fault.NoMemory script course h = tt

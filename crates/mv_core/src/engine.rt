@@ -29,6 +29,7 @@ use mv_exec::task::Task;
 use mv_journal::event::Event;
 use mv_journal::outcome::{Outcome, Round};
 use mv_log::records::Records;
+use mv_script::columns::indexed_columns;
 use mv_script::script::Script;
 use mv_store::store::Store;
 use mv_store::view::StoreView;
@@ -88,7 +89,8 @@ impl Core {
         ensures journal { IfOk result (λ core. core.book.journal ≡ []) }
         ensures tasks { IfOk result (λ core. core.tasks ≡ []) }
     {
-        let store = Store::new(alloc, &script.opening)?;
+        let columns = indexed_columns(alloc, &script)?;
+        let store = Store::new(alloc, &script.opening, &columns)?;
         let script = SharedScript::new(alloc, script)?;
         Ok(Core {
             book: Book::new(alloc, script),

@@ -19,6 +19,7 @@ use mv_core::shared::SharedScript;
 use mv_core::spare::Spare;
 use mv_edge::pace::{Moment, Pace, Point};
 use mv_journal::outcome::Outcome;
+use mv_script::columns::indexed_columns;
 use mv_script::script::Script;
 use mv_seats::board::{Blank, Board, Making};
 use mv_seats::pass::Pass;
@@ -78,7 +79,8 @@ impl<N: Making> Gate<N> {
     {
         let (board, mut pass) = blank.open::<N>();
         let horizon = script.options.horizon;
-        let shards = Shards::new(alloc, &script.opening, horizon, &board, &mut pass)?;
+        let columns = indexed_columns(alloc, &script)?;
+        let shards = Shards::new(alloc, &script.opening, horizon, &board, &mut pass, &columns)?;
         let script = SharedScript::new(alloc, script)?;
         let mut desk = Desk::new(alloc, script.share()?, pass)?;
         let pass = desk.pass_for(&board);

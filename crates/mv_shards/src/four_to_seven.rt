@@ -8,10 +8,12 @@ use mv_seats::board::{Board, Making};
 use mv_seats::pass::Pass;
 use mv_table::scan::Direction;
 use mv_table::table::Table;
+use mv_values::list::List;
 use mv_values::memory::NoMemory;
 use mv_values::patch::Write;
 use mv_values::pred::Pred;
 use mv_values::rows::{Database, Keyed, Rows};
+use mv_values::tested::Tested;
 use mv_values::value::{Key, Row};
 use mv_view::key_set::KeySet;
 use mv_view::view::Refused;
@@ -33,21 +35,24 @@ impl<N: Making> FourToSeven<N> {
         horizon: Option<u32>,
         board: &Board<N>,
         pass: &mut Pass<N>,
+        columns: &List<Tested>,
     ) -> Result<FourToSeven<N>, NoMemory>
         requires may { MayMake N.script opening.now horizon pass.old }
         requires none { pass.old.handed ≡ [] }
         ensures handed { OnOk result (pass.new.handed ≡ 4 ∷ 5 ∷ 6 ∷ 7 ∷ []) }
         ensures next { OnOk result (MayMake N.script opening.now horizon pass.new) }
     {
-        let seventh = make_node::<N, 7, ListEnd>(alloc, opening, horizon, board, pass, ListEnd)?;
+        let seventh = make_node::<N, 7, ListEnd>(
+            alloc, opening, horizon, board, pass, columns, ListEnd,
+        )?;
         let sixth = make_node::<N, 6, ShardNode<N, 7, ListEnd>>(
-            alloc, opening, horizon, board, pass, seventh,
+            alloc, opening, horizon, board, pass, columns, seventh,
         )?;
         let fifth = make_node::<N, 5, ShardNode<N, 6, ShardNode<N, 7, ListEnd>>>(
-            alloc, opening, horizon, board, pass, sixth,
+            alloc, opening, horizon, board, pass, columns, sixth,
         )?;
         let list = make_node::<N, 4, ShardNode<N, 5, ShardNode<N, 6, ShardNode<N, 7, ListEnd>>>>(
-            alloc, opening, horizon, board, pass, fifth,
+            alloc, opening, horizon, board, pass, columns, fifth,
         )?;
         Ok(FourToSeven { list })
     }

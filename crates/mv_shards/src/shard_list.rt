@@ -24,10 +24,12 @@ use mv_seats::board::{Board, Making};
 use mv_seats::pass::Pass;
 use mv_table::scan::Direction;
 use mv_table::table::Table;
+use mv_values::list::List;
 use mv_values::memory::NoMemory;
 use mv_values::patch::Write;
 use mv_values::pred::Pred;
 use mv_values::rows::{Database, Keyed, Rows};
+use mv_values::tested::Tested;
 use mv_values::value::{Key, Row};
 use mv_view::key_set::KeySet;
 use mv_view::view::Refused;
@@ -171,6 +173,7 @@ pub(crate) fn make_node<N: Making, const Q: u32, L: ShardList<N>>(
     horizon: Option<u32>,
     board: &Board<N>,
     pass: &mut Pass<N>,
+    columns: &List<Tested>,
     rest: L,
 ) -> Result<ShardNode<N, Q, L>, NoMemory>
     requires may { MayMake N.script opening.now horizon pass.old }
@@ -179,7 +182,7 @@ pub(crate) fn make_node<N: Making, const Q: u32, L: ShardList<N>>(
     ensures handed { OnOk result (pass.new ≡ handing pass.old Q) }
     ensures next { OnOk result (MayMake N.script opening.now horizon pass.new) }
 {
-    let store = ShardStore::<N, Q>::new(alloc, opening, horizon, board, pass)?;
+    let store = ShardStore::<N, Q>::new(alloc, opening, horizon, board, pass, columns)?;
     Ok(ShardNode {
         store: Mutex::new(store),
         rest,

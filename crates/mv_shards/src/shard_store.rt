@@ -24,10 +24,12 @@ use mv_seats::board::{Board, Making};
 use mv_seats::pass::Pass;
 use mv_store::store::Store;
 use mv_table::scan::Direction;
+use mv_values::list::List;
 use mv_values::memory::NoMemory;
 use mv_values::patch::Write;
 use mv_values::pred::Pred;
 use mv_values::rows::{Database, Keyed, Rows};
+use mv_values::tested::Tested;
 use mv_values::value::{Key, Row};
 use mv_view::key_set::KeySet;
 use mv_view::view::Refused;
@@ -92,6 +94,7 @@ impl<N: Making, const Q: u32> ShardStore<N, Q> {
         horizon: Option<u32>,
         board: &Board<N>,
         pass: &mut Pass<N>,
+        columns: &List<Tested>,
     ) -> Result<ShardStore<N, Q>, NoMemory>
         requires may { MayMake N.script opening.now horizon pass.old }
         requires there { Q < 8 }
@@ -100,7 +103,7 @@ impl<N: Making, const Q: u32> ShardStore<N, Q> {
         ensures next { OnOk result (MayMake N.script opening.now horizon pass.new) }
     {
         let part = part_of(alloc, Q, opening)?;
-        let store = Store::new(alloc, &part)?;
+        let store = Store::new(alloc, &part, columns)?;
         let pass = pass.hand(board, Q);
         Ok(ShardStore {
             store,

@@ -29,6 +29,7 @@ use mv_values::memory::NoMemory;
 use mv_values::patch::Write;
 use mv_values::pred::Pred;
 use mv_values::rows::{Database, Keyed, Rows};
+use mv_values::tested::Tested;
 use mv_values::value::{Key, Row};
 use mv_view::key_set::KeySet;
 use mv_view::view::Refused;
@@ -51,6 +52,7 @@ impl<N: Making> Shards<N> {
         horizon: Option<u32>,
         board: &Board<N>,
         pass: &mut Pass<N>,
+        columns: &List<Tested>,
     ) -> Result<Shards<N>, NoMemory>
         requires script { IsScript (script_in N.script) }
         requires shards { N.script.shards ≡ 8 }
@@ -61,10 +63,12 @@ impl<N: Making> Shards<N> {
         ensures seen { OnOk result (pass.new.seen ≡ []) }
         ensures marks { OnOk result (pass.new.marks ≡ []) }
     {
-        let rest = TwoToSeven::<N>::new(alloc, opening, horizon, board, pass)?;
-        let first = make_node::<N, 1, TwoToSeven<N>>(alloc, opening, horizon, board, pass, rest)?;
+        let rest = TwoToSeven::<N>::new(alloc, opening, horizon, board, pass, columns)?;
+        let first = make_node::<N, 1, TwoToSeven<N>>(
+            alloc, opening, horizon, board, pass, columns, rest,
+        )?;
         let list = make_node::<N, 0, ShardNode<N, 1, TwoToSeven<N>>>(
-            alloc, opening, horizon, board, pass, first,
+            alloc, opening, horizon, board, pass, columns, first,
         )?;
         Ok(Shards { list })
     }

@@ -9,10 +9,12 @@ use mv_seats::board::{Board, Making};
 use mv_seats::pass::Pass;
 use mv_table::scan::Direction;
 use mv_table::table::Table;
+use mv_values::list::List;
 use mv_values::memory::NoMemory;
 use mv_values::patch::Write;
 use mv_values::pred::Pred;
 use mv_values::rows::{Database, Keyed, Rows};
+use mv_values::tested::Tested;
 use mv_values::value::{Key, Row};
 use mv_view::key_set::KeySet;
 use mv_view::view::Refused;
@@ -34,16 +36,19 @@ impl<N: Making> TwoToSeven<N> {
         horizon: Option<u32>,
         board: &Board<N>,
         pass: &mut Pass<N>,
+        columns: &List<Tested>,
     ) -> Result<TwoToSeven<N>, NoMemory>
         requires may { MayMake N.script opening.now horizon pass.old }
         requires none { pass.old.handed ≡ [] }
         ensures handed { OnOk result (pass.new.handed ≡ 2 ∷ 3 ∷ 4 ∷ 5 ∷ 6 ∷ 7 ∷ []) }
         ensures next { OnOk result (MayMake N.script opening.now horizon pass.new) }
     {
-        let rest = FourToSeven::<N>::new(alloc, opening, horizon, board, pass)?;
-        let third = make_node::<N, 3, FourToSeven<N>>(alloc, opening, horizon, board, pass, rest)?;
+        let rest = FourToSeven::<N>::new(alloc, opening, horizon, board, pass, columns)?;
+        let third = make_node::<N, 3, FourToSeven<N>>(
+            alloc, opening, horizon, board, pass, columns, rest,
+        )?;
         let list = make_node::<N, 2, ShardNode<N, 3, FourToSeven<N>>>(
-            alloc, opening, horizon, board, pass, third,
+            alloc, opening, horizon, board, pass, columns, third,
         )?;
         Ok(TwoToSeven { list })
     }
