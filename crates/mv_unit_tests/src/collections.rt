@@ -4,7 +4,7 @@ ghost use Rattle.std.specs.Prelude.{◌≡◌, ◌≤◌, ◌+◌, ◌∷◌, []
 ghost use Rattle.mv_values.specs.declared.value.Value.{Value as Val};
 
 use crate::changes::three;
-use crate::stores::{look_up, opening};
+use crate::stores::{columns, look_up, opening};
 use crate::values::{key, row};
 use mv_cases::ensure::ensure;
 use mv_changes::recent::Recent;
@@ -53,7 +53,7 @@ fn stamp(store: &mut Store, n: u32) -> Result<(), Fail> {
 /// Returns a store of two tables. Commits 1, 2 and 3 write the row of the first one, and commit 1 deletes that of the
 /// second.
 fn store_of_three(alloc: Global) -> Result<Store, Fail> {
-    let mut store = Store::new(alloc, &opening(alloc)?)?;
+    let mut store = Store::new(alloc, &opening(alloc)?, &columns(alloc)?)?;
     put(alloc, &mut store, 1, 1, Patch::Delete)?;
     for n in 1..=3u32 {
         let patch = Patch::Insert(row(alloc, &[0, 1, n as i64, 0])?);

@@ -13,6 +13,8 @@ mod collections;
 #[cfg(test)]
 mod edges;
 #[cfg(test)]
+mod indexes;
+#[cfg(test)]
 mod journals;
 #[cfg(test)]
 mod keys;
@@ -34,6 +36,8 @@ mod records;
 mod stores;
 #[cfg(test)]
 mod summary;
+#[cfg(test)]
+mod tested;
 #[cfg(test)]
 mod tokens;
 #[cfg(test)]

@@ -224,11 +224,12 @@ fn rows_of(alloc: Global, numbers: Numbers, own: Option<(&Undo, usize)>) -> Resu
     Ok(rows)
 }
 
-fn is_same(item: &Keyed, other: &Keyed) -> bool {
+pub(crate) fn is_same(item: &Keyed, other: &Keyed) -> bool {
     item.key == other.key && are_same(item.row.as_slice(), other.row.as_slice())
 }
 
-fn are_equal(rows: &[Keyed], want: &[Keyed]) -> bool {
+/// Whether two lists have equal rows.
+pub(crate) fn are_equal(rows: &[Keyed], want: &[Keyed]) -> bool {
     rows.len() == want.len()
         && rows
             .iter()

@@ -13,6 +13,7 @@ use crate::values::{key, row};
 use mv_record::applying::apply;
 use mv_store::store::Store;
 use mv_store::view::StoreView;
+use mv_table::scan::Direction;
 use mv_values::copied::Copied;
 use mv_values::list::List;
 use mv_values::memory::NoMemory;
@@ -20,7 +21,9 @@ use mv_values::op::Op;
 use mv_values::patch::{Assign, Patch, Write};
 use mv_values::pred::{Pred, Test};
 use mv_values::rows::{Database, Keyed, Rows};
+use mv_values::tested::Tested;
 use mv_values::value::{Key, Row, Value, are_same};
+use mv_view::key_set::NoKeys;
 use mv_view::view::{Refused, View};
 use rand_core::{Rng, SeedableRng};
 use rand_xoshiro::SplitMix64;
@@ -93,7 +96,7 @@ fn any_patch(
     item: i64,
     random: &mut SplitMix64,
 ) -> Result<Patch, NoMemory> {
-    let number = byte(random) as i64;
+    let number = byte(random) as i64 % 4;
     match byte(random) % 7 {
         0 => Ok(Patch::Delete),
         1 | 2 => Ok(Patch::Insert(row(alloc, &[group, item, number, 0])?)),
@@ -231,9 +234,25 @@ const TESTS: &[&[(u8, Op, i64)]] = &[
     &[(0, Op::Eq, 0), (1, Op::Gt, 0)],
     &[(0, Op::Eq, 1), (1, Op::Eq, 2)],
     &[(0, Op::Le, 0)],
-    &[(2, Op::Ge, 100)],
+    &[(2, Op::Ge, 2)],
     &[(1, Op::Lt, 2), (3, Op::Ne, 0)],
+    &[(1, Op::Eq, 2)],
+    &[(2, Op::Eq, 1)],
+    &[(2, Op::Eq, 1), (3, Op::Eq, 0)],
+    &[(2, Op::Eq, 1), (2, Op::Eq, 3)],
+    &[(3, Op::Eq, 7), (0, Op::Eq, 0)],
+    &[(2, Op::Eq, 3), (1, Op::Ge, 1)],
 ];
+
+/// Returns the columns that are indexed: of the first table the second and two that aren't in the key, of the second
+/// table one.
+pub(crate) fn columns(alloc: Global) -> Result<List<Tested>, NoMemory> {
+    let mut columns = List::new(alloc);
+    for (table, column) in [(0, 1), (0, 2), (0, 3), (1, 2)] {
+        columns.push(Tested { table, column })?;
+    }
+    Ok(columns)
+}
 
 fn admits_match(pred: &Pred, item: &Keyed) -> bool
     ensures { IsTrue result ↔ (IsTrue (matches pred.now item.now.row) → IsTrue (admits pred.now item.now.key)) }
@@ -259,6 +278,30 @@ fn all_rows(alloc: Global, store: &Store, n: u32, table: u8) -> Result<Rows, Ref
     store.rows_at(alloc, n, &pred)
 }
 
+/// Whether this was found: a row, or none.
+fn is_found(found: Result<Option<Keyed>, Refused>, want: Option<&Keyed>) -> bool {
+    match (found, want) {
+        (Ok(Some(found)), Some(want)) => same(&found, want),
+        (Ok(None), None) => true,
+        _ => false,
+    }
+}
+
+/// Whether the first and the last row that a predicate finds after n commits are those of the plain tables.
+fn finds_ends(alloc: Global, store: &Store, n: u32, pred: &Pred, rows: &[Keyed]) -> bool
+    requires { Admitted pred.now (rows_at (database_at store.now n) pred.now.table) }
+{
+    let first = rows.iter().find(|item| pred.matches(&item.row));
+    let last = rows.iter().rev().find(|item| pred.matches(&item.row));
+    is_found(
+        store.foremost_at(alloc, n, pred, Direction::Forward, &NoKeys),
+        first,
+    ) && is_found(
+        store.foremost_at(alloc, n, pred, Direction::Backward, &NoKeys),
+        last,
+    )
+}
+
 /// Whether the rows that a predicate finds after n commits are those of the plain tables.
 fn finds(alloc: Global, store: &Store, n: u32, pred: &Pred, rows: &[Keyed]) -> bool {
     let Ok(all) = all_rows(alloc, store, n, pred.table) else {
@@ -268,7 +311,9 @@ fn finds(alloc: Global, store: &Store, n: u32, pred: &Pred, rows: &[Keyed]) -> b
         return false;
     }
     match store.rows_at(alloc, n, pred) {
-        Ok(found) => are_matching(found.as_slice(), pred, rows),
+        Ok(found) => {
+            are_matching(found.as_slice(), pred, rows) && finds_ends(alloc, store, n, pred, rows)
+        }
         Err(_) => false,
     }
 }
@@ -365,7 +410,7 @@ pub(crate) fn opening(alloc: Global) -> Result<Database, NoMemory> {
 fn goes_right(alloc: Global, seed: u64) -> Result<bool, Fail> {
     let mut random = SplitMix64::seed_from_u64(seed);
     let database = opening(alloc)?;
-    let store = Store::new(alloc, &database)?;
+    let store = Store::new(alloc, &database, &columns(alloc)?)?;
     let mut databases = Vec::new(alloc);
     databases.push(database)?;
     let mut history = History {
@@ -396,7 +441,7 @@ fn random_histories_are_read_at_every_number(rt: HostRuntime) -> Result<(), Fail
 #[test]
 fn a_commit_is_read_from_its_number_on(rt: HostRuntime) -> Result<(), Fail> {
     let alloc = rt.alloc();
-    let mut store = Store::new(alloc, &opening(alloc)?)?;
+    let mut store = Store::new(alloc, &opening(alloc)?, &columns(alloc)?)?;
     let mut writes = Vec::new(alloc);
     writes.push(Write {
         table: 1,

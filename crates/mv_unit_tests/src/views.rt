@@ -76,7 +76,8 @@ fn admits_matches(pred: &Pred, rows: &[Keyed]) -> bool
     rows.iter().all(|item| admits_match(pred, item))
 }
 
-fn has_admitted(pred: &Pred, tables: &Database) -> bool
+/// Whether the predicate admits the keys of the rows that it matches.
+pub(crate) fn has_admitted(pred: &Pred, tables: &Database) -> bool
     ensures { IsTrue result → Admitted pred.now (rows_at tables.now pred.now.table) }
 {
     match tables.as_slice().get(pred.table as usize) {
@@ -86,7 +87,7 @@ fn has_admitted(pred: &Pred, tables: &Database) -> bool
 }
 
 /// Returns the number in a column.
-fn number(row: &Row, column: usize) -> Option<i64> {
+pub(crate) fn number(row: &Row, column: usize) -> Option<i64> {
     match row.as_slice().get(column) {
         Some(Value::Int(number)) => Some(*number),
         _ => None,
@@ -142,8 +143,8 @@ fn rows_are_found_by_their_tests(rt: HostRuntime) -> Result<(), Fail> {
 
 /// The keys that a predicate admits.
 #[derive(Drop)]
-struct AdmittedKeys<'a> {
-    pred: &'a Pred,
+pub(crate) struct AdmittedKeys<'a> {
+    pub(crate) pred: &'a Pred,
 }
 
 impl<'a> KeySet for AdmittedKeys<'a> {
@@ -201,7 +202,7 @@ fn ends_found(
 ) -> Result<(Option<i64>, Option<i64>), Fail>
     requires { Admitted pred.now (rows_at tables.now pred.now.table) }
 {
-    let store = Store::new(alloc, tables)?;
+    let store = Store::new(alloc, tables, &List::new(alloc))?;
     let in_memory = end(alloc, pred, direction, passed, &mut Plain::new(tables))?;
     let in_store = end(
         alloc,
@@ -267,7 +268,7 @@ fn has_match(alloc: Global, tables: &Database, case: &Matched) -> Result<bool, F
     let (id, column, op, value, want) = *case;
     let pred = where_is(alloc, column, op, value)?;
     let key = key(alloc, &[id])?;
-    let store = Store::new(alloc, tables)?;
+    let store = Store::new(alloc, tables, &List::new(alloc))?;
     let in_memory = match_of(alloc, &pred, &key, &mut Plain::new(tables))?;
     let in_store = match_of(alloc, &pred, &key, &mut StoreView::new(&store, 0))?;
     Ok((in_memory, in_store) == (want, want))
