@@ -47,6 +47,7 @@ impl Model for Blank {
     ghost use Rattle.mv_seats.specs.Rule.{IsFirst};
     ghost use Rattle.mv_graph.specs.contracts.graph.Graph as graph;
     ghost use Rattle.std.specs.Coded.{codes};
+    ghost use Rattle.std.specs.Prelude.{◌≤◌, length};
 
     ghost Value = { Made };
 
@@ -54,7 +55,7 @@ impl Model for Blank {
 
     ghost view = { λ b. record { board = b.table.shared.table_id; script = b.table.shared.key } };
 
-    ghost invariant = { λ b. IsFirst b.table.shared.table_id b.table.shared.key b.seat };
+    ghost invariant = { λ b. IsFirst b.table.shared.table_id b.table.shared.key b.seat × (length b.table.shared.key.calls ≤ 1000000) };
 }
 
 /// The count of commits, and a mark of each shard: the number of commits that its chains hold. All threads share it.
@@ -65,6 +66,7 @@ pub struct Board<N: Making> {
     ghost board: { table.shared.table_id ≡ N.board },
     ghost script: { table.shared.key ≡ N.script },
     ghost words: { N.board.words ≡ word_of N.script.shards },
+    ghost few: { length N.script.calls ≤ 1000000 },
 }
 
 impl Blank {
