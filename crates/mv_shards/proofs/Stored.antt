@@ -1,6 +1,6 @@
 -- What lies behind a shard's lock, and how it changes.
 use Rattle.std.proofs.Common.{take, slice_index_or, ◌≡◌, ◌⊎◌, ◌<◌, ◌≤◌, ◌+◌, ℕ, zero, suc, min, Bool, true, false, List, [], ◌∷◌, ◌++◌, Option, Some, None, inl, inr, ⊎_elim, length, slice_index, refl, sym, ap, subst, ◌∙◌, arith, length-append, append_assoc}
-use Rattle.std.specs.Prelude.{◌||◌}
+use Rattle.std.specs.Prelude.{◌||◌, IfSome}
 use Rattle.std.specs.List.{list_any}
 use Rattle.std.proofs.lemmas.Bool.{both_ways, eqb-true, eq-eqb, false≢true}
 use Rattle.std.proofs.lemmas.List.Elements.{All-filter, filter-append}
@@ -8,6 +8,7 @@ use Rattle.std.proofs.lemmas.List.{take_more}
 use lib.Dec.{eqb}
 use mathlib.Core.List.{IsPrefix}
 use native.Mathlib.Decide.{ℕ_discrete}
+use Rattle.atomic_table.specs.Seated.{TableId}
 use Rattle.mv_values.specs.declared.pred.Pred.{Pred}
 use Rattle.mv_values.specs.declared.patch.Write.{Write}
 use Rattle.mv_values.specs.Preds.{matches, admits}
@@ -29,9 +30,10 @@ use Rattle.mv_script.proofs.Databases.{tables_rise}
 use Rattle.mv_shards.specs.Scripts.{script_in, work}
 use Rattle.mv_shards.specs.Parts.{is_in, part, writes_in, writes_to, eight}
 use Rattle.mv_shards.specs.Histories.{tables_at, last_touch}
-use Rattle.mv_shards.specs.Kept.{MayMake, IsLow, IsShardStore, HasGrown}
+use Rattle.mv_shards.specs.Kept.{MayMake, IsLow, IsKept, IsShardStore, HasGrown}
 use Rattle.mv_shards.specs.Installing.{Leads, MayInstall, HasInstalled, HasNotInstalled}
 use Rattle.mv_shards.specs.Reads.{IsStart, MayRead, IsRefusal}
+use Rattle.mv_shards.specs.Leaves.{IsLeave}
 use Rattle.mv_shards.proofs.Pieces.{at_part, applied_part}
 use Rattle.mv_shards.proofs.Histories.{tables_front, touch_front, touch_most, touch_climbs, stays}
 
@@ -67,9 +69,13 @@ low_more None low n m le is = is
 low_more (Some h) low n m le (inl is) = inl is
 low_more (Some h) low n m le (inr is) = inr (omega (arith, le, is))
 
+pub kept_more : (h : Option ℕ) (word : TableId) (noted : Option ℕ) (low n m : ℕ) → n ≤ m → IsKept h word noted low n → IsKept h word noted low m
+kept_more h word None low n m le is = low_more h low n m le is
+kept_more h word (Some floor) low n m le is = is
+
 -- its pass has learned more
-pub store_learns : (s : Script) (q : ℕ) (store : Versioned) (old new : Knows) → IsShardStore s q store old → new.role ≡ old.role → IsPrefix old.seen new.seen → slice_index new.marks q ≡ slice_index old.marks q → IsShardStore s q store new
-store_learns s q store old new h role p mark =
+pub store_learns : (s : Script) (word : TableId) (q : ℕ) (store : Versioned) (noted : Option ℕ) (old new : Knows) → IsShardStore s word q store noted old → new.role ≡ old.role → IsPrefix old.seen new.seen → slice_index new.marks q ≡ slice_index old.marks q → IsShardStore s word q store noted new
+store_learns s word q store noted old new h role p mark =
     let longer = prefix_length old.seen new.seen p in record {
       role = role ∙ h.role;
       there = h.there;
@@ -79,12 +85,12 @@ store_learns s q store old new h role p mark =
       own = h.own;
       kept = h.kept;
       rows = λ m low. let most : min m store.last ≤ length old.seen = omega (arith, h.seen) in h.rows m low ∙ ap (part q) (tables_front s old.seen new.seen (min m store.last) p most);
-      low = low_more s.options.horizon store.low (length old.seen) (length new.seen) longer h.low;
+      low = kept_more s.options.horizon word noted store.low (length old.seen) (length new.seen) longer h.low;
     }
 
 -- its rows are those of the history after n commits, where no later commit up to n touches the shard
-pub store_rows : (s : Script) (q n : ℕ) (store : Versioned) (k : Knows) (seen : List ℕ) → IsShardStore s q store k → IsPrefix seen k.seen → n ≤ length seen → last_touch s q seen n ≤ store.last → store.low ≤ n → database_at store n ≡ part q (tables_at s seen n)
-store_rows s q n store k seen h p le touched low =
+pub store_rows : (s : Script) (word : TableId) (q n : ℕ) (store : Versioned) (noted : Option ℕ) (k : Knows) (seen : List ℕ) → IsShardStore s word q store noted k → IsPrefix seen k.seen → n ≤ length seen → last_touch s q seen n ≤ store.last → store.low ≤ n → database_at store n ≡ part q (tables_at s seen n)
+store_rows s word q n store noted k seen h p le touched low =
     let same : last_touch s q seen n ≡ last_touch s q k.seen n = touch_front s q seen k.seen n p le in
     let most = touch_most s q k.seen n in
     h.rows n low ∙ (stays s q k.seen (min n store.last) n h.script (omega (arith, same, touched, most)) (omega arith) ∙ ap (part q) (sym (tables_front s seen k.seen n p le)))
@@ -92,20 +98,29 @@ store_rows s q n store k seen h p le touched low =
 pub admitted_part : (q : ℕ) (pred : Pred) (db : Tables) → Admitted pred (rows_at db pred.table) → Admitted pred (rows_at (part q db) pred.table)
 admitted_part q pred db h = subst (Admitted pred) (sym (at_part q pred.table db)) (All-filter (λ item. is_in q pred.table item.key) (λ item. matches pred item.row ≡ true → admits pred item.key ≡ true) (rows_at db pred.table) h)
 
--- Stale comes only with a horizon
-pub stale_low : (s : Script) (q n : ℕ) (store : Versioned) (k : Knows) (seen : ℕ) → IsShardStore s q store k → length k.seen ≤ seen → n < store.low → IsRefusal s n seen (Stale n store.low)
-stale_low s q n store k seen h le late = by s.options.horizon refl h.low
+-- Stale comes only with a horizon: where a note is kept, its floor is at most the start of the reader's pin
+pub stale_low : (s : Script) (word : TableId) (q n : ℕ) (store : Versioned) (noted shown : Option ℕ) (k : Knows) (seen : ℕ) → IsShardStore s word q store noted k → length k.seen ≤ seen → IsLeave s word shown n → IfSome noted (λ floor. IfSome shown (λ start. floor ≤ start)) → n < store.low
+    → IsRefusal s n seen (Stale n store.low)
+stale_low s word q n store noted shown k seen h le may below late = by noted h.low below
   where
-    by : (o : Option ℕ) → s.options.horizon ≡ o → IsLow o store.low (length k.seen) → IsRefusal s n seen (Stale n store.low)
-    by None e is = absurd (omega (arith, is, late))
-    by (Some hor) e (inl is) = absurd (omega (arith, is, late))
-    by (Some hor) e (inr is) = (refl, late, (hor, e, omega (arith, is, le)))
+    met : (floor : ℕ) (o : Option ℕ) → o ≡ Some n → IfSome o (λ start. floor ≤ start) → floor ≤ n
+    met floor None e is = absurd (cc e)
+    met floor (Some start) e is = let same : start ≡ n = cc e in omega (arith, same, is)
+
+    of_horizon : (o : Option ℕ) → s.options.horizon ≡ o → IsLow o store.low (length k.seen) → IsRefusal s n seen (Stale n store.low)
+    of_horizon None e is = absurd (omega (arith, is, late))
+    of_horizon (Some hor) e (inl is) = absurd (omega (arith, is, late))
+    of_horizon (Some hor) e (inr is) = (refl, late, (hor, e, omega (arith, is, le)))
+
+    by : (o : Option ℕ) → IsKept s.options.horizon word o store.low (length k.seen) → IfSome o (λ floor. IfSome shown (λ start. floor ≤ start)) → IsRefusal s n seen (Stale n store.low)
+    by None is h = of_horizon s.options.horizon refl is
+    by (Some floor) is h = let f = met floor shown (may (is.0, is.1)) h in absurd (omega (arith, f, is.2, late))
 
 -- Commits
 
 -- all writes of a call were put and then dropped
-pub store_drops : (s : Script) (q call : ℕ) (old new : Versioned) (k : Knows) → IsShardStore s q old k → HasDropped call old new → IsShardStore s q new k
-store_drops s q call old new k h d = record {
+pub store_drops : (s : Script) (word : TableId) (q call : ℕ) (old new : Versioned) (noted : Option ℕ) (k : Knows) → IsShardStore s word q old noted k → HasDropped call old new → IsShardStore s word q new noted k
+store_drops s word q call old new noted k h d = record {
   role = h.role;
   there = h.there;
   script = h.script;
@@ -114,7 +129,7 @@ store_drops s q call old new k h d = record {
   own = λ other. by other (ℕ_discrete call other);
   kept = let kept = h.kept in omega (arith, kept, d.reads.low, d.reads.last);
   rows = λ m low. d.reads.database m ∙ (h.rows m (subst (λ l. l ≤ m) d.reads.low low) ∙ ap (λ l. part q (tables_at s k.seen (min m l))) (sym d.reads.last));
-  low = subst (λ l. IsLow s.options.horizon l (length k.seen)) (sym d.reads.low) h.low;
+  low = subst (λ l. IsKept s.options.horizon word noted l (length k.seen)) (sym d.reads.low) h.low;
 }
   where
     by : (other : ℕ) → Dec (call ≡ other) → own_writes new other ≡ []
@@ -133,13 +148,13 @@ put_then_drop call ws old mid new h g = record {
 }
 
 -- what was put has become commit n. The pass of the shard has seen what the gate's pass had seen, and then the call
-pub store_commits : (s : Script) (q call n : ℕ) (ws : List Write) (old mid new : Versioned) (k after : Knows)
-    → IsShardStore s q old k
+pub store_commits : (s : Script) (word : TableId) (q call n : ℕ) (ws : List Write) (old mid new : Versioned) (noted : Option ℕ) (k after : Knows)
+    → IsShardStore s word q old noted k
     → ((m : ℕ) → IsLike old (database_at old m))
     → HasPut call (writes_in q ws) old mid → HasStamped call n mid new
     → n ≡ length k.seen + 1 → last_touch s q k.seen (length k.seen) ≤ old.last → Leads s k call ws
-    → after.role ≡ Shard q → after.seen ≡ k.seen ++ call ∷ [] → slice_index after.marks q ≡ n → IsShardStore s q new after
-store_commits s q call n ws old mid new k after h like put stamp number touched leads role seen mark =
+    → after.role ≡ Shard q → after.seen ≡ k.seen ++ call ∷ [] → slice_index after.marks q ≡ n → IsShardStore s word q new noted after
+store_commits s word q call n ws old mid new noted k after h like put stamp number touched leads role seen mark =
     let long : length after.seen ≡ length k.seen + 1 = ap length seen ∙ length-append k.seen (call ∷ []) in
     let front : IsPrefix k.seen after.seen = (call ∷ [], sym seen) in
     let low : new.low ≡ old.low = stamp.low ∙ put.reads.low in record {
@@ -151,7 +166,7 @@ store_commits s q call n ws old mid new k after h like put stamp number touched 
       own = λ other. own_at other (ℕ_discrete call other);
       kept = omega (arith, h.kept, low, stamp.last, number, h.seen);
       rows = λ m le. rows_at_m m (subst (λ l. l ≤ m) low le) front long;
-      low = subst (λ l. IsLow s.options.horizon l (length after.seen)) (sym low) (low_more s.options.horizon old.low (length k.seen) (length after.seen) (omega (arith, long)) h.low);
+      low = subst (λ l. IsKept s.options.horizon word noted l (length after.seen)) (sym low) (kept_more s.options.horizon word noted old.low (length k.seen) (length after.seen) (omega (arith, long)) h.low);
     }
   where
     own_at : (other : ℕ) → Dec (call ≡ other) → own_writes new other ≡ []
@@ -191,9 +206,15 @@ store_commits s q call n ws old mid new k after h like put stamp number touched 
             ∙ (ap (λ xs. part q (tables_at s xs (length k.seen + 1))) (sym seen)
             ∙ ap (λ j. part q (tables_at s after.seen j)) (sym same)))))))
 
--- old rows were dropped
-pub store_raises : (s : Script) (q to h : ℕ) (old new : Versioned) (k : Knows) → IsShardStore s q old k → s.options.horizon ≡ Some h → old.low ≤ to → to + h ≤ old.last → HasRaised to old new → IsShardStore s q new k
-store_raises s q to hor old new k h given up most r = record {
+-- old rows were dropped: by the horizon, or up to the floor of a note that is then kept
+
+rows_raised : (s : Script) (q to : ℕ) (old new : Versioned) (k : Knows) → ((m : ℕ) → old.low ≤ m → database_at old m ≡ part q (tables_at s k.seen (min m old.last))) → old.low ≤ to → HasRaised to old new → (m : ℕ) → new.low ≤ m → database_at new m ≡ part q (tables_at s k.seen (min m new.last))
+rows_raised s q to old new k rows up r m le =
+    let past : to ≤ m = omega (arith, r.low, le) in let before : old.low ≤ m = omega (arith, past, up) in
+    r.database m past ∙ (rows m before ∙ ap (λ l. part q (tables_at s k.seen (min m l))) (sym r.last))
+
+store_raised : (s : Script) (word : TableId) (q to : ℕ) (old new : Versioned) (before noted : Option ℕ) (k : Knows) → IsShardStore s word q old before k → old.low ≤ to → to ≤ old.last → HasRaised to old new → IsKept s.options.horizon word noted new.low (length k.seen) → IsShardStore s word q new noted k
+store_raised s word q to old new before noted k h up most r low = record {
   role = h.role;
   there = h.there;
   script = h.script;
@@ -201,10 +222,19 @@ store_raises s q to hor old new k h given up most r = record {
   mark = h.mark ∙ sym r.last;
   own = λ call. r.own call ∙ h.own call;
   kept = omega (arith, r.low, r.last, most);
-  rows = λ m le. let past : to ≤ m = omega (arith, r.low, le) in let before : old.low ≤ m = omega (arith, past, up) in
-      r.database m past ∙ (h.rows m before ∙ ap (λ l. part q (tables_at s k.seen (min m l))) (sym r.last));
-  low = subst (λ o. IsLow o new.low (length k.seen)) (sym given) (inr (omega (arith, r.low, most, h.seen)));
+  rows = rows_raised s q to old new k h.rows up r;
+  low = low;
 }
+
+pub store_raises : (s : Script) (word : TableId) (q to h : ℕ) (old new : Versioned) (noted : Option ℕ) (k : Knows) → IsShardStore s word q old noted k → s.options.horizon ≡ Some h → old.low ≤ to → to + h ≤ old.last → HasRaised to old new → IsShardStore s word q new noted k
+store_raises s word q to hor old new noted k h given up most r = store_raised s word q to old new noted noted k h up (omega (arith, most)) r (by noted h.low)
+  where
+    by : (o : Option ℕ) → IsKept s.options.horizon word o old.low (length k.seen) → IsKept s.options.horizon word o new.low (length k.seen)
+    by None is = subst (λ (x : Option ℕ). IsLow x new.low (length k.seen)) (sym given) (inr (omega (arith, r.low, most, h.seen)))
+    by (Some floor) is = absurd (cc (given, is.0))
+
+pub store_raises_to : (s : Script) (word : TableId) (q to floor : ℕ) (old new : Versioned) (noted : Option ℕ) (k : Knows) → IsShardStore s word q old noted k → s.options.horizon ≡ None → word.words ≡ 1 → old.low ≤ to → to ≤ old.last → to ≤ floor → HasRaised to old new → IsShardStore s word q new (Some floor) k
+store_raises_to s word q to floor old new noted k h none one up most under r = store_raised s word q to old new noted (Some floor) k h up most r (none, one, omega (arith, r.low, under))
 
 -- Shard and pass meet
 
@@ -324,9 +354,9 @@ opening_at : (s : Script) (j : ℕ) → tables_at s [] j ≡ s.opening
 opening_at s j = ap (tables_after (work s) s.opening) (take_none j)
 
 -- before any commit
-pub store_opens : (s : Script) (q : ℕ) (opening : Tables) (horizon : Option ℕ) (old k : Knows) (store : Versioned) → MayMake s opening horizon old → q < 8 → k ≡ shard_pass old q
-    → ((n : ℕ) → database_at store n ≡ part q opening) → ((call : ℕ) → own_writes store call ≡ []) → store.last ≡ 0 → store.low ≡ 0 → IsShardStore s q store k
-store_opens s q opening horizon old k store may there e db own last low =
+pub store_opens : (s : Script) (word : TableId) (q : ℕ) (opening : Tables) (horizon : Option ℕ) (old k : Knows) (store : Versioned) → MayMake s opening horizon old → q < 8 → k ≡ shard_pass old q
+    → ((n : ℕ) → database_at store n ≡ part q opening) → ((call : ℕ) → own_writes store call ≡ []) → store.last ≡ 0 → store.low ≡ 0 → IsShardStore s word q store None k
+store_opens s word q opening horizon old k store may there e db own last low =
     let seen : k.seen ≡ [] = ap (λ (z : Knows). z.seen) e ∙ may.seen in
     let marks : k.marks ≡ [] = ap (λ (z : Knows). z.marks) e ∙ may.marks in record {
       role = ap (λ (z : Knows). z.role) e;

@@ -1,6 +1,7 @@
 -- Defines what a shard's lock guards: the rows of the shard in versions, and the shard's pass. This project's own.
 use Rattle.std.specs.Prelude.{◌≡◌, ◌⊎◌, ◌<◌, ◌≤◌, ◌+◌, ℕ, min, List, [], Option, Some, None, length, slice_index}
 use mathlib.Core.List.{IsPrefix}
+use Rattle.atomic_table.specs.Seated.{TableId}
 use Rattle.mv_values.specs.Tables.{Tables}
 use Rattle.mv_store.specs.Stored.{Versioned, database_at, own_writes}
 use Rattle.mv_seats.specs.Scripts.{Script}
@@ -20,9 +21,15 @@ abbrev pub IsLow : Option ℕ → ℕ → ℕ → Type 0
 IsLow None low n = low ≡ 0
 IsLow (Some h) low n = (low ≡ 0) ⊎ (low + h ≤ n)
 
+-- where no note was kept, a low is as above. Where one is kept, no horizon is given, a word is named that counts readers,
+-- and the low is at most the note's floor, below which none of them starts
+abbrev pub IsKept : Option ℕ → TableId → Option ℕ → ℕ → ℕ → Type 0
+IsKept horizon word None low n = IsLow horizon low n
+IsKept horizon word (Some floor) low n = (horizon ≡ None) × (word.words ≡ 1) × (low ≤ floor)
+
 -- a shard holds its part of the tables after each commit from its low on. Its last commit is its mark on the board. No
 -- later commit that its pass has seen is in it
-pub record IsShardStore (s : Script) (q : ℕ) (store : Versioned) (k : Knows) : Type 0 where
+pub record IsShardStore (s : Script) (word : TableId) (q : ℕ) (store : Versioned) (note : Option ℕ) (k : Knows) : Type 0 where
   pub role : k.role ≡ Shard q
   pub there : q < s.shards
   pub script : IsScript (script_in s)
@@ -33,7 +40,8 @@ pub record IsShardStore (s : Script) (q : ℕ) (store : Versioned) (k : Knows) :
   pub own : (call : ℕ) → own_writes store call ≡ []
   pub kept : store.low ≤ store.last
   pub rows : (m : ℕ) → store.low ≤ m → database_at store m ≡ part q (tables_at s k.seen (min m store.last))
-  pub low : IsLow s.options.horizon store.low (length k.seen)
+  -- no reader is given rows from below the low: it is refused, or its pin starts no lower
+  pub low : IsKept s.options.horizon word note store.low (length k.seen)
 
 -- a pass has seen no less, knows no lower mark, and has the same roles
 pub record HasGrown (old new : Knows) : Type 0 where

@@ -4,4 +4,5 @@ pub mod Histories
 pub mod Kept
 pub mod Installing
 pub mod Reads
+pub mod Leaves
 pub mod Ledgers

@@ -1,6 +1,7 @@
 -- Defines starts, reads of one shard and of several, and views of shards. This project's own.
 use Rattle.std.specs.Prelude.{◌≡◌, ◌<◌, ◌≤◌, ◌+◌, ⊤, true, ℕ, List, [], ◌∷◌, Some, length, slice_index}
 use Rattle.std.specs.List.{list_any}
+use Rattle.std.specs.Option.{is_some}
 use lib.Dec.{eqb}
 use Rattle.mv_values.specs.declared.value.Value.{Value}
 use Rattle.mv_values.specs.declared.rows.Keyed.{Keyed}
@@ -17,7 +18,7 @@ use Rattle.mv_seats.specs.Knowing.{Knows, Plain}
 use Rattle.mv_script.specs.Scripts.{IsScript}
 use Rattle.mv_shards.specs.Scripts.{script_in}
 use Rattle.mv_shards.specs.Parts.{part, shard_of}
-use Rattle.mv_shards.specs.Histories.{last_touch}
+use Rattle.mv_shards.specs.Histories.{tables_at, last_touch}
 
 -- Starts
 
@@ -72,6 +73,10 @@ gathered (q ∷ qs) pred db was = gathered qs pred db (added (found_by pred (par
 pub record Sighted : Type 0 where
   pub sight : Sight
   pub seen : List ℕ
+
+-- a view of the tables after n commits of a history, before any query
+abbrev pub sight_at : Script → List ℕ → ℕ → Sight
+sight_at s seen n = record { database = tables_at s seen n; start = n; may_be_stale = is_some s.options.horizon; stale_answers = 0; last_low = 0; rows_calls = 0; row_calls = 0 }
 
 -- the count of `Stale` results, and the low of the last one, after one more error
 abbrev pub answers_after : ℕ → Refused → ℕ

@@ -3,7 +3,10 @@
 ghost use Rattle.std.specs.Prelude.{◌≡◌, ◌∷◌, [], OnOk};
 ghost use Rattle.mv_shards.specs.Kept.{MayMake};
 
+use crate::leave::Leave;
 use crate::shard_list::{ListEnd, ShardList, ShardNode, make_node};
+use mv_grace::grace::{Grace, Naming};
+use mv_grace::note::FloorNote;
 use mv_seats::board::{Board, Making};
 use mv_seats::pass::Pass;
 use mv_table::scan::Direction;
@@ -22,11 +25,11 @@ use std::sync::Wait;
 
 /// Shards 4 to 7.
 #[derive(Drop)]
-pub(crate) struct FourToSeven<N: Making> {
+pub(crate) struct FourToSeven<N: Making + Naming> {
     list: ShardNode<N, 4, ShardNode<N, 5, ShardNode<N, 6, ShardNode<N, 7, ListEnd>>>>,
 }
 
-impl<N: Making> FourToSeven<N> {
+impl<N: Making + Naming> FourToSeven<N> {
     /// Returns shards 4 to 7 of a database, before any commit. The gate's pass hands their roles out, or fewer if memory
     /// runs out.
     pub(crate) fn new(
@@ -58,7 +61,7 @@ impl<N: Making> FourToSeven<N> {
     }
 }
 
-impl<N: Making> ShardList<N> for FourToSeven<N> {
+impl<N: Making + Naming> ShardList<N> for FourToSeven<N> {
     ghost use Rattle.std.specs.Prelude.{◌∷◌, []};
 
     ghost numbers = { 4 ∷ 5 ∷ 6 ∷ 7 ∷ [] };
@@ -75,79 +78,96 @@ impl<N: Making> ShardList<N> for FourToSeven<N> {
         self.list.install(rt, alloc, board, pass, call, writes)
     }
 
-    fn rows_of<R: Wait>(
+    fn rows_of<R: Wait, W, P: Leave<N, W>>(
         &self,
         rt: &R,
         alloc: Global,
         board: &Board<N>,
+        word: &W,
         pass: &mut Pass<N>,
+        leave: &mut P,
         n: u32,
         shard: u32,
         pred: &Pred,
     ) -> Result<Rows, Refused> {
-        self.list.rows_of(rt, alloc, board, pass, n, shard, pred)
+        self.list
+            .rows_of(rt, alloc, board, word, pass, leave, n, shard, pred)
     }
 
-    fn row_of<R: Wait>(
+    fn row_of<R: Wait, W, P: Leave<N, W>>(
         &self,
         rt: &R,
         alloc: Global,
         board: &Board<N>,
+        word: &W,
         pass: &mut Pass<N>,
+        leave: &mut P,
         n: u32,
         shard: u32,
         table: u8,
         key: &Key,
     ) -> Result<Option<Row>, Refused> {
         self.list
-            .row_of(rt, alloc, board, pass, n, shard, table, key)
+            .row_of(rt, alloc, board, word, pass, leave, n, shard, table, key)
     }
 
-    fn match_of<R: Wait>(
+    fn match_of<R: Wait, W, P: Leave<N, W>>(
         &self,
         rt: &R,
         alloc: Global,
         board: &Board<N>,
+        word: &W,
         pass: &mut Pass<N>,
+        leave: &mut P,
         n: u32,
         shard: u32,
         pred: &Pred,
         key: &Key,
     ) -> Result<Option<Row>, Refused> {
         self.list
-            .match_of(rt, alloc, board, pass, n, shard, pred, key)
+            .match_of(rt, alloc, board, word, pass, leave, n, shard, pred, key)
     }
 
-    fn foremost_of<R: Wait, K: KeySet>(
+    fn foremost_of<R: Wait, K: KeySet, W, P: Leave<N, W>>(
         &self,
         rt: &R,
         alloc: Global,
         board: &Board<N>,
+        word: &W,
         pass: &mut Pass<N>,
+        leave: &mut P,
         n: u32,
         shard: u32,
         pred: &Pred,
         direction: Direction,
         passed: &K,
     ) -> Result<Option<Keyed>, Refused> {
-        self.list
-            .foremost_of(rt, alloc, board, pass, n, shard, pred, direction, passed)
+        self.list.foremost_of(
+            rt, alloc, board, word, pass, leave, n, shard, pred, direction, passed,
+        )
     }
 
-    fn gather<R: Wait>(
+    fn gather<R: Wait, W, P: Leave<N, W>>(
         &self,
         rt: &R,
         alloc: Global,
         board: &Board<N>,
+        word: &W,
         pass: &mut Pass<N>,
+        leave: &mut P,
         n: u32,
         pred: &Pred,
         found: &mut Table,
     ) -> Result<(), Refused> {
-        self.list.gather(rt, alloc, board, pass, n, pred, found)
+        self.list
+            .gather(rt, alloc, board, word, pass, leave, n, pred, found)
     }
 
     fn collect<R: Wait>(&self, rt: &R, low: u32) {
         self.list.collect(rt, low);
+    }
+
+    fn collect_to<R: Wait>(&self, rt: &R, grace: &Grace<N>, note: &mut FloorNote<N>) {
+        self.list.collect_to(rt, grace, note);
     }
 }

@@ -2,7 +2,6 @@
 
 ghost use Rattle.std.specs.Prelude.{◌≡◌, ◌<◌, ◌≤◌, ◌+◌, ◌++◌, ◌∷◌, [], ℕ, IfOk, OnOk, OnErr, false, length};
 ghost use Rattle.std.specs.List.{list_any};
-ghost use Rattle.std.specs.Option.{is_some};
 ghost use lib.Dec.{eqb};
 ghost use mathlib.Core.List.{IsPrefix};
 ghost use Rattle.mv_history.specs.Changes.{changes_between};
@@ -14,13 +13,17 @@ ghost use Rattle.mv_shards.specs.Installing.{Leads};
 ghost use Rattle.mv_lawful.specs.Rounds.{IsPast};
 ghost use Rattle.mv_view.specs.declared.view.Refused.TheVariants.{Stale};
 ghost use Rattle.mv_shards.specs.Kept.{IsLow};
+ghost use Rattle.mv_shards.specs.Reads.{sight_at};
+ghost use Rattle.mv_shards.specs.Leaves.{IsLeave};
 ghost use Rattle.mv_shards.specs.Ledgers.{IsLedger, AreTouched, AreLastChanges};
 
+use crate::leave::Leave;
 use crate::notes::note;
 use crate::parts::{SHARDS, shard_of};
 use crate::shards::Shards;
 use crate::start::Start;
-use crate::view::ShardsView;
+use crate::view::ReaderView;
+use mv_grace::grace::Naming;
 use mv_history::change::Change;
 use mv_seats::board::{Board, Making};
 use mv_seats::pass::Pass;
@@ -35,13 +38,13 @@ use std::sync::Wait;
 
 /// The gate's pass, the number of commits, and for each shard the last commit that changes a row of it, or 0.
 #[derive(Drop)]
-pub struct Ledger<N: Making> {
+pub struct Ledger<N: Making + Naming> {
     pass: Pass<N>,
     commits: u32,
     touched: List<u32>,
 }
 
-impl<N: Making> Model for Ledger<N> {
+impl<N: Making + Naming> Model for Ledger<N> {
     ghost use Rattle.mv_shards.specs.Ledgers.{Entered, IsLedger};
 
     ghost Value = { Entered };
@@ -51,7 +54,7 @@ impl<N: Making> Model for Ledger<N> {
     ghost invariant = { λ l. IsLedger N.script l.pass l.commits l.touched };
 }
 
-impl<N: Making> Ledger<N> {
+impl<N: Making + Naming> Ledger<N> {
     /// Returns the ledger before any commit. The pass must be the gate's, as `Shards::new` leaves it.
     pub fn new(alloc: Global, pass: Pass<N>) -> Result<Ledger<N>, NoMemory>
         requires role { pass.role ≡ Gate }
@@ -99,59 +102,52 @@ impl<N: Making> Ledger<N> {
         self.pass.meet(board, other);
     }
 
-    /// Learns that what a view has seen begins the history. The low of the view's last `Stale` result lies below what the
-    /// horizon keeps of all commits.
-    pub fn learn<R: Wait>(&mut self, board: &Board<N>, view: ShardsView<'_, N, R>)
-        ensures commits { self.new.commits ≡ self.old.commits }
-        ensures touched { self.new.touched ≡ self.old.touched }
-        ensures kept { self.new.knows.seen ≡ self.old.knows.seen }
-        ensures low { IsLow N.script.options.horizon view.entry.sight.last_low self.old.commits }
-    {
-        let _commits = self.commits();
-        let seen = view.into_pass();
-        self.meet(board, seen);
-    }
-
     /// Learns why a view of the tables after this many commits has refused a query: memory ran out, or the rows may be
-    /// gone. In the second case more commits than the horizon have been made after that.
-    pub fn refused<R: Wait>(
+    /// gone. `seen` is the view's pass. In the second case more commits than the horizon have been made after that.
+    pub fn refused(
         &mut self,
         board: &Board<N>,
-        view: ShardsView<'_, N, R>,
+        seen: Pass<N>,
         number: u32,
         why: Refused,
     ) -> Result<(), NoMemory>
-        requires { (start low : ℕ) → why ≡ Stale start low → (number < low) × (view.sight.last_low ≡ low) }
+        requires role { seen.role ≡ Plain }
+        requires low { (start low : ℕ) → why ≡ Stale start low → (number < low) × IsLow N.script.options.horizon low (length seen.seen) }
         ensures commits { self.new.commits ≡ self.old.commits }
         ensures touched { self.new.touched ≡ self.old.touched }
         ensures kept { self.new.knows.seen ≡ self.old.knows.seen }
         ensures past { OnOk result (IsPast N.script.options.horizon number self.old.commits) }
     {
+        let _commits = self.commits();
         match why {
             Refused::NoMemory => Err(NoMemory),
             Refused::Stale {
                 start: _start,
                 low: _low,
             } => {
-                self.learn(board, view);
+                self.meet(board, seen);
                 Ok(())
             }
         }
     }
 
-    /// Returns a view of the tables after all commits, before any query. It allocates no memory.
-    pub fn view<'a, R: Wait>(
+    /// Returns a view of the tables after all commits, before any query, for a reader who shows this. It allocates no
+    /// memory.
+    pub fn view<'a, W, P: Leave<N, W>, R: Wait>(
         &mut self,
         rt: &'a R,
         shards: &'a Shards<N>,
         board: &'a Board<N>,
-    ) -> ShardsView<'a, N, R>
+        word: &'a W,
+        leave: P,
+    ) -> ReaderView<'a, N, W, P, R>
+        requires { IsLeave N.script N.word (P.shown leave) self.old.commits }
         ensures same { self.new ≡ self.old }
-        ensures sight { result.sight ≡ record { database = tables_at N.script self.old.knows.seen self.old.commits; start = self.old.commits; may_be_stale = is_some N.script.options.horizon; stale_answers = 0; last_low = 0; rows_calls = 0; row_calls = 0 } }
+        ensures sight { result.sight ≡ sight_at N.script self.old.knows.seen self.old.commits }
         ensures seen { result.seen ≡ self.old.knows.seen }
     {
         let pass = note(&mut self.pass, board);
-        ShardsView::of(rt, shards, board, pass, self.commits)
+        ReaderView::of(rt, shards, board, word, pass, leave, self.commits)
     }
 
     /// Returns the start after this many commits. `touched` must have for each shard the last commit up to there that

@@ -4,10 +4,12 @@
 pub mod fixing;
 mod found;
 mod four_to_seven;
+pub mod leave;
 pub mod ledger;
 mod notes;
 mod opening;
 pub mod parts;
+pub mod pinned;
 mod reads;
 mod shard_list;
 mod shard_store;

@@ -1,6 +1,6 @@
 //! Shards behind their locks, one after another.
 
-ghost use Rattle.std.specs.Prelude.{◌≡◌, ◌∷◌, ◌<◌, ◌≤◌, [], IfOk, IfErr, OnOk, OnErr, length, true, slice_index};
+ghost use Rattle.std.specs.Prelude.{◌≡◌, ◌∷◌, ◌<◌, ◌≤◌, [], None, IfOk, IfErr, OnOk, OnErr, length, true, slice_index};
 ghost use Rattle.std.specs.List.{list_any};
 ghost use lib.Dec.{eqb};
 ghost use Rattle.mv_values.specs.Patching.{found_by, row_of};
@@ -16,10 +16,14 @@ ghost use Rattle.mv_shards.specs.Histories.{tables_at, last_touch};
 ghost use Rattle.mv_shards.specs.Kept.{MayMake, HasGrown};
 ghost use Rattle.mv_shards.specs.Installing.{MayInstall, HasInstalled, HasNotInstalled};
 ghost use Rattle.mv_shards.specs.Reads.{MayRead, IsRefusal};
+ghost use Rattle.mv_shards.specs.Leaves.{IsLeave};
 
 use crate::found::add_rows;
+use crate::leave::Leave;
 use crate::parts::writes_to;
 use crate::shard_store::ShardStore;
+use mv_grace::grace::{Grace, Naming};
+use mv_grace::note::FloorNote;
 use mv_seats::board::{Board, Making};
 use mv_seats::pass::Pass;
 use mv_table::scan::Direction;
@@ -37,7 +41,7 @@ use std::alloc::Global;
 use std::sync::{Mutex, Wait};
 
 /// Shards, each behind its own lock. They are locked in the order of their numbers.
-pub(crate) trait ShardList<N: Making>: Drop {
+pub(crate) trait ShardList<N: Making + Naming>: Drop {
     ghost use Rattle.std.specs.Prelude.{ℕ, List};
 
     /// The numbers of the shards.
@@ -60,65 +64,79 @@ pub(crate) trait ShardList<N: Making>: Drop {
 
     /// Returns copies of the rows of one of the shards that the predicate matches after n commits of the history that
     /// the pass has seen.
-    fn rows_of<R: Wait>(
+    fn rows_of<R: Wait, W, P: Leave<N, W>>(
         &self,
         rt: &R,
         alloc: Global,
         board: &Board<N>,
+        word: &W,
         pass: &mut Pass<N>,
+        leave: &mut P,
         n: u32,
         shard: u32,
         pred: &Pred,
     ) -> Result<Rows, Refused>
         requires may { MayRead N.script numbers n pass.old }
         requires admitted { Admitted pred.now (rows_at (tables_at N.script pass.old.seen n) pred.now.table) }
+        requires leave { IsLeave N.script N.word (P.shown leave.old) n }
         ensures found { list_any (eqb shard) numbers ≡ true → IfOk result (λ rows. rows ≡ found_by pred.now (part shard (tables_at N.script pass.old.seen n))) }
         ensures refused { IfErr result (IsRefusal N.script n (length pass.new.seen)) }
-        ensures grown { HasGrown pass.old pass.new };
+        ensures grown { HasGrown pass.old pass.new }
+        ensures shown { P.shown leave.new ≡ P.shown leave.old };
 
     /// Returns a copy of the row of one of the shards under a key after n commits of the history that the pass has seen.
-    fn row_of<R: Wait>(
+    fn row_of<R: Wait, W, P: Leave<N, W>>(
         &self,
         rt: &R,
         alloc: Global,
         board: &Board<N>,
+        word: &W,
         pass: &mut Pass<N>,
+        leave: &mut P,
         n: u32,
         shard: u32,
         table: u8,
         key: &Key,
     ) -> Result<Option<Row>, Refused>
-        requires { MayRead N.script numbers n pass.old }
+        requires may { MayRead N.script numbers n pass.old }
+        requires leave { IsLeave N.script N.word (P.shown leave.old) n }
         ensures found { list_any (eqb shard) numbers ≡ true → IfOk result (λ row. row ≡ row_of (rows_at (part shard (tables_at N.script pass.old.seen n)) table) key.now) }
         ensures refused { IfErr result (IsRefusal N.script n (length pass.new.seen)) }
-        ensures grown { HasGrown pass.old pass.new };
+        ensures grown { HasGrown pass.old pass.new }
+        ensures shown { P.shown leave.new ≡ P.shown leave.old };
 
     /// Returns a copy of the row of one of the shards under a key after n commits of the history that the pass has seen,
     /// if the predicate matches it.
-    fn match_of<R: Wait>(
+    fn match_of<R: Wait, W, P: Leave<N, W>>(
         &self,
         rt: &R,
         alloc: Global,
         board: &Board<N>,
+        word: &W,
         pass: &mut Pass<N>,
+        leave: &mut P,
         n: u32,
         shard: u32,
         pred: &Pred,
         key: &Key,
     ) -> Result<Option<Row>, Refused>
-        requires { MayRead N.script numbers n pass.old }
+        requires may { MayRead N.script numbers n pass.old }
+        requires leave { IsLeave N.script N.word (P.shown leave.old) n }
         ensures found { list_any (eqb shard) numbers ≡ true → IfOk result (λ row. row ≡ matched pred.now (row_of (rows_at (part shard (tables_at N.script pass.old.seen n)) pred.now.table) key.now)) }
         ensures refused { IfErr result (IsRefusal N.script n (length pass.new.seen)) }
-        ensures grown { HasGrown pass.old pass.new };
+        ensures grown { HasGrown pass.old pass.new }
+        ensures shown { P.shown leave.new ≡ P.shown leave.old };
 
     /// Returns a copy of the first row in this direction of one of the shards that the predicate matches after n commits
     /// of the history that the pass has seen and whose key isn't in `passed`.
-    fn foremost_of<R: Wait, K: KeySet>(
+    fn foremost_of<R: Wait, K: KeySet, W, P: Leave<N, W>>(
         &self,
         rt: &R,
         alloc: Global,
         board: &Board<N>,
+        word: &W,
         pass: &mut Pass<N>,
+        leave: &mut P,
         n: u32,
         shard: u32,
         pred: &Pred,
@@ -127,31 +145,43 @@ pub(crate) trait ShardList<N: Making>: Drop {
     ) -> Result<Option<Keyed>, Refused>
         requires may { MayRead N.script numbers n pass.old }
         requires admitted { Admitted pred.now (rows_at (tables_at N.script pass.old.seen n) pred.now.table) }
+        requires leave { IsLeave N.script N.word (P.shown leave.old) n }
         ensures found { list_any (eqb shard) numbers ≡ true → IfOk result (λ row. row ≡ foremost direction (outside (K.has passed.now) (found_by pred.now (part shard (tables_at N.script pass.old.seen n))))) }
         ensures refused { IfErr result (IsRefusal N.script n (length pass.new.seen)) }
-        ensures grown { HasGrown pass.old pass.new };
+        ensures grown { HasGrown pass.old pass.new }
+        ensures shown { P.shown leave.new ≡ P.shown leave.old };
 
     /// Adds copies of the rows of each shard that the predicate matches after n commits of the history that the pass has
     /// seen. One lock is held at a time.
-    fn gather<R: Wait>(
+    fn gather<R: Wait, W, P: Leave<N, W>>(
         &self,
         rt: &R,
         alloc: Global,
         board: &Board<N>,
+        word: &W,
         pass: &mut Pass<N>,
+        leave: &mut P,
         n: u32,
         pred: &Pred,
         found: &mut Table,
     ) -> Result<(), Refused>
         requires may { MayRead N.script numbers n pass.old }
         requires admitted { Admitted pred.now (rows_at (tables_at N.script pass.old.seen n) pred.now.table) }
+        requires leave { IsLeave N.script N.word (P.shown leave.old) n }
         ensures found { OnOk result (found.new ≡ gathered numbers pred.now (tables_at N.script pass.old.seen n) found.old) }
         ensures refused { IfErr result (IsRefusal N.script n (length pass.new.seen)) }
-        ensures grown { HasGrown pass.old pass.new };
+        ensures grown { HasGrown pass.old pass.new }
+        ensures shown { P.shown leave.new ≡ P.shown leave.old };
 
     /// Drops the rows of each shard before commit `low`, or before the shard's last commit less the horizon if that is
     /// lower.
     fn collect<R: Wait>(&self, rt: &R, low: u32);
+
+    /// Drops the rows of each shard before a note's floor, or before the shard's last commit if that is lower. No horizon
+    /// may be given.
+    fn collect_to<R: Wait>(&self, rt: &R, grace: &Grace<N>, note: &mut FloorNote<N>)
+        requires { N.script.options.horizon ≡ None }
+        ensures { note.new ≡ note.old };
 }
 
 /// No more shards.
@@ -160,14 +190,14 @@ pub(crate) struct ListEnd;
 
 /// Shard `Q`, and those after it.
 #[derive(Drop)]
-pub(crate) struct ShardNode<N: Making, const Q: u32, L: ShardList<N>> {
+pub(crate) struct ShardNode<N: Making + Naming, const Q: u32, L: ShardList<N>> {
     pub(crate) store: Mutex<ShardStore<N, Q>>,
     pub(crate) rest: L,
 }
 
 /// Returns shard `Q` of a database before those after it, before any commit. The gate's pass hands its role out, unless
 /// memory runs out.
-pub(crate) fn make_node<N: Making, const Q: u32, L: ShardList<N>>(
+pub(crate) fn make_node<N: Making + Naming, const Q: u32, L: ShardList<N>>(
     alloc: Global,
     opening: &Database,
     horizon: Option<u32>,
@@ -190,12 +220,14 @@ pub(crate) fn make_node<N: Making, const Q: u32, L: ShardList<N>>(
 }
 
 /// Returns copies of a shard's rows that the predicate matches after n commits of the history that the pass has seen.
-fn read_shard<N: Making, const Q: u32, R: Wait>(
+fn read_shard<N: Making + Naming, const Q: u32, R: Wait, W, P: Leave<N, W>>(
     store: &Mutex<ShardStore<N, Q>>,
     rt: &R,
     alloc: Global,
     board: &Board<N>,
+    word: &W,
     pass: &mut Pass<N>,
+    leave: &mut P,
     n: u32,
     pred: &Pred,
 ) -> Result<Rows, Refused>
@@ -203,15 +235,17 @@ fn read_shard<N: Making, const Q: u32, R: Wait>(
     requires past { n ≤ length pass.old.seen }
     requires known { last_touch N.script Q pass.old.seen n ≤ slice_index pass.old.marks Q }
     requires admitted { Admitted pred.now (rows_at (tables_at N.script pass.old.seen n) pred.now.table) }
+    requires leave { IsLeave N.script N.word (P.shown leave.old) n }
     ensures found { IfOk result (λ rows. rows ≡ found_by pred.now (part Q (tables_at N.script pass.old.seen n))) }
     ensures refused { IfErr result (IsRefusal N.script n (length pass.new.seen)) }
     ensures grown { HasGrown pass.old pass.new }
+    ensures shown { P.shown leave.new ≡ P.shown leave.old }
 {
     let mut store = store.lock(rt);
-    store.rows_at(alloc, board, pass, n, pred)
+    store.rows_at(alloc, board, word, pass, leave, n, pred)
 }
 
-impl<N: Making> ShardList<N> for ListEnd {
+impl<N: Making + Naming> ShardList<N> for ListEnd {
     ghost use Rattle.std.specs.Prelude.{[]};
 
     ghost numbers = { [] };
@@ -229,12 +263,14 @@ impl<N: Making> ShardList<N> for ListEnd {
         Ok(pass.count(board))
     }
 
-    fn rows_of<R: Wait>(
+    fn rows_of<R: Wait, W, P: Leave<N, W>>(
         &self,
         _rt: &R,
         alloc: Global,
         _board: &Board<N>,
+        _word: &W,
         _pass: &mut Pass<N>,
+        _leave: &mut P,
         _n: u32,
         _shard: u32,
         _pred: &Pred,
@@ -242,12 +278,14 @@ impl<N: Making> ShardList<N> for ListEnd {
         Ok(Rows::new(alloc))
     }
 
-    fn row_of<R: Wait>(
+    fn row_of<R: Wait, W, P: Leave<N, W>>(
         &self,
         _rt: &R,
         _alloc: Global,
         _board: &Board<N>,
+        _word: &W,
         _pass: &mut Pass<N>,
+        _leave: &mut P,
         _n: u32,
         _shard: u32,
         _table: u8,
@@ -256,12 +294,14 @@ impl<N: Making> ShardList<N> for ListEnd {
         Ok(None)
     }
 
-    fn match_of<R: Wait>(
+    fn match_of<R: Wait, W, P: Leave<N, W>>(
         &self,
         _rt: &R,
         _alloc: Global,
         _board: &Board<N>,
+        _word: &W,
         _pass: &mut Pass<N>,
+        _leave: &mut P,
         _n: u32,
         _shard: u32,
         _pred: &Pred,
@@ -270,12 +310,14 @@ impl<N: Making> ShardList<N> for ListEnd {
         Ok(None)
     }
 
-    fn foremost_of<R: Wait, K: KeySet>(
+    fn foremost_of<R: Wait, K: KeySet, W, P: Leave<N, W>>(
         &self,
         _rt: &R,
         _alloc: Global,
         _board: &Board<N>,
+        _word: &W,
         _pass: &mut Pass<N>,
+        _leave: &mut P,
         _n: u32,
         _shard: u32,
         _pred: &Pred,
@@ -285,12 +327,14 @@ impl<N: Making> ShardList<N> for ListEnd {
         Ok(None)
     }
 
-    fn gather<R: Wait>(
+    fn gather<R: Wait, W, P: Leave<N, W>>(
         &self,
         _rt: &R,
         _alloc: Global,
         _board: &Board<N>,
+        _word: &W,
         _pass: &mut Pass<N>,
+        _leave: &mut P,
         _n: u32,
         _pred: &Pred,
         _found: &mut Table,
@@ -299,9 +343,11 @@ impl<N: Making> ShardList<N> for ListEnd {
     }
 
     fn collect<R: Wait>(&self, _rt: &R, _low: u32) {}
+
+    fn collect_to<R: Wait>(&self, _rt: &R, _grace: &Grace<N>, _note: &mut FloorNote<N>) {}
 }
 
-impl<N: Making, const Q: u32, L: ShardList<N>> ShardList<N> for ShardNode<N, Q, L> {
+impl<N: Making + Naming, const Q: u32, L: ShardList<N>> ShardList<N> for ShardNode<N, Q, L> {
     ghost use Rattle.std.specs.Prelude.{◌∷◌};
 
     ghost numbers = { Q ∷ L.numbers };
@@ -322,29 +368,35 @@ impl<N: Making, const Q: u32, L: ShardList<N>> ShardList<N> for ShardNode<N, Q, 
         store.install(rt, alloc, board, pass, call, writes, &self.rest)
     }
 
-    fn rows_of<R: Wait>(
+    fn rows_of<R: Wait, W, P: Leave<N, W>>(
         &self,
         rt: &R,
         alloc: Global,
         board: &Board<N>,
+        word: &W,
         pass: &mut Pass<N>,
+        leave: &mut P,
         n: u32,
         shard: u32,
         pred: &Pred,
     ) -> Result<Rows, Refused> {
         if shard != Q {
-            return self.rest.rows_of(rt, alloc, board, pass, n, shard, pred);
+            return self
+                .rest
+                .rows_of(rt, alloc, board, word, pass, leave, n, shard, pred);
         }
         let mut store = self.store.lock(rt);
-        store.rows_at(alloc, board, pass, n, pred)
+        store.rows_at(alloc, board, word, pass, leave, n, pred)
     }
 
-    fn row_of<R: Wait>(
+    fn row_of<R: Wait, W, P: Leave<N, W>>(
         &self,
         rt: &R,
         alloc: Global,
         board: &Board<N>,
+        word: &W,
         pass: &mut Pass<N>,
+        leave: &mut P,
         n: u32,
         shard: u32,
         table: u8,
@@ -353,18 +405,20 @@ impl<N: Making, const Q: u32, L: ShardList<N>> ShardList<N> for ShardNode<N, Q, 
         if shard != Q {
             return self
                 .rest
-                .row_of(rt, alloc, board, pass, n, shard, table, key);
+                .row_of(rt, alloc, board, word, pass, leave, n, shard, table, key);
         }
         let mut store = self.store.lock(rt);
-        store.row_at(alloc, board, pass, n, table, key)
+        store.row_at(alloc, board, word, pass, leave, n, table, key)
     }
 
-    fn match_of<R: Wait>(
+    fn match_of<R: Wait, W, P: Leave<N, W>>(
         &self,
         rt: &R,
         alloc: Global,
         board: &Board<N>,
+        word: &W,
         pass: &mut Pass<N>,
+        leave: &mut P,
         n: u32,
         shard: u32,
         pred: &Pred,
@@ -373,18 +427,20 @@ impl<N: Making, const Q: u32, L: ShardList<N>> ShardList<N> for ShardNode<N, Q, 
         if shard != Q {
             return self
                 .rest
-                .match_of(rt, alloc, board, pass, n, shard, pred, key);
+                .match_of(rt, alloc, board, word, pass, leave, n, shard, pred, key);
         }
         let mut store = self.store.lock(rt);
-        store.match_at(alloc, board, pass, n, pred, key)
+        store.match_at(alloc, board, word, pass, leave, n, pred, key)
     }
 
-    fn foremost_of<R: Wait, K: KeySet>(
+    fn foremost_of<R: Wait, K: KeySet, W, P: Leave<N, W>>(
         &self,
         rt: &R,
         alloc: Global,
         board: &Board<N>,
+        word: &W,
         pass: &mut Pass<N>,
+        leave: &mut P,
         n: u32,
         shard: u32,
         pred: &Pred,
@@ -392,31 +448,39 @@ impl<N: Making, const Q: u32, L: ShardList<N>> ShardList<N> for ShardNode<N, Q, 
         passed: &K,
     ) -> Result<Option<Keyed>, Refused> {
         if shard != Q {
-            return self
-                .rest
-                .foremost_of(rt, alloc, board, pass, n, shard, pred, direction, passed);
+            return self.rest.foremost_of(
+                rt, alloc, board, word, pass, leave, n, shard, pred, direction, passed,
+            );
         }
         let mut store = self.store.lock(rt);
-        store.foremost_at(alloc, board, pass, n, pred, direction, passed)
+        store.foremost_at(alloc, board, word, pass, leave, n, pred, direction, passed)
     }
 
-    fn gather<R: Wait>(
+    fn gather<R: Wait, W, P: Leave<N, W>>(
         &self,
         rt: &R,
         alloc: Global,
         board: &Board<N>,
+        word: &W,
         pass: &mut Pass<N>,
+        leave: &mut P,
         n: u32,
         pred: &Pred,
         found: &mut Table,
     ) -> Result<(), Refused> {
-        let rows = read_shard(&self.store, rt, alloc, board, pass, n, pred)?;
+        let rows = read_shard(&self.store, rt, alloc, board, word, pass, leave, n, pred)?;
         add_rows(found, rows)?;
-        self.rest.gather(rt, alloc, board, pass, n, pred, found)
+        self.rest
+            .gather(rt, alloc, board, word, pass, leave, n, pred, found)
     }
 
     fn collect<R: Wait>(&self, rt: &R, low: u32) {
         self.store.lock(rt).collect(low);
         self.rest.collect(rt, low);
+    }
+
+    fn collect_to<R: Wait>(&self, rt: &R, grace: &Grace<N>, note: &mut FloorNote<N>) {
+        self.store.lock(rt).collect_to(grace, note);
+        self.rest.collect_to(rt, grace, note);
     }
 }

@@ -1,6 +1,6 @@
 //! What lies behind the lock of a shard.
 
-ghost use Rattle.std.specs.Prelude.{◌≡◌, ◌⊎◌, ◌<◌, ◌≤◌, ◌∷◌, IfOk, IfErr, OnOk, OnErr, true, length, slice_index};
+ghost use Rattle.std.specs.Prelude.{◌≡◌, ◌⊎◌, ◌<◌, ◌≤◌, ◌∷◌, None, IfOk, IfErr, IfSome, OnOk, OnErr, true, min, max, length, slice_index};
 ghost use mathlib.Core.List.{IsPrefix};
 ghost use Rattle.mv_values.specs.Patching.{found_by, row_of};
 ghost use Rattle.mv_values.specs.Preds.{matched};
@@ -15,11 +15,15 @@ ghost use Rattle.mv_shards.specs.Histories.{tables_at, last_touch};
 ghost use Rattle.mv_shards.specs.Kept.{MayMake, HasGrown};
 ghost use Rattle.mv_shards.specs.Installing.{MayInstall, HasInstalled, HasNotInstalled};
 ghost use Rattle.mv_shards.specs.Reads.{IsRefusal};
+ghost use Rattle.mv_shards.specs.Leaves.{IsLeave};
 
+use crate::leave::{Leave, copy_of};
 use crate::notes::note;
 use crate::opening::part_of;
 use crate::parts::put_in;
 use crate::shard_list::ShardList;
+use mv_grace::grace::{Grace, Naming};
+use mv_grace::note::FloorNote;
 use mv_seats::board::{Board, Making};
 use mv_seats::pass::Pass;
 use mv_store::store::Store;
@@ -37,15 +41,17 @@ use std::alloc::Global;
 use std::marker::Model;
 use std::sync::Wait;
 
-/// The rows of shard `Q` after each commit up to its mark, and the shard's pass.
+/// The rows of shard `Q` after each commit up to its mark, and the shard's pass. A shard that was collected up to a floor
+/// has a note of it.
 #[derive(Drop)]
-pub(crate) struct ShardStore<N: Making, const Q: u32> {
+pub(crate) struct ShardStore<N: Making + Naming, const Q: u32> {
     store: Store,
     pass: Pass<N>,
     horizon: Option<u32>,
+    note: Option<FloorNote<N>>,
 }
 
-impl<N: Making, const Q: u32> Model for ShardStore<N, Q> {
+impl<N: Making + Naming, const Q: u32> Model for ShardStore<N, Q> {
     ghost use Rattle.std.specs.Prelude.{◌≡◌};
     ghost use Rattle.mv_shards.specs.Kept.{StoredShard, IsShardStore};
 
@@ -53,7 +59,7 @@ impl<N: Making, const Q: u32> Model for ShardStore<N, Q> {
 
     ghost view = { λ s. record { store = s.store; knows = s.pass } };
 
-    ghost invariant = { λ s. IsShardStore N.script Q s.store s.pass × (s.horizon ≡ N.script.options.horizon) };
+    ghost invariant = { λ s. IsShardStore N.script N.word Q s.store s.note s.pass × (s.horizon ≡ N.script.options.horizon) };
 }
 
 /// A shard's pass learns that all commits were made that the other pass has seen, and raises the shard's mark to n. The
@@ -86,7 +92,18 @@ fn raise_mark<N: Making>(
     pass.meet(board, mine);
 }
 
-impl<N: Making, const Q: u32> ShardStore<N, Q> {
+/// If there is a note and a pin, the note's floor is at most the pin's start.
+fn take_note<N: Naming, W, P: Leave<N, W>>(note: &mut Option<FloorNote<N>>, word: &W, leave: &mut P)
+    ensures same { note.new ≡ note.old }
+    ensures shown { P.shown leave.new ≡ P.shown leave.old }
+    ensures below { IfSome note.old (λ floor. IfSome (P.shown leave.old) (λ start. floor ≤ start)) }
+{
+    if let Some(note) = note {
+        leave.take_in(word, note);
+    }
+}
+
+impl<N: Making + Naming, const Q: u32> ShardStore<N, Q> {
     /// Returns shard `Q` of a database, before any commit. The gate's pass hands its role out, unless memory runs out.
     pub(crate) fn new(
         alloc: Global,
@@ -109,6 +126,7 @@ impl<N: Making, const Q: u32> ShardStore<N, Q> {
             store,
             pass,
             horizon,
+            note: None,
         })
     }
 
@@ -132,17 +150,27 @@ impl<N: Making, const Q: u32> ShardStore<N, Q> {
     }
 
     /// Shard and pass learn what the other has seen, so the shard's rows after n commits are those of the history that the
-    /// pass has seen. Fails with `Stale` if they may be gone.
-    fn check_fresh(&mut self, board: &Board<N>, pass: &mut Pass<N>, n: u32) -> Result<(), Refused>
+    /// pass has seen. The reader's pin learns how far the shard was collected. Fails with `Stale` if the rows may be gone.
+    fn check_fresh<W, P: Leave<N, W>>(
+        &mut self,
+        board: &Board<N>,
+        word: &W,
+        pass: &mut Pass<N>,
+        leave: &mut P,
+        n: u32,
+    ) -> Result<(), Refused>
         requires role { pass.old.role ≡ Plain }
         requires past { n ≤ length pass.old.seen }
         requires known { last_touch N.script Q pass.old.seen n ≤ slice_index pass.old.marks Q }
+        requires leave { IsLeave N.script N.word (P.shown leave.old) n }
         ensures rows { OnOk result (database_at self.new.store n ≡ part Q (tables_at N.script pass.old.seen n)) }
         ensures fresh { OnOk result (self.new.store.low ≤ n) }
         ensures refused { IfErr result (IsRefusal N.script n (length pass.new.seen)) }
         ensures grown { HasGrown pass.old pass.new }
+        ensures shown { P.shown leave.new ≡ P.shown leave.old }
     {
         self.exchange(board, pass);
+        take_note(&mut self.note, word, leave);
         let low = self.store.low();
         if n < low {
             return Err(Refused::Stale { start: n, low });
@@ -152,11 +180,13 @@ impl<N: Making, const Q: u32> ShardStore<N, Q> {
 
     /// Returns copies of the shard's rows that the predicate matches after n commits of the history that the pass has
     /// seen.
-    pub(crate) fn rows_at(
+    pub(crate) fn rows_at<W, P: Leave<N, W>>(
         &mut self,
         alloc: Global,
         board: &Board<N>,
+        word: &W,
         pass: &mut Pass<N>,
+        leave: &mut P,
         n: u32,
         pred: &Pred,
     ) -> Result<Rows, Refused>
@@ -164,20 +194,24 @@ impl<N: Making, const Q: u32> ShardStore<N, Q> {
         requires past { n ≤ length pass.old.seen }
         requires known { last_touch N.script Q pass.old.seen n ≤ slice_index pass.old.marks Q }
         requires admitted { Admitted pred.now (rows_at (tables_at N.script pass.old.seen n) pred.now.table) }
+        requires leave { IsLeave N.script N.word (P.shown leave.old) n }
         ensures found { IfOk result (λ rows. rows ≡ found_by pred.now (part Q (tables_at N.script pass.old.seen n))) }
         ensures refused { IfErr result (IsRefusal N.script n (length pass.new.seen)) }
         ensures grown { HasGrown pass.old pass.new }
+        ensures shown { P.shown leave.new ≡ P.shown leave.old }
     {
-        self.check_fresh(board, pass, n)?;
+        self.check_fresh(board, word, pass, leave, n)?;
         self.store.rows_at(alloc, n, pred)
     }
 
     /// Returns a copy of the shard's row under a key after n commits of the history that the pass has seen.
-    pub(crate) fn row_at(
+    pub(crate) fn row_at<W, P: Leave<N, W>>(
         &mut self,
         alloc: Global,
         board: &Board<N>,
+        word: &W,
         pass: &mut Pass<N>,
+        leave: &mut P,
         n: u32,
         table: u8,
         key: &Key,
@@ -185,21 +219,25 @@ impl<N: Making, const Q: u32> ShardStore<N, Q> {
         requires role { pass.old.role ≡ Plain }
         requires past { n ≤ length pass.old.seen }
         requires known { last_touch N.script Q pass.old.seen n ≤ slice_index pass.old.marks Q }
+        requires leave { IsLeave N.script N.word (P.shown leave.old) n }
         ensures found { IfOk result (λ row. row ≡ row_of (rows_at (part Q (tables_at N.script pass.old.seen n)) table) key.now) }
         ensures refused { IfErr result (IsRefusal N.script n (length pass.new.seen)) }
         ensures grown { HasGrown pass.old pass.new }
+        ensures shown { P.shown leave.new ≡ P.shown leave.old }
     {
-        self.check_fresh(board, pass, n)?;
+        self.check_fresh(board, word, pass, leave, n)?;
         self.store.row_at(alloc, n, table, key)
     }
 
     /// Returns a copy of the shard's row under a key after n commits of the history that the pass has seen, if the
     /// predicate matches it.
-    pub(crate) fn match_at(
+    pub(crate) fn match_at<W, P: Leave<N, W>>(
         &mut self,
         alloc: Global,
         board: &Board<N>,
+        word: &W,
         pass: &mut Pass<N>,
+        leave: &mut P,
         n: u32,
         pred: &Pred,
         key: &Key,
@@ -207,21 +245,25 @@ impl<N: Making, const Q: u32> ShardStore<N, Q> {
         requires role { pass.old.role ≡ Plain }
         requires past { n ≤ length pass.old.seen }
         requires known { last_touch N.script Q pass.old.seen n ≤ slice_index pass.old.marks Q }
+        requires leave { IsLeave N.script N.word (P.shown leave.old) n }
         ensures found { IfOk result (λ row. row ≡ matched pred.now (row_of (rows_at (part Q (tables_at N.script pass.old.seen n)) pred.now.table) key.now)) }
         ensures refused { IfErr result (IsRefusal N.script n (length pass.new.seen)) }
         ensures grown { HasGrown pass.old pass.new }
+        ensures shown { P.shown leave.new ≡ P.shown leave.old }
     {
-        self.check_fresh(board, pass, n)?;
+        self.check_fresh(board, word, pass, leave, n)?;
         self.store.match_at(alloc, n, pred, key)
     }
 
     /// Returns a copy of the shard's first row in this direction that the predicate matches after n commits of the history
     /// that the pass has seen and whose key isn't in `passed`.
-    pub(crate) fn foremost_at<K: KeySet>(
+    pub(crate) fn foremost_at<K: KeySet, W, P: Leave<N, W>>(
         &mut self,
         alloc: Global,
         board: &Board<N>,
+        word: &W,
         pass: &mut Pass<N>,
+        leave: &mut P,
         n: u32,
         pred: &Pred,
         direction: Direction,
@@ -231,11 +273,13 @@ impl<N: Making, const Q: u32> ShardStore<N, Q> {
         requires past { n ≤ length pass.old.seen }
         requires known { last_touch N.script Q pass.old.seen n ≤ slice_index pass.old.marks Q }
         requires admitted { Admitted pred.now (rows_at (tables_at N.script pass.old.seen n) pred.now.table) }
+        requires leave { IsLeave N.script N.word (P.shown leave.old) n }
         ensures found { IfOk result (λ row. row ≡ foremost direction (outside (K.has passed.now) (found_by pred.now (part Q (tables_at N.script pass.old.seen n))))) }
         ensures refused { IfErr result (IsRefusal N.script n (length pass.new.seen)) }
         ensures grown { HasGrown pass.old pass.new }
+        ensures shown { P.shown leave.new ≡ P.shown leave.old }
     {
-        self.check_fresh(board, pass, n)?;
+        self.check_fresh(board, word, pass, leave, n)?;
         self.store.foremost_at(alloc, n, pred, direction, passed)
     }
 
@@ -286,6 +330,22 @@ impl<N: Making, const Q: u32> ShardStore<N, Q> {
         let to = low.min(last - horizon);
         if self.store.low() < to {
             self.store.raise(to);
+        }
+    }
+
+    /// Drops the rows before a note's floor, or before the shard's last commit if that is lower. No horizon may be given.
+    pub(crate) fn collect_to(&mut self, grace: &Grace<N>, note: &mut FloorNote<N>)
+        requires { N.script.options.horizon ≡ None }
+        ensures knows { self.new.knows ≡ self.old.knows }
+        ensures last { self.new.store.last ≡ self.old.store.last }
+        ensures low { self.new.store.low ≡ max self.old.store.low (min note.old self.old.store.last) }
+        ensures same { note.new ≡ note.old }
+    {
+        let last = self.store.last();
+        let to = note.floor().min(last);
+        if self.store.low() < to {
+            self.store.raise(to);
+            self.note = Some(copy_of(note, grace));
         }
     }
 }

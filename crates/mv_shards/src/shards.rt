@@ -1,6 +1,6 @@
 //! The rows of a database in eight shards.
 
-ghost use Rattle.std.specs.Prelude.{◌≡◌, ◌<◌, [], IfOk, IfErr, OnOk, OnErr, length};
+ghost use Rattle.std.specs.Prelude.{◌≡◌, ◌<◌, [], None, IfOk, IfErr, OnOk, OnErr, length};
 ghost use mathlib.Core.List.{IsPrefix};
 ghost use Rattle.mv_values.specs.Patching.{found_by, row_of};
 ghost use Rattle.mv_values.specs.Preds.{matched};
@@ -16,11 +16,15 @@ ghost use Rattle.mv_shards.specs.Histories.{tables_at};
 ghost use Rattle.mv_shards.specs.Kept.{HasGrown};
 ghost use Rattle.mv_shards.specs.Installing.{MayInstall, HasInstalled, HasNotInstalled};
 ghost use Rattle.mv_shards.specs.Reads.{IsRefusal, MayRead};
+ghost use Rattle.mv_shards.specs.Leaves.{NeedPins, IsLeave};
 
+use crate::leave::Leave;
 use crate::reads::{foremost_over, match_over, row_over, rows_from, rows_over};
 use crate::shard_list::{ShardList, ShardNode, make_node};
 use crate::start::Start;
 use crate::two_to_seven::TwoToSeven;
+use mv_grace::grace::{Grace, Naming};
+use mv_grace::note::FloorNote;
 use mv_seats::board::{Board, Making};
 use mv_seats::pass::Pass;
 use mv_table::scan::Direction;
@@ -38,11 +42,11 @@ use std::sync::Wait;
 
 /// The rows of a database, each in one of eight shards. Each shard is behind its own lock.
 #[derive(Drop)]
-pub struct Shards<N: Making> {
+pub struct Shards<N: Making + Naming> {
     list: ShardNode<N, 0, ShardNode<N, 1, TwoToSeven<N>>>,
 }
 
-impl<N: Making> Shards<N> {
+impl<N: Making + Naming> Shards<N> {
     /// Returns the shards of the script's database, before any commit. The script must be of one piece and have eight
     /// shards. The pass must be the gate's as `Blank::open` gives it, and then has no shard's role. If memory runs out, it
     /// may have fewer roles. It copies the database twice.
@@ -92,7 +96,7 @@ impl<N: Making> Shards<N> {
     }
 
     /// Returns copies of the rows that the predicate matches at a start, in key order. It looks at one shard if the
-    /// predicate fixes it, and else at one after another.
+    /// predicate fixes it, and else at one after another. Its readers must not need pins.
     pub fn rows_at<R: Wait>(
         &self,
         rt: &R,
@@ -102,42 +106,72 @@ impl<N: Making> Shards<N> {
         pred: &Pred,
     ) -> Result<Rows, Refused>
         requires admitted { Admitted pred.now (rows_at (tables_at N.script start.old.knows.seen start.old.number) pred.now.table) }
+        requires free { NeedPins N.script N.word → ⊥ }
         ensures found { IfOk result (λ rows. rows ≡ found_by pred.now (tables_at N.script start.old.knows.seen start.old.number)) }
         ensures refused { IfErr result (IsRefusal N.script start.old.number (length start.new.knows.seen)) }
         ensures seen { IsPrefix start.old.knows.seen start.new.knows.seen }
         ensures number { start.new.number ≡ start.old.number }
         ensures touched { start.new.touched ≡ start.old.touched }
     {
-        rows_from(&self.list, rt, alloc, board, start, pred)
+        rows_from(&self.list, rt, alloc, board, &(), start, &mut (), pred)
     }
 
-    /// Returns copies of the rows that the predicate matches after n commits of what the pass has seen.
-    pub(crate) fn rows_after<R: Wait>(
+    /// Returns copies of the rows that the predicate matches at a start, in key order, to a reader who shows this.
+    pub(crate) fn rows_for<R: Wait, W, P: Leave<N, W>>(
         &self,
         rt: &R,
         alloc: Global,
         board: &Board<N>,
+        word: &W,
+        start: &mut Start<N>,
+        leave: &mut P,
+        pred: &Pred,
+    ) -> Result<Rows, Refused>
+        requires admitted { Admitted pred.now (rows_at (tables_at N.script start.old.knows.seen start.old.number) pred.now.table) }
+        requires leave { IsLeave N.script N.word (P.shown leave.old) start.old.number }
+        ensures found { IfOk result (λ rows. rows ≡ found_by pred.now (tables_at N.script start.old.knows.seen start.old.number)) }
+        ensures refused { IfErr result (IsRefusal N.script start.old.number (length start.new.knows.seen)) }
+        ensures seen { IsPrefix start.old.knows.seen start.new.knows.seen }
+        ensures number { start.new.number ≡ start.old.number }
+        ensures touched { start.new.touched ≡ start.old.touched }
+        ensures shown { P.shown leave.new ≡ P.shown leave.old }
+    {
+        rows_from(&self.list, rt, alloc, board, word, start, leave, pred)
+    }
+
+    /// Returns copies of the rows that the predicate matches after n commits of what the pass has seen.
+    pub(crate) fn rows_after<R: Wait, W, P: Leave<N, W>>(
+        &self,
+        rt: &R,
+        alloc: Global,
+        board: &Board<N>,
+        word: &W,
         pass: &mut Pass<N>,
+        leave: &mut P,
         n: u32,
         pred: &Pred,
     ) -> Result<Rows, Refused>
         requires may { MayRead N.script eight n pass.old }
         requires admitted { Admitted pred.now (rows_at (tables_at N.script pass.old.seen n) pred.now.table) }
+        requires leave { IsLeave N.script N.word (P.shown leave.old) n }
         ensures found { IfOk result (λ rows. rows ≡ found_by pred.now (tables_at N.script pass.old.seen n)) }
         ensures refused { IfErr result (IsRefusal N.script n (length pass.new.seen)) }
         ensures grown { HasGrown pass.old pass.new }
+        ensures shown { P.shown leave.new ≡ P.shown leave.old }
     {
-        rows_over(&self.list, rt, alloc, board, pass, n, pred)
+        rows_over(&self.list, rt, alloc, board, word, pass, leave, n, pred)
     }
 
     /// Returns a copy of the first row in this direction that the predicate matches after n commits of what the pass has
     /// seen and whose key isn't in `passed`.
-    pub(crate) fn foremost_after<R: Wait, K: KeySet>(
+    pub(crate) fn foremost_after<R: Wait, K: KeySet, W, P: Leave<N, W>>(
         &self,
         rt: &R,
         alloc: Global,
         board: &Board<N>,
+        word: &W,
         pass: &mut Pass<N>,
+        leave: &mut P,
         n: u32,
         pred: &Pred,
         direction: Direction,
@@ -145,56 +179,79 @@ impl<N: Making> Shards<N> {
     ) -> Result<Option<Keyed>, Refused>
         requires may { MayRead N.script eight n pass.old }
         requires admitted { Admitted pred.now (rows_at (tables_at N.script pass.old.seen n) pred.now.table) }
+        requires leave { IsLeave N.script N.word (P.shown leave.old) n }
         ensures found { IfOk result (λ row. row ≡ foremost direction (outside (K.has passed.now) (found_by pred.now (tables_at N.script pass.old.seen n)))) }
         ensures refused { IfErr result (IsRefusal N.script n (length pass.new.seen)) }
         ensures grown { HasGrown pass.old pass.new }
+        ensures shown { P.shown leave.new ≡ P.shown leave.old }
     {
         foremost_over(
-            &self.list, rt, alloc, board, pass, n, pred, direction, passed,
+            &self.list, rt, alloc, board, word, pass, leave, n, pred, direction, passed,
         )
     }
 
     /// Returns a copy of the row under a key after n commits of what the pass has seen.
-    pub(crate) fn row_after<R: Wait>(
+    pub(crate) fn row_after<R: Wait, W, P: Leave<N, W>>(
         &self,
         rt: &R,
         alloc: Global,
         board: &Board<N>,
+        word: &W,
         pass: &mut Pass<N>,
+        leave: &mut P,
         n: u32,
         table: u8,
         key: &Key,
     ) -> Result<Option<Row>, Refused>
-        requires { MayRead N.script eight n pass.old }
+        requires may { MayRead N.script eight n pass.old }
+        requires leave { IsLeave N.script N.word (P.shown leave.old) n }
         ensures found { IfOk result (λ row. row ≡ row_of (rows_at (tables_at N.script pass.old.seen n) table) key.now) }
         ensures refused { IfErr result (IsRefusal N.script n (length pass.new.seen)) }
         ensures grown { HasGrown pass.old pass.new }
+        ensures shown { P.shown leave.new ≡ P.shown leave.old }
     {
-        row_over(&self.list, rt, alloc, board, pass, n, table, key)
+        row_over(
+            &self.list, rt, alloc, board, word, pass, leave, n, table, key,
+        )
     }
 
     /// Returns a copy of the row under a key after n commits of what the pass has seen, if the predicate matches it.
-    pub(crate) fn match_after<R: Wait>(
+    pub(crate) fn match_after<R: Wait, W, P: Leave<N, W>>(
         &self,
         rt: &R,
         alloc: Global,
         board: &Board<N>,
+        word: &W,
         pass: &mut Pass<N>,
+        leave: &mut P,
         n: u32,
         pred: &Pred,
         key: &Key,
     ) -> Result<Option<Row>, Refused>
-        requires { MayRead N.script eight n pass.old }
+        requires may { MayRead N.script eight n pass.old }
+        requires leave { IsLeave N.script N.word (P.shown leave.old) n }
         ensures found { IfOk result (λ row. row ≡ matched pred.now (row_of (rows_at (tables_at N.script pass.old.seen n) pred.now.table) key.now)) }
         ensures refused { IfErr result (IsRefusal N.script n (length pass.new.seen)) }
         ensures grown { HasGrown pass.old pass.new }
+        ensures shown { P.shown leave.new ≡ P.shown leave.old }
     {
-        match_over(&self.list, rt, alloc, board, pass, n, pred, key)
+        match_over(
+            &self.list, rt, alloc, board, word, pass, leave, n, pred, key,
+        )
     }
 
     /// Drops the rows of each shard before commit `low`, or before the shard's last commit less the horizon if that is
     /// lower. Without a horizon it does nothing.
     pub fn collect<R: Wait>(&self, rt: &R, low: u32) {
         self.list.collect(rt, low);
+    }
+
+    /// Drops the rows of each shard before a note's floor, or before the shard's last commit if that is lower. No horizon
+    /// may be given.
+    pub fn collect_to<R: Wait>(&self, rt: &R, grace: &Grace<N>, note: &mut FloorNote<N>)
+        requires { N.script.options.horizon ≡ None }
+        ensures { note.new ≡ note.old }
+    {
+        self.list.collect_to(rt, grace, note);
     }
 }

@@ -9,14 +9,12 @@ ghost use Rattle.mv_shards.specs.Kept.{IsLow};
 ghost use Rattle.mv_shards.specs.Reads.{IsStart};
 
 use crate::notes::note;
-use crate::view::ShardsView;
 use mv_seats::board::{Board, Making};
 use mv_seats::pass::Pass;
 use mv_values::list::List;
 use mv_values::memory::NoMemory;
 use mv_view::view::Refused;
 use std::marker::Model;
-use std::sync::Wait;
 
 /// The start of a call: a number of commits, a pass that has seen as many, and for each shard the last commit up to the
 /// start that changes a row of the shard, or 0.
@@ -78,27 +76,22 @@ impl<N: Making> Start<N> {
         note(&mut self.pass, board)
     }
 
-    /// Learns what a view has seen. The low of the view's last `Stale` result then lies below what the horizon keeps of
-    /// the commits that the start's pass has seen.
-    pub fn learn<R: Wait>(&mut self, board: &Board<N>, view: ShardsView<'_, N, R>)
+    /// Learns what a plain pass has seen.
+    pub fn learn(&mut self, board: &Board<N>, other: Pass<N>)
+        requires { other.role ≡ Plain }
         ensures number { self.new.number ≡ self.old.number }
         ensures touched { self.new.touched ≡ self.old.touched }
         ensures seen { IsPrefix self.old.knows.seen self.new.knows.seen }
-        ensures low { IsLow N.script.options.horizon view.entry.sight.last_low (length self.new.knows.seen) }
+        ensures theirs { IsPrefix other.seen self.new.knows.seen }
     {
-        let seen = view.into_pass();
-        self.pass.meet(board, seen);
+        self.pass.meet(board, other);
     }
 
-    /// Learns why a view of the start has refused a query: memory ran out, or the rows may be gone. In the second case more
-    /// commits than the horizon have been made after the start.
-    pub fn refused<R: Wait>(
-        &mut self,
-        board: &Board<N>,
-        view: ShardsView<'_, N, R>,
-        why: Refused,
-    ) -> Result<(), NoMemory>
-        requires { (start low : ℕ) → why ≡ Stale start low → (self.old.number < low) × (view.sight.last_low ≡ low) }
+    /// Learns why a view of the start has refused a query: memory ran out, or the rows may be gone. `seen` is the view's
+    /// pass. In the second case more commits than the horizon have been made after the start.
+    pub fn refused(&mut self, board: &Board<N>, seen: Pass<N>, why: Refused) -> Result<(), NoMemory>
+        requires role { seen.role ≡ Plain }
+        requires low { (start low : ℕ) → why ≡ Stale start low → (self.old.number < low) × IsLow N.script.options.horizon low (length seen.seen) }
         ensures number { self.new.number ≡ self.old.number }
         ensures touched { self.new.touched ≡ self.old.touched }
         ensures seen { IsPrefix self.old.knows.seen self.new.knows.seen }
@@ -110,7 +103,7 @@ impl<N: Making> Start<N> {
                 start: _start,
                 low: _low,
             } => {
-                self.learn(board, view);
+                self.learn(board, seen);
                 Ok(())
             }
         }

@@ -13,5 +13,4 @@ returns-clause-rows g c =
     let front : IsPrefix seen c.self.inside.pass.seen = subst (λ (v : StoredShard). IsPrefix seen v.knows.seen) (sym c.self.view_is) c.exchange.ensures.there in
     let mark : slice_index c.args.pass.now.marks g.row.Q ≤ c.self.inside.store.last = subst (λ (v : StoredShard). slice_index c.args.pass.now.marks g.row.Q ≤ v.store.last) (sym c.self.view_is) c.exchange.ensures.mark in
     let low : c.self.inside.store.low ≤ c.args.n = omega (arith, c.low-low.ensures, c.if-n-low.false) in
-    subst (λ (v : StoredShard). database_at v.store c.args.n ≡ part g.row.Q (tables_at g.N.Making.script seen c.args.n)) c.self.view_is
-    (store_rows g.N.Making.script g.row.Q c.args.n c.self.inside.store c.self.inside.pass seen c.self.invariant.0 front c.requires.past (omega (arith, c.requires.known, mark)) low)
+    store_rows g.N.Making.script g.N.Naming.word g.row.Q c.args.n c.self.inside.store c.self.inside.note c.self.inside.pass seen c.self.invariant.0 front c.requires.past (omega (arith, c.requires.known, mark)) low

@@ -8,12 +8,12 @@ use Rattle.mv_shards.proofs.Stored.{store_drops, put_then_drop, store_commits, p
 use Rattle.mv_shards.proofs.shard_store.ShardStore.install.Goals as goal
 
 pub invariant_of-self : goal.invariant_of-self
-invariant_of-self g c = (store_drops g.N.Making.script g.row.Q c.args.call c.self.inside.store c.put_in.new.store c.self.inside.pass c.self.invariant.0 c.in_err-put_in.ensures.err, c.self.invariant.1)
+invariant_of-self g c = (store_drops g.N.Making.script g.N.Naming.word g.row.Q c.args.call c.self.inside.store c.put_in.new.store c.self.inside.note c.self.inside.pass c.self.invariant.0 c.in_err-put_in.ensures.err, c.self.invariant.1)
 
 pub invariant_of-self-in-Err : goal.invariant_of-self-in-Err
 invariant_of-self-in-Err g c =
     let gone = put_then_drop c.args.call (writes_in g.row.Q c.args.writes.now) c.self.inside.store c.put_in.new.store c.drop_of.new.self c.in_ok-put_in.ensures.ok c.drop_of.ensures in
-    (store_drops g.N.Making.script g.row.Q c.args.call c.self.inside.store c.drop_of.new.self c.self.inside.pass c.self.invariant.0 gone, c.self.invariant.1)
+    (store_drops g.N.Making.script g.N.Naming.word g.row.Q c.args.call c.self.inside.store c.drop_of.new.self c.self.inside.note c.self.inside.pass c.self.invariant.0 gone, c.self.invariant.1)
 
 pub invariant_of-self-2 : goal.invariant_of-self-2
 invariant_of-self-2 g c =
@@ -36,7 +36,7 @@ invariant_of-self-2 g c =
     let leads = subst (λ (l : List ℕ). applied ws (tables_at s l (length l)) ≡ tables_at s (l ++ call ∷ []) (length l + 1)) (sym same) c.requires.may.leads in
     let after : c.install.new.pass.seen ≡ mine ++ call ∷ [] = done.seen ∙ ap (λ (l : List ℕ). l ++ call ∷ []) (sym mid) in
     let number : c.in-Ok.n ≡ length mine + 1 = done.number ∙ (ap length after ∙ length-append mine (call ∷ [])) in (
-      store_commits s q call c.in-Ok.n ws c.self.inside.store c.put_in.new.store c.stamp.new.self c.self.inside.pass c.raise_mark.new.own c.self.invariant.0 c.last-last.ensures.like c.in_ok-put_in.ensures.ok c.stamp.ensures
+      store_commits s g.N.Naming.word q call c.in-Ok.n ws c.self.inside.store c.put_in.new.store c.stamp.new.self c.self.inside.note c.self.inside.pass c.raise_mark.new.own c.self.invariant.0 c.last-last.ensures.like c.in_ok-put_in.ensures.ok c.stamp.ensures
           number touched leads c.raise_mark.ensures.role (c.raise_mark.ensures.seen ∙ after) c.raise_mark.ensures.mark,
       c.self.invariant.1,
     )

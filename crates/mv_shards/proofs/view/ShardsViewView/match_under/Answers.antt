@@ -1,8 +1,0 @@
-use Rattle.mv_shards.proofs.Sights.{view_keeps, view_refused}
-use Rattle.mv_shards.proofs.view.ShardsViewView.match_under.Goals as goal
-
-pub invariant_of-self : goal.invariant_of-self
-invariant_of-self g c = view_keeps g.N.Making.script c.self.inside.start c.self.inside.last_low c.self.inside.pass c.match_after.new.pass c.self.invariant c.match_after.ensures.grown
-
-pub invariant_of-self-in-Err : goal.invariant_of-self-in-Err
-invariant_of-self-in-Err g c = view_refused g.N.Making.script c.self.inside.start c.self.inside.last_low c.count.new.last_low c.self.inside.pass c.match_after.new.pass c.in-Err.refused c.self.invariant c.match_after.ensures.grown (c.in-Err.ensures.refused) c.count.ensures.low
