@@ -9,32 +9,37 @@ use Rattle.std.proofs.sync.Mutex.TheSendSync as mutex
 use Rattle.mv_values.proofs.list.List.TheSendSync as list
 use Rattle.mv_seats.specs.declared.board.Making.{Ghosts}
 use Rattle.mv_seats.proofs.board.Board.TheSendSync as board
+use Rattle.mv_grace.specs.declared.grace.Naming.{Ghosts as Words}
+use Rattle.mv_grace.proofs.grace.Grace.TheSendSync as grace
 use Rattle.mv_shards.proofs.ledger.Ledger.TheSendSync as ledger
 use Rattle.mv_shards.proofs.shards.Shards.TheSendSync as shards
 use Rattle.mv_core.proofs.Crossing.{book_send, shared_sync}
 use Rattle.mv_gate.specs.contracts.desk.Desk as Desk
 use Rattle.mv_gate.specs.contracts.desk.Desk.TheInside as Inside
+use Rattle.mv_gate.proofs.crowd.Crowd.TheSendSync as crowd
 use Rattle.mv_gate.specs.contracts.guarded.Guarded as Guarded
 use Rattle.mv_gate.specs.contracts.gate.Gate as Gate
 
 -- what the lock guards
-desk_send : (N : RattleType) (m : Ghosts N.Denot) → IsSend (Desk.the_row N m)
-desk_send N m =
-    view_send (Inside.the_row N m) _ _ _ _
-    (recorded_send (Inside.the_field N m).row _ _ (Inside.the_type N m).to_one
-    (struct_send (shape (Inside.the_type N m)) (book_send, (ledger.the_send N m, (search (list.the_send, std.crosses, sendable) depth 40, tt)))))
+desk_send : (N : RattleType) (m : Ghosts N.Denot) (w : Words N.Denot) → IsSend (Desk.the_row N m w)
+desk_send N m w =
+    view_send (Inside.the_row N m w) _ _ _ _
+    (recorded_send (Inside.the_field N m w).row _ _ (Inside.the_type N m w).to_one
+    (struct_send (shape (Inside.the_type N m w)) (book_send, (ledger.the_send N m w, (search (list.the_send, std.crosses, sendable) depth 40, tt)))))
 
-guarded_send : (N : RattleType) (m : Ghosts N.Denot) → IsSend (Guarded.the_row N m)
-guarded_send N m =
-    recorded_send (Guarded.the_field N m).row _ _ (Guarded.the_type N m).to_one (struct_send (shape (Guarded.the_type N m)) (desk_send N m, (search (std.crosses, sendable) depth 60 fits 20000, tt)))
+guarded_send : (N : RattleType) (m : Ghosts N.Denot) (w : Words N.Denot) → IsSend (Guarded.the_row N m w)
+guarded_send N m w =
+    recorded_send (Guarded.the_field N m w).row _ _ (Guarded.the_type N m w).to_one
+    (struct_send (shape (Guarded.the_type N m w)) (desk_send N m w, (crowd.the_field_send N m w, (search (std.crosses, sendable) depth 40, tt))))
 
-gate_field_sync : (N : RattleType) (m : Ghosts N.Denot) → IsSync (Gate.the_field N m).row
-gate_field_sync N m =
-    struct_sync (shape (Gate.the_type N m)) (board.the_field_sync N m, (shards.the_field_sync N m, (shared_sync, (mutex.the_sync (Guarded.the_row N m) (guarded_send N m), tt))))
+gate_field_sync : (N : RattleType) (m : Ghosts N.Denot) (w : Words N.Denot) → IsSync (Gate.the_field N m w).row
+gate_field_sync N m w =
+    struct_sync (shape (Gate.the_type N m w))
+    (board.the_field_sync N m, (shards.the_field_sync N m w, (grace.the_field_sync N w, (shared_sync, (mutex.the_sync (Guarded.the_row N m w) (guarded_send N m w), tt)))))
 
 -- threads may share a gate
-pub gate_sync : (N : RattleType) (m : Ghosts N.Denot) → IsSync (Gate.the_row N m)
-gate_sync N m = recorded_sync (Gate.the_field N m).row _ _ (Gate.the_type N m).to_one (gate_field_sync N m)
+pub gate_sync : (N : RattleType) (m : Ghosts N.Denot) (w : Words N.Denot) → IsSync (Gate.the_row N m w)
+gate_sync N m w = recorded_sync (Gate.the_field N m w).row _ _ (Gate.the_type N m w).to_one (gate_field_sync N m w)
 
 -- threads may share a closure that borrows four things if they may share those
 pub four_sync : (name : List ℕ) (A B C D : RattleType) → IsSync A → IsSync B → IsSync C → IsSync D → IsSync (TupleAt name (A ∷ B ∷ C ∷ D ∷ []))

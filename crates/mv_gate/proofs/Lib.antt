@@ -15,3 +15,4 @@ mod Serializing
 pub mod Crossing
 mod Copying
 mod Leaving
+mod Pins

@@ -4,7 +4,7 @@ use Rattle.mv_values.specs.Tables.{Tables}
 use Rattle.mv_view.specs.declared.view.Refused.{Refused}
 use Rattle.mv_view.specs.declared.view.Refused.TheVariants.{NoMemory, Stale}
 use Rattle.mv_view.specs.Viewing.{Sight}
-use Rattle.mv_effect.specs.Looking.{OnlyAsks}
+use Rattle.mv_effect.specs.Looking.{OnlyAsks, IsSameView}
 use Rattle.mv_changes.specs.Drafting.{HasAsked}
 use Rattle.mv_lawful.specs.Rounds.{IsPast}
 use Rattle.mv_seats.specs.Scripts.{Script as BoardScript}
@@ -13,12 +13,17 @@ use Rattle.mv_script.specs.Scripts.{IsScript}
 use Rattle.mv_script.proofs.Databases.{table_database}
 use Rattle.mv_shards.specs.Scripts.{script_in}
 use Rattle.mv_shards.specs.Histories.{tables_at}
+use Rattle.mv_shards.specs.Kept.{IsLow}
 use Rattle.mv_core.specs.Cores.{IsDatabaseIn}
 use Rattle.mv_core.proofs.Stored.{database_in}
 
 -- what it takes to be told why a view of n commits refused
 abbrev pub IsTold : ℕ → Sight → Refused → Type 0
 IsTold n after why = (start low : ℕ) → why ≡ Stale start low → (n < low) × (after.last_low ≡ low)
+
+-- the low of the last refusal lies below what the horizon keeps of what the view has seen
+pub told_low : (horizon : Option ℕ) (n seen : ℕ) (after : Sight) (why : Refused) → IsTold n after why → IsLow horizon after.last_low seen → (start low : ℕ) → why ≡ Stale start low → (n < low) × IsLow horizon low seen
+told_low horizon n seen after why told is start low e = let t = told start low e in (t.0, subst (λ l. IsLow horizon l seen) t.1 is)
 
 pub asked_late : {A : Type 0} (before after : Sight) (r : Result A Refused) (why : Refused) (n : ℕ) → OnlyAsks before after r → r ≡ Err why → before.start ≡ n → IsTold n after why
 asked_late before after (Ok x) why n asks e at start low is = absurd (search (rules, e))
@@ -47,6 +52,12 @@ told_late count before after (Err (Stale first l)) why n asks e at start low is 
     let own = asks.stale.own_start in
     let late = asks.stale.too_late in
     (omega (arith, own, late, at, same), ap (λ (s : Sight). s.last_low) asks.sight ∙ same)
+
+-- the changes of a commit are asked of the view as it was
+pub asked_same : {A : Type 0} (count : ℕ) (before after : Sight) (r : Result A Refused) → HasAsked count before after r → IsSameView before after
+asked_same count before after (Ok x) asks = record { database = ap (λ (s : Sight). s.database) asks.sight; start = ap (λ (s : Sight). s.start) asks.sight; may_be_stale = ap (λ (s : Sight). s.may_be_stale) asks.sight }
+asked_same count before after (Err NoMemory) asks = record { database = ap (λ (s : Sight). s.database) asks.sight; start = ap (λ (s : Sight). s.start) asks.sight; may_be_stale = ap (λ (s : Sight). s.may_be_stale) asks.sight }
+asked_same count before after (Err (Stale first low)) asks = record { database = ap (λ (s : Sight). s.database) asks.sight; start = ap (λ (s : Sight). s.start) asks.sight; may_be_stale = ap (λ (s : Sight). s.may_be_stale) asks.sight }
 
 -- no start lies further back than itself
 pub not_past : (horizon : Option ℕ) (n : ℕ) → IsPast horizon n n → ⊥

@@ -285,6 +285,14 @@ pub record GoesOn (old new : Booked) : Type 0 where
   pub script : new.script ≡ old.script
   pub events : IsPrefix old.journal new.journal
 
+-- a live call commits or is answered, in one event
+abbrev pub Ends : ℕ → Booked → Booked → Type 0
+Ends c old new = Made (C c) old new ⊎ (Made (X c) old new ⊎ Made (R c) old new)
+
+-- a call that a worker has left ends: it commits or is answered, maybe after a repair or a move in the same step
+abbrev pub Brings : ℕ → Booked → Booked → Type 0
+Brings c old new = Ends c old new ⊎ ((mid : Booked) × (Made (A c) old mid ⊎ Made (M c) old mid) × Ends c mid new)
+
 -- the outcome of a lawful and bounded journal of the script's calls, in which each has committed or was answered
 pub record IsOutcome (w : Work) (o : Outcome) : Type 0 where
   pub lawful : Lawful w o.journal

@@ -1,6 +1,6 @@
 //! The history of a run, in which events are made.
 
-ghost use Rattle.std.specs.Prelude.{◌≡◌, ◌<◌, [], None, IfOk, length};
+ghost use Rattle.std.specs.Prelude.{◌≡◌, ◌↔◌, ◌<◌, [], None, IsTrue, IfOk, IfSome, IfNone, length};
 ghost use mathlib.Core.List.{IsPrefix};
 ghost use Rattle.mv_seats.specs.Knowing.{Plain, Gate};
 ghost use Rattle.mv_lawful.specs.Work.{ReadersKeepTables};
@@ -8,6 +8,8 @@ ghost use Rattle.mv_lawful.specs.Lawful.{beginning, open_call};
 ghost use Rattle.mv_script.specs.Scripts.{IsScript};
 ghost use Rattle.mv_shards.specs.Scripts.{script_in, work};
 ghost use Rattle.mv_shards.specs.Ledgers.{AreLastChanges};
+ghost use Rattle.mv_shards.specs.Leaves.{IsLeave, start_shown};
+ghost use Rattle.mv_core.specs.Calls.{IsLiveCall};
 ghost use Rattle.mv_core.specs.Books.{work_in};
 ghost use Rattle.mv_gate.specs.Gates.{StartsLast, HandsOut, Collects, IsOutcome};
 
@@ -21,6 +23,8 @@ use crate::latest::last_tables;
 use mv_core::book::Book;
 use mv_core::running::is_read_only;
 use mv_core::shared::SharedScript;
+use mv_grace::grace::Naming;
+use mv_grace::pin::Pin;
 use mv_journal::outcome::Outcome;
 use mv_seats::board::{Board, Making};
 use mv_seats::pass::Pass;
@@ -35,14 +39,14 @@ use std::sync::Wait;
 
 /// The history of a run, and what the gate keeps of the shards. Contracts see the history.
 #[derive(Drop)]
-pub struct Desk<N: Making> {
+pub struct Desk<N: Making + Naming> {
     book: Book,
     ledger: Ledger<N>,
     /// For each call that has begun, the last change of each shard up to its start. A call that is done has none.
     starts: Vec<Option<List<u32>>>,
 }
 
-impl<N: Making> Model for Desk<N> {
+impl<N: Making + Naming> Model for Desk<N> {
     ghost use Rattle.std.specs.Coded.{codes};
     ghost use Rattle.mv_catalog.specs.contracts.resolved.RStmt as statement;
     ghost use Rattle.mv_core.specs.Books.{Booked};
@@ -59,7 +63,7 @@ impl<N: Making> Model for Desk<N> {
 
 /// Returns the start after all commits, and once more for each shard its last change up to there. The start's pass has
 /// seen what the other pass had seen.
-fn next_start<N: Making>(
+fn next_start<N: Making + Naming>(
     alloc: Global,
     board: &Board<N>,
     ledger: &mut Ledger<N>,
@@ -79,7 +83,7 @@ fn next_start<N: Making>(
     Ok((start, touched))
 }
 
-impl<N: Making> Desk<N> {
+impl<N: Making + Naming> Desk<N> {
     /// Returns a desk before any event. The pass must be the gate's, as `Shards::new` leaves it. Fails with `NoMemory` if
     /// memory runs out.
     pub fn new(alloc: Global, script: SharedScript, pass: Pass<N>) -> Result<Desk<N>, NoMemory>
@@ -153,6 +157,29 @@ impl<N: Making> Desk<N> {
         self.ledger.pass_for(board)
     }
 
+    /// Returns the number of commits.
+    pub(crate) fn commits(&self) -> u32
+        ensures commits { result ≡ length self.now.course.order }
+        ensures script { self.now.script ≡ script_in N.script }
+    {
+        self.book.commits()
+    }
+
+    /// Returns the next call that hasn't begun, if there is one.
+    pub(crate) fn next_call(&self) -> Option<u32>
+        ensures next { IfSome result (λ call. (call ≡ length self.now.course.calls) × (call < length self.now.script.calls)) }
+        ensures none { IfNone result (length self.now.course.calls ≡ length self.now.script.calls) }
+    {
+        self.book.next_call()
+    }
+
+    /// Whether a call is live.
+    pub(crate) fn is_live(&self, call: u32) -> bool
+        ensures { IsTrue result ↔ IsLiveCall self.now.course call }
+    {
+        self.book.rounds(call).is_some()
+    }
+
     /// Whether a call of the script is read only.
     fn is_read_only(&self, call: u32) -> bool
         requires { call < length self.now.script.calls }
@@ -179,8 +206,10 @@ impl<N: Making> Desk<N> {
         self,
         alloc: Global,
         beside: &Beside<'_, N, R>,
+        last: &mut Option<Pin<N>>,
     ) -> Result<Outcome, NoMemory>
-        requires { open_call (work_in self) self.course ≡ None }
+        requires ended { open_call (work_in self) self.course ≡ None }
+        requires last { IsLeave N.script N.word (start_shown last.old) (length self.course.order) }
         ensures outcome { IfOk result (IsOutcome (work N.script)) }
         ensures journal { IfOk result (λ outcome. outcome.journal ≡ self.journal) }
         ensures readers { IfOk result (λ outcome. ReadersKeepTables (work N.script)) }
@@ -191,7 +220,7 @@ impl<N: Making> Desk<N> {
             mut ledger,
             ..
         } = self;
-        let tables = last_tables(alloc, beside, &mut ledger)?;
+        let tables = last_tables(alloc, beside, &mut ledger, last)?;
         book.outcome(alloc, tables)
     }
 }

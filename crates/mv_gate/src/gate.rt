@@ -1,6 +1,6 @@
 //! The gate, its workers, and whole runs by any number of them.
 
-ghost use Rattle.std.specs.Prelude.{◌≡◌, ◌<◌, ◌≤◌, [], IfOk, length};
+ghost use Rattle.std.specs.Prelude.{◌≡◌, ◌≢◌, ◌<◌, ◌≤◌, [], None, IfOk, IfSome, length};
 ghost use mathlib.Core.List.{IsPrefix};
 ghost use Rattle.mv_seats.specs.Knowing.{Plain};
 ghost use Rattle.mv_lawful.specs.Serializable.{IsSerializable};
@@ -10,14 +10,16 @@ ghost use Rattle.mv_gate.specs.Gates.{IsOutcome};
 
 use crate::answers::Answer;
 use crate::beside::Beside;
+use crate::crowd::Crowd;
 use crate::desk::Desk;
 use crate::guarded::Guarded;
-use crate::held::{Begun, Held, Reached, Ready};
 use crate::notes::note;
-use crate::tried::Tried;
+use crate::pinned::{PinnedBegun, PinnedHeld, PinnedTried, Reached};
 use mv_core::shared::SharedScript;
 use mv_core::spare::Spare;
 use mv_edge::pace::{Moment, Pace, Point};
+use mv_grace::grace::{Grace, GraceBlank, Naming};
+use mv_grace::note::FloorNote;
 use mv_journal::outcome::Outcome;
 use mv_script::columns::indexed_columns;
 use mv_script::script::Script;
@@ -43,15 +45,16 @@ const STEPS: u32 = 20;
 /// The number of commits from one collection of old versions to the next.
 const COLLECTION_INTERVAL: u32 = 64;
 
-/// A lock round the history of a run. The rows, in their shards, the board and the script lie beside the lock. All workers
-/// share them. A begin, an attempt to commit, a move and a collection are one hold of the lock each. A statement, a repair
-/// and a whole run after a move read the shards without the lock. An attempt holds it for the validation, and then for the
-/// commit into the shards, or for a new start. Once a call has used its rounds, its repair or its whole run is in the same
-/// hold as its commit.
+/// A lock round the history of a run. The rows, in their shards, the board, the word that counts readers and the script lie
+/// beside the lock. All workers share them. A begin, an attempt to commit, a move and a collection are one hold of the lock
+/// each. A statement, a repair and a whole run after a move read the shards without the lock. An attempt holds it for the
+/// validation, and then for the commit into the shards, or for a new start. Once a call has used its rounds, its repair or
+/// its whole run is in the same hold as its commit.
 #[derive(Drop)]
-pub struct Gate<N: Making> {
+pub struct Gate<N: Making + Naming> {
     board: Board<N>,
     shards: Shards<N>,
+    grace: Grace<N>,
     script: SharedScript,
     guarded: Mutex<Guarded<N>>,
     ghost named: { script ≡ script_in N.script },
@@ -59,16 +62,22 @@ pub struct Gate<N: Making> {
 
 /// The post of a worker: its pass and its number.
 #[derive(Drop)]
-struct Post<N: Making> {
+struct Post<N: Making + Naming> {
     pass: Pass<N>,
     number: u32,
     ghost plain: { pass.role ≡ Plain },
 }
 
-impl<N: Making> Gate<N> {
-    /// Returns the gate of a script before any event, and a plain pass that has seen no commit. `N` names the blank and
-    /// its script, which has eight shards. It copies the opening database twice. Fails with `NoMemory` if memory runs out.
-    pub fn new(alloc: Global, blank: Blank, script: Script) -> Result<(Gate<N>, Pass<N>), NoMemory>
+impl<N: Making + Naming> Gate<N> {
+    /// Returns the gate of a script before any event, and a plain pass that has seen no commit. `N` names the blanks and
+    /// the script, which has eight shards. It copies the opening database twice. Fails with `NoMemory` if memory runs out.
+    pub fn new(
+        alloc: Global,
+        blank: Blank,
+        grace: GraceBlank,
+        script: Script,
+    ) -> Result<(Gate<N>, Pass<N>), NoMemory>
+        requires word { grace ≡ N.word }
         requires board { blank.board ≡ N.board }
         requires named { blank.script ≡ N.script }
         requires shards { N.script.shards ≡ 8 }
@@ -81,23 +90,28 @@ impl<N: Making> Gate<N> {
         let horizon = script.options.horizon;
         let columns = indexed_columns(alloc, &script)?;
         let shards = Shards::new(alloc, &script.opening, horizon, &board, &mut pass, &columns)?;
+        let (grace, turner) = grace.open::<N>();
         let script = SharedScript::new(alloc, script)?;
         let mut desk = Desk::new(alloc, script.share()?, pass)?;
         let pass = desk.pass_for(&board);
-        let guarded = Mutex::new(Guarded::new(desk));
+        let crowd = Crowd::new(alloc, turner, horizon);
+        let guarded = Guarded::new(desk, crowd);
         Ok((
             Gate {
                 board,
                 shards,
+                grace,
                 script,
-                guarded,
+                guarded: Mutex::new(guarded),
             },
             pass,
         ))
     }
 
-    /// Returns the rows in their shards. Callers may read them beside the workers.
-    pub fn shards(&self) -> &Shards<N> {
+    /// Returns the rows in their shards. Callers may read them beside the workers. A horizon must be given.
+    pub fn shards(&self) -> &Shards<N>
+        requires { N.script.options.horizon ≢ None }
+    {
         &self.shards
     }
 
@@ -107,14 +121,15 @@ impl<N: Making> Gate<N> {
     }
 
     /// Returns the start after all commits, as one hold and no event. The start's pass has seen what the caller's pass,
-    /// which must be plain, had seen. Fails with `NoMemory` if memory runs out.
+    /// which must be plain, had seen. A horizon must be given. Fails with `NoMemory` if memory runs out.
     pub fn snapshot<R: Wait>(
         &self,
         rt: &R,
         alloc: Global,
         pass: &mut Pass<N>,
     ) -> Result<Start<N>, NoMemory>
-        requires { pass.old.role ≡ Plain }
+        requires plain { pass.old.role ≡ Plain }
+        requires horizon { N.script.options.horizon ≢ None }
         ensures same { pass.new ≡ pass.old }
         ensures number { IfOk result (λ start. start.number ≡ length start.knows.seen) }
         ensures seen { IfOk result (λ start. IsPrefix pass.old.seen start.knows.seen) }
@@ -126,7 +141,13 @@ impl<N: Making> Gate<N> {
 
     /// Returns what lies beside the lock.
     fn beside<'a, R: Wait>(&'a self, rt: &'a R) -> Beside<'a, N, R> {
-        Beside::new(rt, self.script.get(), &self.shards, &self.board)
+        Beside::new(
+            rt,
+            self.script.get(),
+            &self.shards,
+            &self.board,
+            &self.grace,
+        )
     }
 
     /// Takes the lock. It tries for a while before it sleeps, since most holds are shorter than it takes to wake a thread.
@@ -146,12 +167,12 @@ impl<N: Making> Gate<N> {
         rt: &R,
         alloc: Global,
         pass: &mut Pass<N>,
-    ) -> Result<Option<Begun<N>>, NoMemory>
+    ) -> Result<Option<PinnedBegun<N>>, NoMemory>
         requires { pass.old.role ≡ Plain }
         ensures { pass.new ≡ pass.old }
     {
         let mut guarded = self.enter(rt);
-        guarded.begin(alloc, &self.board, pass)
+        guarded.begin(alloc, &self.board, &self.grace, pass)
     }
 
     /// Event C, A, X, R or M, or M and C, or M and R, as one hold.
@@ -161,7 +182,7 @@ impl<N: Making> Gate<N> {
         alloc: Global,
         reached: Reached<N>,
         spare: &mut Spare,
-    ) -> Result<Tried<N>, NoMemory> {
+    ) -> Result<PinnedTried<N>, NoMemory> {
         let beside = self.beside(rt);
         let mut guarded = self.enter(rt);
         match reached {
@@ -176,11 +197,11 @@ impl<N: Making> Gate<N> {
         &self,
         rt: &R,
         alloc: Global,
-        tried: Tried<N>,
+        tried: PinnedTried<N>,
         spare: &mut Spare,
     ) -> Result<Option<Reached<N>>, NoMemory> {
         let beside = self.beside(rt);
-        let Tried {
+        let PinnedTried {
             answer: _,
             repair,
             moved,
@@ -208,14 +229,29 @@ impl<N: Making> Gate<N> {
         }
     }
 
-    /// Collects old versions after each commit whose number is a multiple of `COLLECTION_INTERVAL`: event G as one hold,
-    /// and then the shards, without the lock.
+    /// Turns the epochs of readers, as one hold, if no horizon is given and no worker has found no memory. Returns a note
+    /// of the floor.
+    fn sweep<R: Wait>(&self, rt: &R) -> Option<FloorNote<N>>
+        ensures { IfSome result (λ _. N.script.options.horizon ≡ None) }
+    {
+        let mut guarded = self.enter(rt);
+        guarded.sweep(&self.grace)
+    }
+
+    /// Collects old versions after each commit whose number is a multiple of `COLLECTION_INTERVAL`: one hold says how far,
+    /// and then the shards are collected without the lock. With a horizon the hold is event G.
     fn collect<R: Wait>(&self, rt: &R, commit: u32) {
         if commit % COLLECTION_INTERVAL != 0 {
             return;
         }
-        if let Some(low) = self.raise_low(rt) {
-            self.shards.collect(rt, low);
+        if self.script.get().options.horizon.is_some() {
+            if let Some(low) = self.raise_low(rt) {
+                self.shards.collect(rt, low);
+            }
+            return;
+        }
+        if let Some(mut note) = self.sweep(rt) {
+            self.shards.collect_to(rt, &self.grace, &mut note);
         }
     }
 
@@ -246,18 +282,18 @@ fn tell<R: Wait, P: Pace>(rt: &R, pace: &P, worker: u32, call: u32, moment: Mome
 }
 
 /// Runs the statements of a call that has begun, without the lock.
-fn run_statements<N: Making, R: Threads + Wait + Sync, P: Pace>(
+fn run_statements<N: Making + Naming, R: Threads + Wait + Sync, P: Pace>(
     rt: &R,
     alloc: Global,
     gate: &Gate<N>,
-    mut held: Held<N>,
+    mut held: PinnedHeld<N>,
     number: u32,
     pace: &P,
 ) -> Result<Reached<N>, NoMemory> {
     let beside = gate.beside(rt);
     for _ in rt.forever() {
         if held.ended() {
-            return Ok(Reached::Ready(Ready::new(alloc, held)?));
+            return Ok(Reached::Ready(held.into_ready(alloc)?));
         }
         if !held.step(alloc, &beside)? {
             return Ok(Reached::Late(held.into_late()));
@@ -269,18 +305,18 @@ fn run_statements<N: Making, R: Threads + Wait + Sync, P: Pace>(
 
 /// Runs the statements of a call that has begun, and tries to commit or to answer it, until it is done. Gives the call up
 /// if the history doesn't have it as it is held.
-fn run_call<N: Making, R: Threads + Wait + Sync, P: Pace>(
+fn run_call<N: Making + Naming, R: Threads + Wait + Sync, P: Pace>(
     rt: &R,
     alloc: Global,
     gate: &Gate<N>,
-    begun: Begun<N>,
+    begun: PinnedBegun<N>,
     spare: &mut Spare,
     number: u32,
     pace: &P,
 ) -> Result<(), NoMemory> {
     let call = begun.call();
     tell(rt, pace, number, call, Moment::Begun);
-    let held = Held::new(alloc, &gate.beside(rt), begun, spare)?;
+    let held = begun.hold(alloc, &gate.beside(rt), spare)?;
     let mut reached = run_statements(rt, alloc, gate, held, number, pace)?;
     for _ in rt.forever() {
         tell(rt, pace, number, call, Moment::Before);
@@ -304,7 +340,7 @@ fn run_call<N: Making, R: Threads + Wait + Sync, P: Pace>(
 /// Begins calls and tries to commit each, until none is left to begin, or some worker has found no memory. Calls the pace
 /// after each begin, each statement and each commit, and before each attempt to commit, while it doesn't hold the lock.
 /// Fails with `NoMemory` if it finds no memory. Then its last call may not have committed.
-pub fn worker<N: Making, R: Threads + Wait + Sync, P: Pace>(
+pub fn worker<N: Making + Naming, R: Threads + Wait + Sync, P: Pace>(
     rt: &R,
     alloc: Global,
     gate: &Gate<N>,
@@ -331,14 +367,14 @@ pub fn worker<N: Making, R: Threads + Wait + Sync, P: Pace>(
 }
 
 /// Returns a post with this pass and this number.
-fn new_post<N: Making>(pass: Pass<N>, number: u32) -> Post<N>
+fn new_post<N: Making + Naming>(pass: Pass<N>, number: u32) -> Post<N>
     requires { pass.role ≡ Plain }
 {
     Post { pass, number }
 }
 
 /// Begins calls and tries to commit each, as a worker at this post. Calls may be left that haven't committed.
-fn work_at<N: Making, R: Threads + Wait + Sync, P: Pace>(
+fn work_at<N: Making + Naming, R: Threads + Wait + Sync, P: Pace>(
     rt: &R,
     alloc: Global,
     gate: &Gate<N>,
@@ -350,7 +386,7 @@ fn work_at<N: Making, R: Threads + Wait + Sync, P: Pace>(
 }
 
 /// Works at each of these posts, by this many threads.
-fn run_workers<N: Making + Send + Sync, R: Threads + Wait + Sync, P: Pace>(
+fn run_workers<N: Making + Naming + Send + Sync, R: Threads + Wait + Sync, P: Pace>(
     rt: &R,
     alloc: Global,
     gate: &Gate<N>,
@@ -371,7 +407,7 @@ fn run_workers<N: Making + Send + Sync, R: Threads + Wait + Sync, P: Pace>(
 /// Runs the calls of a gate's script by 1 to 64 workers, and then those that they have left. Returns the outcome of a
 /// lawful and bounded journal, in which each call is done. So the calls are serializable by the outcome. Fails with
 /// `NoMemory` if memory runs out.
-pub fn run_all<N: Making + Send + Sync, R: Threads + Wait + Sync, P: Pace>(
+pub fn run_all<N: Making + Naming + Send + Sync, R: Threads + Wait + Sync, P: Pace>(
     rt: &R,
     alloc: Global,
     gate: Gate<N>,
@@ -394,14 +430,13 @@ pub fn run_all<N: Making + Send + Sync, R: Threads + Wait + Sync, P: Pace>(
     let Gate {
         board,
         shards,
+        grace,
         script,
         guarded,
     } = gate;
     let guarded = guarded.into_inner();
-    let mut desk = guarded.into_desk();
-    let beside = Beside::new(rt, script.get(), &shards, &board);
-    desk.commit_all_left(alloc, &beside)?;
-    desk.outcome(alloc, &beside)
+    let beside = Beside::new(rt, script.get(), &shards, &board, &grace);
+    guarded.finish(alloc, &beside)
 }
 
 /// Runs the calls of a script by 1 to 64 workers. Returns the outcome of a lawful and bounded journal, in which each call
@@ -426,19 +461,22 @@ pub fn run<R: Threads + Wait + Sync, P: Pace>(
         &script.options,
         SHARDS,
     )?;
-    run_named::<Brand, R, P>(rt, alloc, blank, script, workers, pace)
+    let grace = GraceBlank::new(alloc)?;
+    run_named::<Brand, R, P>(rt, alloc, blank, grace, script, workers, pace)
 }
 
 /// Runs the calls of the script that `N` names.
-fn run_named<N: Making + Send + Sync, R: Threads + Wait + Sync, P: Pace>(
+fn run_named<N: Making + Naming + Send + Sync, R: Threads + Wait + Sync, P: Pace>(
     rt: &R,
     alloc: Global,
     blank: Blank,
+    grace: GraceBlank,
     script: Script,
     workers: u32,
     pace: &P,
 ) -> Result<Outcome, NoMemory>
     requires board { blank.board ≡ N.board }
+    requires word { grace ≡ N.word }
     requires named { blank.script ≡ N.script }
     requires shards { N.script.shards ≡ 8 }
     requires script { script ≡ script_in N.script }
@@ -446,6 +484,6 @@ fn run_named<N: Making + Send + Sync, R: Threads + Wait + Sync, P: Pace>(
     requires workers { (0 < workers) × (workers ≤ 64) }
     ensures { IfOk result (IsOutcome (work_of script)) }
 {
-    let (gate, pass) = Gate::<N>::new(alloc, blank, script)?;
+    let (gate, pass) = Gate::<N>::new(alloc, blank, grace, script)?;
     run_all(rt, alloc, gate, pass, workers, pace)
 }

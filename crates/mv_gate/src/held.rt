@@ -5,20 +5,22 @@ ghost use mathlib.Core.List.{IsPrefix};
 ghost use Rattle.mv_seats.specs.Knowing.{Plain};
 ghost use Rattle.mv_lawful.specs.Rounds.{IsPast};
 ghost use Rattle.mv_exec.specs.Running.{IsUnchanged};
+ghost use Rattle.mv_shards.specs.Leaves.{IsLeave, start_shown};
 ghost use Rattle.mv_core.specs.Cores.{HasRunOne};
 ghost use Rattle.mv_gate.specs.Gates.{Tells};
 
 use crate::beside::Beside;
 use crate::told::Told;
 use mv_changes::recent::Committed;
-use mv_core::running::{repair_over, run_all, run_next};
+use mv_core::running::run_next;
 use mv_core::spare::Spare;
 use mv_core::tasks::new_task;
 use mv_exec::task::Task;
+use mv_grace::grace::Naming;
+use mv_grace::pin::Pin;
 use mv_seats::board::{Board, Making};
 use mv_seats::pass::Pass;
 use mv_shards::start::Start;
-use mv_shards::view::ShardsView;
 use mv_values::list::List;
 use mv_values::memory::NoMemory;
 use std::alloc::Global;
@@ -117,15 +119,6 @@ pub struct Ready<N: Making> {
     ghost tells: { Tells held.task.log.records told },
 }
 
-/// How far a call has come outside of the lock.
-#[derive(Drop)]
-pub enum Reached<N: Making> {
-    /// It has run whole.
-    Ready(Ready<N>),
-    /// It has to move.
-    Late(Late<N>),
-}
-
 impl<N: Making> Begun<N> {
     /// Returns the number of the call.
     pub fn call(&self) -> u32
@@ -142,34 +135,14 @@ impl<N: Making> Begun<N> {
     {
         self.start.pass_for(board)
     }
+}
 
-    /// Runs the call whole at its start, with the spare log, without the gate's lock. Fails with `NoMemory` if memory runs
-    /// out.
-    pub fn run_whole<R: Wait>(
-        self,
-        alloc: Global,
-        beside: &Beside<'_, N, R>,
-        spare: &mut Spare,
-    ) -> Result<Reached<N>, NoMemory> {
-        let Begun { call, mut start } = self;
-        let mut task = new_task(alloc, beside.script, call, spare)?;
-        let mut view = ShardsView::new(beside.rt, beside.shards, beside.board, &mut start);
-        match run_all(alloc, beside.script, call, &mut task, &mut view) {
-            Ok(()) => {
-                let _number = start.number();
-                let held = Held {
-                    call,
-                    start,
-                    from: None,
-                    task,
-                };
-                Ok(Reached::Ready(Ready::new(alloc, held)?))
-            }
-            Err(why) => {
-                start.refused(beside.board, view, why)?;
-                Ok(Reached::Late(Late { call, start }))
-            }
-        }
+impl<N: Making> Late<N> {
+    /// Returns the number of the call.
+    pub fn call(&self) -> u32
+        ensures { result ≡ self.now.call }
+    {
+        self.call
     }
 }
 
@@ -184,7 +157,7 @@ impl<N: Making> Ready<N> {
     }
 }
 
-impl<N: Making> Held<N> {
+impl<N: Making + Naming> Held<N> {
     /// Returns a call before its first statement, with the spare log. It copies the arguments. Fails with `NoMemory` if
     /// memory runs out.
     pub fn new<R: Wait>(
@@ -232,15 +205,17 @@ impl<N: Making> Held<N> {
         self.task.ended()
     }
 
-    /// Executes the next statement of the call, over the tables at its start, without the gate's lock. Returns false, and
-    /// executes none, only if a shard no longer has the rows there: then more commits than the horizon were made after the
-    /// start. Fails with `NoMemory` if memory runs out, and then none was executed.
+    /// Executes the next statement of the call, over the tables at its start, under its pin, without the gate's lock.
+    /// Returns false, and executes none, only if a shard no longer has the rows there: then more commits than the horizon
+    /// were made after the start. Fails with `NoMemory` if memory runs out, and then none was executed.
     pub fn step<R: Wait>(
         &mut self,
         alloc: Global,
         beside: &Beside<'_, N, R>,
+        pin: &mut Option<Pin<N>>,
     ) -> Result<bool, NoMemory>
-        requires { self.old.task.ended ≡ false }
+        requires more { self.old.task.ended ≡ false }
+        requires leave { IsLeave N.script N.word (start_shown pin.old) self.old.start.number }
         ensures one { IfOk result (λ ran. ran ≡ true → HasRunOne self.old.task self.new.task) }
         ensures none { IfOk result (λ ran. ran ≡ false → IsUnchanged self.old.task self.new.task) }
         ensures past { IfOk result (λ ran. ran ≡ false → IsPast N.script.options.horizon self.new.start.number (length self.new.start.knows.seen)) }
@@ -249,12 +224,19 @@ impl<N: Making> Held<N> {
         ensures from { self.new.from ≡ self.old.from }
         ensures number { self.new.start.number ≡ self.old.start.number }
         ensures seen { IsPrefix self.old.start.knows.seen self.new.start.knows.seen }
+        ensures leave { IsLeave N.script N.word (start_shown pin.new) self.new.start.number }
     {
-        let mut view = ShardsView::new(beside.rt, beside.shards, beside.board, &mut self.start);
+        let mut view = beside.view(&mut self.start, pin.take());
         match run_next(alloc, beside.script, self.call, &mut self.task, &mut view) {
-            Ok(_) => Ok(true),
+            Ok(_) => {
+                let (_seen, leave) = view.into_parts();
+                *pin = leave;
+                Ok(true)
+            }
             Err(why) => {
-                self.start.refused(beside.board, view, why)?;
+                let (seen, leave) = view.into_parts();
+                *pin = leave;
+                self.start.refused(beside.board, seen, why)?;
                 Ok(false)
             }
         }
@@ -268,40 +250,5 @@ impl<N: Making> Held<N> {
     {
         let Held { call, start, .. } = self;
         Late { call, start }
-    }
-}
-
-impl<N: Making> Repair<N> {
-    /// Repairs the call at its new start, without the gate's lock. It executes only what depends on the commits. Fails
-    /// with `NoMemory` if memory runs out. Then the call's last round has no number.
-    pub fn run<R: Wait>(
-        self,
-        alloc: Global,
-        beside: &Beside<'_, N, R>,
-    ) -> Result<Reached<N>, NoMemory> {
-        let Repair {
-            call,
-            mut start,
-            from,
-            mut task,
-            since,
-        } = self;
-        let mut view = ShardsView::new(beside.rt, beside.shards, beside.board, &mut start);
-        let commits = since.as_slice();
-        match repair_over(alloc, beside.script, call, &mut task, commits, &mut view) {
-            Ok(_) => {
-                let held = Held {
-                    call,
-                    start,
-                    from: Some(from),
-                    task,
-                };
-                Ok(Reached::Ready(Ready::new(alloc, held)?))
-            }
-            Err(why) => {
-                start.refused(beside.board, view, why)?;
-                Ok(Reached::Late(Late { call, start }))
-            }
-        }
     }
 }

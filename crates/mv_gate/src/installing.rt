@@ -3,10 +3,13 @@
 ghost use Rattle.std.specs.Prelude.{◌≡◌, ◌<◌, ◌+◌, ◌++◌, ◌∷◌, [], false, length, IfOk, OnOk, OnErr};
 ghost use Rattle.std.specs.List.{list_any};
 ghost use lib.Dec.{eqb};
+ghost use Rattle.mv_values.specs.Patching.{applied};
+ghost use Rattle.mv_record.specs.Runs.{writes_in};
 ghost use Rattle.mv_history.specs.Changes.{changes_between};
 ghost use Rattle.mv_lawful.specs.Work.{records_at};
 ghost use Rattle.mv_shards.specs.Scripts.{work};
 ghost use Rattle.mv_shards.specs.Histories.{tables_at};
+ghost use Rattle.mv_shards.specs.Leaves.{IsLeave, start_shown};
 ghost use Rattle.mv_core.specs.Told.{reply_told, writes_told};
 
 use crate::beside::Beside;
@@ -15,6 +18,9 @@ use crate::told::{Told, counted};
 use mv_changes::changes::Changes;
 use mv_changes::commit::changes_of_commit;
 use mv_exec::task::Task;
+use mv_grace::grace::Naming;
+use mv_grace::pin::Pin;
+use mv_log::records::Records;
 use mv_seats::board::Making;
 use mv_shards::ledger::Ledger;
 use mv_values::calls::Reply;
@@ -33,12 +39,51 @@ pub(crate) struct Installed {
     pub(crate) changes: Changes,
 }
 
-/// Appends a call as the next commit, and puts the writes that it tells into the shards. Its task must have run whole after
-/// all commits. If memory runs out, the call hasn't committed.
-pub(crate) fn install<N: Making, R: Wait>(
+/// Returns what the writes of records change in the tables after all commits. It reads under a pin, if readers need one.
+fn changes_last<N: Making + Naming, R: Wait>(
     alloc: Global,
     beside: &Beside<'_, N, R>,
     ledger: &mut Ledger<N>,
+    last: &mut Option<Pin<N>>,
+    records: &Records<'_>,
+) -> Result<Changes, NoMemory>
+    requires { IsLeave N.script N.word (start_shown last.old) ledger.old.commits }
+    ensures changes { IfOk result (λ changes. changes ≡ changes_between (tables_at N.script ledger.old.knows.seen ledger.old.commits) (applied (writes_in records.now) (tables_at N.script ledger.old.knows.seen ledger.old.commits))) }
+    ensures same { OnOk result (ledger.new ≡ ledger.old) }
+    ensures commits { ledger.new.commits ≡ ledger.old.commits }
+    ensures seen { ledger.new.knows.seen ≡ ledger.old.knows.seen }
+    ensures last { IsLeave N.script N.word (start_shown last.new) ledger.old.commits }
+{
+    let _commits = ledger.commits();
+    let tables = beside.script.opening.len();
+    let mut view = ledger.view(
+        beside.rt,
+        beside.shards,
+        beside.board,
+        beside.grace,
+        last.take(),
+    );
+    match changes_of_commit(alloc, tables, records, &mut view) {
+        Ok(changes) => {
+            let (_seen, pin) = view.into_parts();
+            *last = pin;
+            Ok(changes)
+        }
+        Err(why) => {
+            let (seen, pin) = view.into_parts();
+            *last = pin;
+            Err(last_error(ledger, beside.board, seen, why))
+        }
+    }
+}
+
+/// Appends a call as the next commit, and puts the writes that it tells into the shards. Its task must have run whole after
+/// all commits. If memory runs out, the call hasn't committed.
+pub(crate) fn install<N: Making + Naming, R: Wait>(
+    alloc: Global,
+    beside: &Beside<'_, N, R>,
+    ledger: &mut Ledger<N>,
+    last: &mut Option<Pin<N>>,
     call: u32,
     task: &Task,
     reply: Reply,
@@ -49,6 +94,7 @@ pub(crate) fn install<N: Making, R: Wait>(
     requires whole { task.now.log.records ≡ records_at (work N.script) ledger.old.knows.seen ledger.old.commits call }
     requires reply { reply ≡ reply_told task.now.log.records }
     requires writes { writes.now ≡ writes_told task.now.log.records }
+    requires last { IsLeave N.script N.word (start_shown last.old) ledger.old.commits }
     ensures commit { IfOk result (λ installed. installed.commit ≡ ledger.old.commits + 1) }
     ensures reply { IfOk result (λ installed. installed.reply ≡ ((work N.script).run call (tables_at N.script ledger.old.knows.seen ledger.old.commits)).reply) }
     ensures changes { IfOk result (λ installed. installed.changes ≡ changes_between (tables_at N.script ledger.old.knows.seen ledger.old.commits) ((work N.script).run call (tables_at N.script ledger.old.knows.seen ledger.old.commits)).tables) }
@@ -56,15 +102,11 @@ pub(crate) fn install<N: Making, R: Wait>(
     ensures appended { OnOk result (ledger.new.knows.seen ≡ ledger.old.knows.seen ++ call ∷ []) }
     ensures stays { OnErr result (ledger.new.commits ≡ ledger.old.commits) }
     ensures err { OnErr result (ledger.new.knows.seen ≡ ledger.old.knows.seen) }
+    ensures last { IsLeave N.script N.word (start_shown last.new) ledger.old.commits }
 {
     let _commits = ledger.commits();
     let records = counted(&task.records(), &reply);
-    let tables = beside.script.opening.len();
-    let mut view = ledger.view(beside.rt, beside.shards, beside.board);
-    let changes = match changes_of_commit(alloc, tables, &records, &mut view) {
-        Ok(changes) => changes,
-        Err(why) => return Err(last_error(ledger, beside.board, view, why)),
-    };
+    let changes = changes_last(alloc, beside, ledger, last, &records)?;
     let commit = ledger.commit(
         beside.rt,
         alloc,
@@ -82,16 +124,18 @@ pub(crate) fn install<N: Making, R: Wait>(
 }
 
 /// The same, with what the task tells. It copies that.
-pub(crate) fn install_task<N: Making, R: Wait>(
+pub(crate) fn install_task<N: Making + Naming, R: Wait>(
     alloc: Global,
     beside: &Beside<'_, N, R>,
     ledger: &mut Ledger<N>,
+    last: &mut Option<Pin<N>>,
     call: u32,
     task: &Task,
 ) -> Result<Installed, NoMemory>
     requires there { call < length N.script.calls }
     requires fresh { list_any (eqb call) ledger.old.knows.seen ≡ false }
     requires whole { task.now.log.records ≡ records_at (work N.script) ledger.old.knows.seen ledger.old.commits call }
+    requires last { IsLeave N.script N.word (start_shown last.old) ledger.old.commits }
     ensures commit { IfOk result (λ installed. installed.commit ≡ ledger.old.commits + 1) }
     ensures reply { IfOk result (λ installed. installed.reply ≡ ((work N.script).run call (tables_at N.script ledger.old.knows.seen ledger.old.commits)).reply) }
     ensures changes { IfOk result (λ installed. installed.changes ≡ changes_between (tables_at N.script ledger.old.knows.seen ledger.old.commits) ((work N.script).run call (tables_at N.script ledger.old.knows.seen ledger.old.commits)).tables) }
@@ -99,8 +143,9 @@ pub(crate) fn install_task<N: Making, R: Wait>(
     ensures appended { OnOk result (ledger.new.knows.seen ≡ ledger.old.knows.seen ++ call ∷ []) }
     ensures stays { OnErr result (ledger.new.commits ≡ ledger.old.commits) }
     ensures err { OnErr result (ledger.new.knows.seen ≡ ledger.old.knows.seen) }
+    ensures last { IsLeave N.script N.word (start_shown last.new) ledger.old.commits }
 {
     let told = Told::new(alloc, task)?;
     let Told { reply, writes } = told;
-    install(alloc, beside, ledger, call, task, reply, &writes)
+    install(alloc, beside, ledger, last, call, task, reply, &writes)
 }

@@ -3,6 +3,7 @@
 
 pub mod answers;
 pub mod beside;
+mod crowd;
 pub mod desk;
 pub mod gate;
 mod guarded;
@@ -10,6 +11,8 @@ pub mod held;
 mod installing;
 mod latest;
 mod notes;
+pub mod pinned;
+mod readers;
 mod rounds;
 mod tables;
 pub mod told;

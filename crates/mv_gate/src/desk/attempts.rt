@@ -1,11 +1,12 @@
 //! The attempts to commit, answer or move a worker's call, each in one hold.
 
-ghost use Rattle.std.specs.Prelude.{◌≡◌, ◌↔◌, Some, true, ℕ, IsTrue, IfOk, OnErr};
+ghost use Rattle.std.specs.Prelude.{◌≡◌, ◌↔◌, Some, true, ℕ, IsTrue, IfOk, OnErr, length};
 ghost use mathlib.Core.List.{IsPrefix};
 ghost use Rattle.mv_seats.specs.Knowing.{Plain};
 ghost use Rattle.mv_lawful.specs.Lawful.{Live, refusal};
 ghost use Rattle.mv_journal.specs.declared.event.Event.TheVariants.{C};
 ghost use Rattle.mv_shards.specs.Scripts.{script_in};
+ghost use Rattle.mv_shards.specs.Leaves.{IsLeave, start_shown};
 ghost use Rattle.mv_core.specs.Calls.{IsLive};
 ghost use Rattle.mv_core.specs.Books.{work_in, IsSame, IsReader};
 ghost use Rattle.mv_gate.specs.declared.answers.Answer.TheVariants as Answer;
@@ -22,6 +23,8 @@ use crate::tried::Tried;
 use mv_core::book::Check;
 use mv_core::spare::Spare;
 use mv_exec::task::Task;
+use mv_grace::grace::Naming;
+use mv_grace::pin::Pin;
 use mv_seats::board::{Board, Making};
 use mv_seats::pass::Pass;
 use mv_shards::start::Start;
@@ -29,7 +32,7 @@ use mv_values::memory::NoMemory;
 use std::alloc::Global;
 use std::sync::Wait;
 
-impl<N: Making> Desk<N> {
+impl<N: Making + Naming> Desk<N> {
     /// Whether the history has a live call with this start.
     fn finds(&self, call: u32, start: u32) -> bool
         ensures { IsTrue result ↔ StartsAt self.now call start }
@@ -61,6 +64,7 @@ impl<N: Making> Desk<N> {
         &mut self,
         alloc: Global,
         beside: &Beside<'_, N, R>,
+        last: &mut Option<Pin<N>>,
         call: u32,
         start: Start<N>,
         mut task: Task,
@@ -68,11 +72,13 @@ impl<N: Making> Desk<N> {
         requires whole { IsWhole self.old call task }
         requires start { (l : Live) → IsLive self.old.course call l → l.start ≡ start.number }
         requires hit { refusal (work_in self.old) self.old.course (C call) ≡ Some Conflict }
+        requires last { IsLeave N.script N.word (start_shown last.old) (length self.old.course.order) }
         ensures ok { IfOk result (λ tried. Tries call tried.answer self.old self.new) }
         ensures err { OnErr result (IsSame self.old self.new) }
         ensures stays { IfOk result (λ tried. tried.answer ≡ Answer.Lost → ⊥) }
         ensures repair { IfOk result (λ tried. GivesRepair call start.number tried.answer tried.repair self.new) }
         ensures moved { IfOk result (λ tried. GivesMoved call tried.answer tried.moved self.new) }
+        ensures last { IsLeave N.script N.word (start_shown last.new) (length self.old.course.order) }
     {
         if self.book.has_round(call) {
             let repair = self.again(alloc, beside.board, call, start, task)?;
@@ -84,7 +90,7 @@ impl<N: Making> Desk<N> {
                 writes: None,
             });
         }
-        let commit = self.exclusive(alloc, beside, call, &mut task)?;
+        let commit = self.exclusive(alloc, beside, last, call, &mut task)?;
         Ok(Tried {
             answer: Answer::Committed(commit),
             repair: None,
@@ -100,17 +106,20 @@ impl<N: Making> Desk<N> {
         &mut self,
         alloc: Global,
         beside: &Beside<'_, N, R>,
+        last: &mut Option<Pin<N>>,
         call: u32,
         seen: &mut Pass<N>,
         spare: &mut Spare,
     ) -> Result<Tried<N>, NoMemory>
         requires call { MayMove self.old call }
         requires plain { seen.old.role ≡ Plain }
+        requires last { IsLeave N.script N.word (start_shown last.old) (length self.old.course.order) }
         ensures ok { IfOk result (λ tried. Tries call tried.answer self.old self.new) }
         ensures err { OnErr result (IsSame self.old self.new) }
         ensures stays { IfOk result (λ tried. tried.answer ≡ Answer.Lost → ⊥) }
         ensures repair { (from : ℕ) → IfOk result (λ tried. GivesRepair call from tried.answer tried.repair self.new) }
         ensures moved { IfOk result (λ tried. GivesMoved call tried.answer tried.moved self.new) }
+        ensures last { IsLeave N.script N.word (start_shown last.new) (length self.old.course.order) }
     {
         if self.book.has_round(call) {
             let moved = self.move_up(alloc, beside.board, call, seen)?;
@@ -123,7 +132,7 @@ impl<N: Making> Desk<N> {
             });
         }
         if self.is_read_only(call) {
-            let start = self.move_and_answer(alloc, beside, call, spare)?;
+            let start = self.move_and_answer(alloc, beside, last, call, spare)?;
             return Ok(Tried {
                 answer: Answer::Answered(start),
                 repair: None,
@@ -132,7 +141,7 @@ impl<N: Making> Desk<N> {
                 writes: None,
             });
         }
-        let commit = self.move_and_commit(alloc, beside, call, spare)?;
+        let commit = self.move_and_commit(alloc, beside, last, call, spare)?;
         Ok(Tried {
             answer: Answer::Committed(commit),
             repair: None,
@@ -147,6 +156,7 @@ impl<N: Making> Desk<N> {
         &mut self,
         alloc: Global,
         beside: &Beside<'_, N, R>,
+        last: &mut Option<Pin<N>>,
         call: u32,
         mut start: Start<N>,
         task: Task,
@@ -156,16 +166,18 @@ impl<N: Making> Desk<N> {
         requires whole { IsWhole self.old call task }
         requires tells { Tells task.log.records told }
         requires kind { IsReader self.old call }
+        requires last { IsLeave N.script N.word (start_shown last.old) (length self.old.course.order) }
         ensures ok { IfOk result (λ tried. Tries call tried.answer self.old self.new) }
         ensures err { OnErr result (IsSame self.old self.new) }
         ensures stays { IfOk result (λ tried. tried.answer ≡ Answer.Lost → ⊥) }
         ensures repair { (from : ℕ) → IfOk result (λ tried. GivesRepair call from tried.answer tried.repair self.new) }
         ensures moved { IfOk result (λ tried. GivesMoved call tried.answer tried.moved self.new) }
+        ensures last { IsLeave N.script N.word (start_shown last.new) (length self.old.course.order) }
     {
         let _events = self.book.journal();
         if self.book.is_stale(call) {
             let mut seen = start.pass_for(beside.board);
-            let mut tried = self.meet_late(alloc, beside, call, &mut seen, spare)?;
+            let mut tried = self.meet_late(alloc, beside, last, call, &mut seen, spare)?;
             tried.done = Some(task);
             tried.writes = Some(told.writes);
             return Ok(tried);
@@ -186,6 +198,7 @@ impl<N: Making> Desk<N> {
         &mut self,
         alloc: Global,
         beside: &Beside<'_, N, R>,
+        last: &mut Option<Pin<N>>,
         call: u32,
         mut start: Start<N>,
         task: Task,
@@ -195,20 +208,22 @@ impl<N: Making> Desk<N> {
         requires whole { IsWhole self.old call task }
         requires tells { Tells task.log.records told }
         requires start { (l : Live) → IsLive self.old.course call l → l.start ≡ start.number }
+        requires last { IsLeave N.script N.word (start_shown last.old) (length self.old.course.order) }
         ensures ok { IfOk result (λ tried. Tries call tried.answer self.old self.new) }
         ensures err { OnErr result (IsSame self.old self.new) }
         ensures stays { IfOk result (λ tried. tried.answer ≡ Answer.Lost → ⊥) }
         ensures repair { IfOk result (λ tried. GivesRepair call start.number tried.answer tried.repair self.new) }
         ensures moved { IfOk result (λ tried. GivesMoved call tried.answer tried.moved self.new) }
+        ensures last { IsLeave N.script N.word (start_shown last.new) (length self.old.course.order) }
     {
         if self.is_read_only(call) {
-            return self.decide_read(alloc, beside, call, start, task, told, spare);
+            return self.decide_read(alloc, beside, last, call, start, task, told, spare);
         }
         let _events = self.book.journal();
         match self.book.check(call, &task) {
             Check::Free => {
                 let Told { reply, writes } = told;
-                let commit = self.commit(alloc, beside, call, &task, reply, &writes)?;
+                let commit = self.commit(alloc, beside, last, call, &task, reply, &writes)?;
                 Ok(Tried {
                     answer: Answer::Committed(commit),
                     repair: None,
@@ -218,13 +233,13 @@ impl<N: Making> Desk<N> {
                 })
             }
             Check::Hit { .. } => {
-                let mut tried = self.meet_hit(alloc, beside, call, start, task)?;
+                let mut tried = self.meet_hit(alloc, beside, last, call, start, task)?;
                 tried.writes = Some(told.writes);
                 Ok(tried)
             }
             Check::Stale { .. } => {
                 let mut seen = start.pass_for(beside.board);
-                let mut tried = self.meet_late(alloc, beside, call, &mut seen, spare)?;
+                let mut tried = self.meet_late(alloc, beside, last, call, &mut seen, spare)?;
                 tried.done = Some(task);
                 tried.writes = Some(told.writes);
                 Ok(tried)
@@ -242,14 +257,17 @@ impl<N: Making> Desk<N> {
         &mut self,
         alloc: Global,
         beside: &Beside<'_, N, R>,
+        last: &mut Option<Pin<N>>,
         ready: Ready<N>,
         spare: &mut Spare,
     ) -> Result<Tried<N>, NoMemory>
+        requires last { IsLeave N.script N.word (start_shown last.old) (length self.old.course.order) }
         ensures ok { IfOk result (λ tried. Tries ready.held.call tried.answer self.old self.new) }
         ensures err { OnErr result (IsSame self.old self.new) }
         ensures lost { IfOk result (λ tried. tried.answer ≡ Answer.Lost → IsKnown self.old ready.held → ⊥) }
         ensures repair { IfOk result (λ tried. GivesRepair ready.held.call ready.held.start.number tried.answer tried.repair self.new) }
         ensures moved { IfOk result (λ tried. GivesMoved ready.held.call tried.answer tried.moved self.new) }
+        ensures last { IsLeave N.script N.word (start_shown last.new) (length self.old.course.order) }
     {
         let Ready { mut held, told } = ready;
         let seen = held.pass_for(beside.board);
@@ -269,7 +287,7 @@ impl<N: Making> Desk<N> {
             task,
             ..
         } = held;
-        self.decide(alloc, beside, call, start, task, told, spare)
+        self.decide(alloc, beside, last, call, start, task, told, spare)
     }
 
     /// Learns that what a plain pass has seen begins the history.
@@ -290,14 +308,17 @@ impl<N: Making> Desk<N> {
         &mut self,
         alloc: Global,
         beside: &Beside<'_, N, R>,
+        last: &mut Option<Pin<N>>,
         late: Late<N>,
         spare: &mut Spare,
     ) -> Result<Tried<N>, NoMemory>
+        requires last { IsLeave N.script N.word (start_shown last.old) (length self.old.course.order) }
         ensures ok { IfOk result (λ tried. Tries late.call tried.answer self.old self.new) }
         ensures err { OnErr result (IsSame self.old self.new) }
         ensures lost { IfOk result (λ tried. tried.answer ≡ Answer.Lost → StartsAt self.old late.call late.start.number → ⊥) }
         ensures repair { (from : ℕ) → IfOk result (λ tried. GivesRepair late.call from tried.answer tried.repair self.new) }
         ensures moved { IfOk result (λ tried. GivesMoved late.call tried.answer tried.moved self.new) }
+        ensures last { IsLeave N.script N.word (start_shown last.new) (length self.old.course.order) }
     {
         let Late { call, mut start } = late;
         let seen = start.pass_for(beside.board);
@@ -313,6 +334,6 @@ impl<N: Making> Desk<N> {
             });
         }
         let mut seen = start.pass_for(beside.board);
-        self.meet_late(alloc, beside, call, &mut seen, spare)
+        self.meet_late(alloc, beside, last, call, &mut seen, spare)
     }
 }

@@ -1,9 +1,10 @@
 //! The events of live calls: A, C, M, R and X.
 
-ghost use Rattle.std.specs.Prelude.{◌≡◌, None, Ok, true, IfOk, OnOk, OnErr};
+ghost use Rattle.std.specs.Prelude.{◌≡◌, None, Ok, true, IfOk, OnOk, OnErr, length};
 ghost use Rattle.mv_seats.specs.Knowing.{Plain};
 ghost use Rattle.mv_lawful.specs.Lawful.{Live, refusal};
 ghost use Rattle.mv_journal.specs.declared.event.Event.TheVariants.{A, M, C, X};
+ghost use Rattle.mv_shards.specs.Leaves.{IsLeave, start_shown};
 ghost use Rattle.mv_core.specs.Calls.{IsLive};
 ghost use Rattle.mv_core.specs.Books.{work_in, Made, IsSame, IsNotStale, IsReader, IsNoReader, HasAnswered};
 ghost use Rattle.mv_core.specs.Told.{reply_told, writes_told};
@@ -20,6 +21,8 @@ use mv_core::spare::Spare;
 use mv_core::tasks::answer_told;
 use mv_core::told::reply_of;
 use mv_exec::task::Task;
+use mv_grace::grace::Naming;
+use mv_grace::pin::Pin;
 use mv_journal::outcome::Mark;
 use mv_seats::board::{Board, Making};
 use mv_seats::pass::Pass;
@@ -32,12 +35,13 @@ use mv_view::view::Refused;
 use std::alloc::Global;
 use std::sync::Wait;
 
-impl<N: Making> Desk<N> {
+impl<N: Making + Naming> Desk<N> {
     /// Event C of a call whose task has run whole.
     pub(super) fn commit<R: Wait>(
         &mut self,
         alloc: Global,
         beside: &Beside<'_, N, R>,
+        last: &mut Option<Pin<N>>,
         call: u32,
         task: &Task,
         reply: Reply,
@@ -47,12 +51,23 @@ impl<N: Making> Desk<N> {
         requires reply { reply ≡ reply_told task.now.log.records }
         requires writes { writes.now ≡ writes_told task.now.log.records }
         requires allowed { refusal (work_in self.old) self.old.course (C call) ≡ None }
-        ensures { HasCommitted (C call) result self.old self.new }
+        requires last { IsLeave N.script N.word (start_shown last.old) (length self.old.course.order) }
+        ensures made { HasCommitted (C call) result self.old self.new }
+        ensures last { IsLeave N.script N.word (start_shown last.new) (length self.old.course.order) }
     {
         let _events = self.book.journal();
         self.book.settle(call, task);
         self.book.reserve(call)?;
-        let installed = install(alloc, beside, &mut self.ledger, call, task, reply, writes)?;
+        let installed = install(
+            alloc,
+            beside,
+            &mut self.ledger,
+            last,
+            call,
+            task,
+            reply,
+            writes,
+        )?;
         let changes = Some(installed.changes);
         let commit = self.book.commit(call, installed.reply, changes, None);
         self.starts[call as usize] = None;
@@ -64,16 +79,19 @@ impl<N: Making> Desk<N> {
         &mut self,
         alloc: Global,
         beside: &Beside<'_, N, R>,
+        last: &mut Option<Pin<N>>,
         call: u32,
         task: &Task,
     ) -> Result<u32, NoMemory>
         requires whole { IsWhole self.old call task.now }
         requires allowed { refusal (work_in self.old) self.old.course (C call) ≡ None }
-        ensures { HasCommitted (C call) result self.old self.new }
+        requires last { IsLeave N.script N.word (start_shown last.old) (length self.old.course.order) }
+        ensures made { HasCommitted (C call) result self.old self.new }
+        ensures last { IsLeave N.script N.word (start_shown last.new) (length self.old.course.order) }
     {
         let told = Told::new(alloc, task)?;
         let Told { reply, writes } = told;
-        self.commit(alloc, beside, call, task, reply, &writes)
+        self.commit(alloc, beside, last, call, task, reply, &writes)
     }
 
     /// Event X of a call whose task has run whole.
@@ -81,19 +99,30 @@ impl<N: Making> Desk<N> {
         &mut self,
         alloc: Global,
         beside: &Beside<'_, N, R>,
+        last: &mut Option<Pin<N>>,
         call: u32,
         task: &mut Task,
     ) -> Result<u32, NoMemory>
         requires whole { IsWhole self.old call task.old }
         requires fresh { IsNotStale self.old call }
         requires allowed { refusal (work_in self.old) self.old.course (X call) ≡ None }
-        ensures { HasCommitted (X call) result self.old self.new }
+        requires last { IsLeave N.script N.word (start_shown last.old) (length self.old.course.order) }
+        ensures made { HasCommitted (X call) result self.old self.new }
+        ensures last { IsLeave N.script N.word (start_shown last.new) (length self.old.course.order) }
     {
         let _events = self.book.journal();
         self.book.settle(call, task);
         self.book.reserve(call)?;
-        repair_last(alloc, beside, &self.book, &mut self.ledger, call, task)?;
-        let installed = install_task(alloc, beside, &mut self.ledger, call, task)?;
+        repair_last(
+            alloc,
+            beside,
+            &self.book,
+            &mut self.ledger,
+            last,
+            call,
+            task,
+        )?;
+        let installed = install_task(alloc, beside, &mut self.ledger, last, call, task)?;
         let changes = Some(installed.changes);
         let commit = self
             .book
@@ -129,15 +158,18 @@ impl<N: Making> Desk<N> {
         &mut self,
         alloc: Global,
         beside: &Beside<'_, N, R>,
+        last: &mut Option<Pin<N>>,
         call: u32,
         spare: &mut Spare,
     ) -> Result<u32, NoMemory>
         requires may { MayMove self.old call }
         requires kind { IsReader self.old call }
-        ensures { HasMovedAndAnswered call result self.old self.new }
+        requires last { IsLeave N.script N.word (start_shown last.old) (length self.old.course.order) }
+        ensures made { HasMovedAndAnswered call result self.old self.new }
+        ensures last { IsLeave N.script N.word (start_shown last.new) (length self.old.course.order) }
     {
         let _events = self.book.journal();
-        let task = run_last(alloc, beside, &mut self.ledger, call, spare)?;
+        let task = run_last(alloc, beside, &mut self.ledger, last, call, spare)?;
         let reply = reply_of(alloc, &task.records())?;
         self.book.reserve(call)?;
         self.book.restart(call, Mark::Moved);
@@ -156,17 +188,20 @@ impl<N: Making> Desk<N> {
         &mut self,
         alloc: Global,
         beside: &Beside<'_, N, R>,
+        last: &mut Option<Pin<N>>,
         call: u32,
         spare: &mut Spare,
     ) -> Result<u32, NoMemory>
         requires may { MayMove self.old call }
         requires kind { IsNoReader self.old call }
-        ensures { HasMovedAndCommitted call result self.old self.new }
+        requires last { IsLeave N.script N.word (start_shown last.old) (length self.old.course.order) }
+        ensures made { HasMovedAndCommitted call result self.old self.new }
+        ensures last { IsLeave N.script N.word (start_shown last.new) (length self.old.course.order) }
     {
         let _events = self.book.journal();
-        let task = run_last(alloc, beside, &mut self.ledger, call, spare)?;
+        let task = run_last(alloc, beside, &mut self.ledger, last, call, spare)?;
         self.book.reserve(call)?;
-        let installed = install_task(alloc, beside, &mut self.ledger, call, &task)?;
+        let installed = install_task(alloc, beside, &mut self.ledger, last, call, &task)?;
         self.book.restart(call, Mark::Moved);
         self.book.settle(call, &task);
         let changes = Some(installed.changes);
@@ -241,23 +276,34 @@ impl<N: Making> Desk<N> {
         &mut self,
         alloc: Global,
         beside: &Beside<'_, N, R>,
+        last: &mut Option<Pin<N>>,
         call: u32,
         task: &mut Task,
     ) -> Result<(), NoMemory>
         requires whole { IsWhole self.old call task.old }
         requires fresh { IsNotStale self.old call }
         requires allowed { refusal (work_in self.old) self.old.course (A call) ≡ None }
+        requires last { IsLeave N.script N.word (start_shown last.old) (length self.old.course.order) }
         ensures ok { OnOk result (Made (A call) self.old self.new) }
         ensures whole { OnOk result (IsWhole self.new call task.new) }
         ensures free { OnOk result (refusal (work_in self.new) self.new.course (C call) ≡ None) }
         ensures err { OnErr result (IsSame self.old self.new) }
+        ensures last { IsLeave N.script N.word (start_shown last.new) (length self.old.course.order) }
     {
         let _events = self.book.journal();
         self.book.settle(call, task);
         self.book.reserve(call)?;
         let mut seen = self.ledger.pass_for(beside.board);
         let (_start, touched) = next_start(alloc, beside.board, &mut self.ledger, &mut seen)?;
-        repair_last(alloc, beside, &self.book, &mut self.ledger, call, task)?;
+        repair_last(
+            alloc,
+            beside,
+            &self.book,
+            &mut self.ledger,
+            last,
+            call,
+            task,
+        )?;
         self.book.restart(call, Mark::Plain);
         self.starts[call as usize] = Some(touched);
         Ok(())

@@ -1,13 +1,13 @@
 //! The calls that the workers left. Each is brought to its end.
 
-ghost use Rattle.std.specs.Prelude.{◌≡◌, ◌<◌, ◌≤◌, None, Some, false, IfOk, IfSome, IfNone, OnOk, length};
-ghost use mathlib.Core.List.{IsPrefix};
-ghost use Rattle.mv_lawful.specs.Lawful.{Live, open_call, refusal};
+ghost use Rattle.std.specs.Prelude.{◌≡◌, ◌<◌, Some, false, IfOk, IfSome, IfNone, OnOk, length};
+ghost use Rattle.mv_lawful.specs.Lawful.{Live, refusal};
 ghost use Rattle.mv_journal.specs.declared.event.Event.TheVariants.{C};
+ghost use Rattle.mv_shards.specs.Leaves.{IsLeave, start_shown};
 ghost use Rattle.mv_core.specs.Calls.{IsLive, IsLiveCall};
 ghost use Rattle.mv_core.specs.Books.{work_in, IsNotStale, IsReader};
 ghost use Rattle.mv_lawful.specs.declared.fault.Fault.TheVariants.{Conflict};
-ghost use Rattle.mv_gate.specs.Gates.{IsWhole, IsPastIn, MayMove, IsSettledOrWhole, IsDone, GoesOn};
+ghost use Rattle.mv_gate.specs.Gates.{IsWhole, IsPastIn, MayMove, IsSettledOrWhole, IsDone, Brings, GoesOn};
 
 use super::Desk;
 use crate::beside::Beside;
@@ -18,17 +18,18 @@ use mv_core::spare::Spare;
 use mv_core::tasks::new_task;
 use mv_core::told::reply_of;
 use mv_exec::task::Task;
+use mv_grace::grace::Naming;
+use mv_grace::pin::Pin;
 use mv_seats::board::{Board, Making};
 use mv_shards::start::Start;
-use mv_shards::view::ShardsView;
 use mv_values::copied::Copied;
 use mv_values::memory::NoMemory;
 use std::alloc::Global;
 use std::sync::Wait;
 
-impl<N: Making> Desk<N> {
+impl<N: Making + Naming> Desk<N> {
     /// Returns the number of calls of the script.
-    fn calls(&self) -> u32
+    pub(crate) fn calls(&self) -> u32
         ensures { result ≡ length self.now.script.calls }
     {
         self.book.script().calls.len() as u32
@@ -69,11 +70,13 @@ impl<N: Making> Desk<N> {
         &mut self,
         alloc: Global,
         beside: &Beside<'_, N, R>,
+        own: &mut Option<Pin<N>>,
         call: u32,
         spare: &mut Spare,
     ) -> Result<Option<Task>, NoMemory>
         requires live { IsLiveCall self.old.course call }
         requires number { call < length self.old.script.calls }
+        requires own { (l : Live) → IsLive self.old.course call l → IsLeave N.script N.word (start_shown own.old) l.start }
         ensures same { self.new ≡ self.old }
         ensures whole { IfOk result (λ task. IfSome task (IsWhole self.old call)) }
         ensures past { IfOk result (λ task. IfNone task (IsPastIn self.old call)) }
@@ -85,11 +88,17 @@ impl<N: Making> Desk<N> {
         let number = start.number();
         let _book = &self.book;
         let mut task = new_task(alloc, beside.script, call, spare)?;
-        let mut view = ShardsView::new(beside.rt, beside.shards, beside.board, &mut start);
+        let mut view = beside.view(&mut start, own.take());
         match run_all(alloc, beside.script, call, &mut task, &mut view) {
-            Ok(()) => Ok(Some(task)),
+            Ok(()) => {
+                let (_seen, pin) = view.into_parts();
+                *own = pin;
+                Ok(Some(task))
+            }
             Err(why) => {
-                self.ledger.refused(beside.board, view, number, why)?;
+                let (seen, pin) = view.into_parts();
+                *own = pin;
+                self.ledger.refused(beside.board, seen, number, why)?;
                 Ok(None)
             }
         }
@@ -100,25 +109,29 @@ impl<N: Making> Desk<N> {
         &mut self,
         alloc: Global,
         beside: &Beside<'_, N, R>,
+        last: &mut Option<Pin<N>>,
         call: u32,
         task: Task,
         spare: &mut Spare,
     ) -> Result<(), NoMemory>
         requires whole { IsWhole self.old call task }
         requires fresh { IsNotStale self.old call }
+        requires last { IsLeave N.script N.word (start_shown last.old) (length self.old.course.order) }
         ensures done { OnOk result (IsDone self.new.course call) }
+        ensures brings { OnOk result (Brings call self.old self.new) }
         ensures kept { GoesOn self.old self.new }
+        ensures last { IsLeave N.script N.word (start_shown last.new) (length self.old.course.order) }
     {
         if self.is_read_only(call) {
             return self.answer_left(alloc, call, task, spare);
         }
         match self.book.check(call, &task) {
             Check::Free => {
-                self.commit_unheld(alloc, beside, call, &task)?;
+                self.commit_unheld(alloc, beside, last, call, &task)?;
                 spare.keep(task);
                 Ok(())
             }
-            Check::Hit { .. } => self.repair_left(alloc, beside, call, task, spare),
+            Check::Hit { .. } => self.repair_left(alloc, beside, last, call, task, spare),
             Check::Stale { .. } => unreachable!(),
         }
     }
@@ -135,6 +148,7 @@ impl<N: Making> Desk<N> {
         requires kind { IsReader self.old call }
         requires fresh { IsNotStale self.old call }
         ensures done { OnOk result (IsDone self.new.course call) }
+        ensures brings { OnOk result (Brings call self.old self.new) }
         ensures kept { GoesOn self.old self.new }
     {
         let reply = reply_of(alloc, &task.records())?;
@@ -148,22 +162,26 @@ impl<N: Making> Desk<N> {
         &mut self,
         alloc: Global,
         beside: &Beside<'_, N, R>,
+        last: &mut Option<Pin<N>>,
         call: u32,
         mut task: Task,
         spare: &mut Spare,
     ) -> Result<(), NoMemory>
         requires whole { IsWhole self.old call task }
         requires hit { refusal (work_in self.old) self.old.course (C call) ≡ Some Conflict }
+        requires last { IsLeave N.script N.word (start_shown last.old) (length self.old.course.order) }
         ensures done { OnOk result (IsDone self.new.course call) }
+        ensures brings { OnOk result (Brings call self.old self.new) }
         ensures kept { GoesOn self.old self.new }
+        ensures last { IsLeave N.script N.word (start_shown last.new) (length self.old.course.order) }
     {
         if self.book.has_round(call) {
-            self.rerun(alloc, beside, call, &mut task)?;
-            self.commit_unheld(alloc, beside, call, &task)?;
+            self.rerun(alloc, beside, last, call, &mut task)?;
+            self.commit_unheld(alloc, beside, last, call, &task)?;
             spare.keep(task);
             return Ok(());
         }
-        self.exclusive(alloc, beside, call, &mut task)?;
+        self.exclusive(alloc, beside, last, call, &mut task)?;
         spare.keep(task);
         Ok(())
     }
@@ -173,97 +191,51 @@ impl<N: Making> Desk<N> {
         &mut self,
         alloc: Global,
         beside: &Beside<'_, N, R>,
+        last: &mut Option<Pin<N>>,
         call: u32,
         spare: &mut Spare,
     ) -> Result<(), NoMemory>
-        requires { MayMove self.old call }
+        requires may { MayMove self.old call }
+        requires last { IsLeave N.script N.word (start_shown last.old) (length self.old.course.order) }
         ensures done { OnOk result (IsDone self.new.course call) }
+        ensures brings { OnOk result (Brings call self.old self.new) }
         ensures kept { GoesOn self.old self.new }
+        ensures last { IsLeave N.script N.word (start_shown last.new) (length self.old.course.order) }
     {
         if self.is_read_only(call) {
-            self.move_and_answer(alloc, beside, call, spare)?;
+            self.move_and_answer(alloc, beside, last, call, spare)?;
             return Ok(());
         }
-        self.move_and_commit(alloc, beside, call, spare)?;
+        self.move_and_commit(alloc, beside, last, call, spare)?;
         Ok(())
     }
 
     /// Ends a live call that no worker holds any more. If its start lies further back than the horizon, it moves first.
-    fn commit_left<R: Wait>(
+    pub(crate) fn commit_left<R: Wait>(
         &mut self,
         alloc: Global,
         beside: &Beside<'_, N, R>,
+        own: &mut Option<Pin<N>>,
+        last: &mut Option<Pin<N>>,
         call: u32,
         spare: &mut Spare,
     ) -> Result<(), NoMemory>
         requires live { IsLiveCall self.old.course call }
         requires number { call < length self.old.script.calls }
+        requires last { IsLeave N.script N.word (start_shown last.old) (length self.old.course.order) }
+        requires own { (l : Live) → IsLive self.old.course call l → IsLeave N.script N.word (start_shown own.old) l.start }
         ensures done { OnOk result (IsDone self.new.course call) }
+        ensures brings { OnOk result (Brings call self.old self.new) }
         ensures kept { GoesOn self.old self.new }
+        ensures last { IsLeave N.script N.word (start_shown last.new) (length self.old.course.order) }
     {
         let _events = self.book.journal();
         if self.book.is_stale(call) {
-            return self.move_left(alloc, beside, call, spare);
+            return self.move_left(alloc, beside, last, call, spare);
         }
-        let Some(task) = self.renew(alloc, beside, call, spare)? else {
-            return self.move_left(alloc, beside, call, spare);
+        let Some(task) = self.renew(alloc, beside, own, call, spare)? else {
+            return self.move_left(alloc, beside, last, call, spare);
         };
-        self.finish_left(alloc, beside, call, task, spare)
-    }
-
-    /// Begins a call, if it is the next one.
-    fn begin_left(&mut self, alloc: Global, board: &Board<N>, call: u32) -> Result<(), NoMemory>
-        requires begun { call ≤ length self.old.course.calls }
-        requires there { call < length self.old.script.calls }
-        ensures begun { OnOk result (call < length self.new.course.calls) }
-        ensures kept { GoesOn self.old self.new }
-    {
-        let Some(next) = self.book.next_call() else {
-            return Ok(());
-        };
-        if next != call {
-            return Ok(());
-        }
-        let mut seen = self.pass_for(board);
-        self.begin(alloc, board, &mut seen)?;
-        Ok(())
-    }
-
-    /// Brings a call to its end, if it isn't done. All calls before it have begun.
-    fn bring<R: Wait>(
-        &mut self,
-        alloc: Global,
-        beside: &Beside<'_, N, R>,
-        call: u32,
-        spare: &mut Spare,
-    ) -> Result<(), NoMemory>
-        requires begun { call ≤ length self.old.course.calls }
-        requires there { call < length self.old.script.calls }
-        ensures begun { OnOk result (call < length self.new.course.calls) }
-        ensures done { OnOk result (IsDone self.new.course call) }
-        ensures kept { GoesOn self.old self.new }
-    {
-        self.begin_left(alloc, beside.board, call)?;
-        let Some(_) = self.book.rounds(call) else {
-            return Ok(());
-        };
-        self.commit_left(alloc, beside, call, spare)
-    }
-
-    /// Begins the calls that haven't begun, and ends those that aren't done, one after another. Fails with
-    /// `NoMemory` if memory runs out, and if the last round of such a call is a repair that has no number.
-    pub fn commit_all_left<R: Wait>(
-        &mut self,
-        alloc: Global,
-        beside: &Beside<'_, N, R>,
-    ) -> Result<(), NoMemory>
-        ensures ended { OnOk result (open_call (work_in self.new) self.new.course ≡ None) }
-        ensures events { IsPrefix self.old.journal self.new.journal }
-    {
-        let mut spare = Spare::new();
-        for call in 0..self.calls() {
-            self.bring(alloc, beside, call, &mut spare)?;
-        }
-        Ok(())
+        self.finish_left(alloc, beside, last, call, task, spare)
     }
 }

@@ -8,8 +8,10 @@ use Rattle.mv_core.specs.Cores.{IsTaskFor, CanRepair}
 use Rattle.mv_core.proofs.Stored.{can_repair}
 use Rattle.mv_core.proofs.Taking.{task_runs}
 use Rattle.mv_shards.specs.Ledgers.{Entered}
-use Rattle.mv_gate.proofs.Seeing.{asked_late}
+use Rattle.mv_gate.proofs.Seeing.{asked_late, told_low}
 use Rattle.mv_gate.proofs.Committing.{tables_here, latest_of, repaired_of}
+use Rattle.mv_shards.specs.Leaves.{start_shown}
+use Rattle.mv_gate.proofs.Pins.{leave_shown}
 use Rattle.mv_gate.proofs.latest.repair_last.Goals as goal
 
 pub since-since-requires-clause-live : goal.since-since-requires-clause-live
@@ -35,9 +37,12 @@ repair_over-requires-clause-leads g c =
     (ap (λ (s : Sight). s.database) c.view-view.ensures.sight
     ∙ tables_here g.N.Making.script c.args.book.now c.args.ledger.now c.requires.script (record { seen = c.requires.seen; commits = c.commits-commits.ensures.kept.seen ∙ ap length c.requires.seen })))
 
-pub last_error-requires : goal.last_error-requires
-last_error-requires g c = asked_late c.view-view.result.sight c.repair_over.new.view.sight _ c.in-Err.why c.view-view.new.self.commits c.in-Err.ensures.view refl
-    (ap (λ (s : Sight). s.start) c.view-view.ensures.sight ∙ sym (ap (λ (l : Entered). l.commits) c.view-view.ensures.same))
+pub last_error-requires-clause-low : goal.last_error-requires-clause-low
+last_error-requires-clause-low g c =
+    told_low g.N.Making.script.options.horizon c.view-view.new.self.commits _ c.repair_over.new.view.sight c.in-Err.why
+    (asked_late c.view-view.result.sight c.repair_over.new.view.sight _ c.in-Err.why c.view-view.new.self.commits c.in-Err.ensures.view refl
+    (ap (λ (s : Sight). s.start) c.view-view.ensures.sight ∙ sym (ap (λ (l : Entered). l.commits) c.view-view.ensures.same)))
+    c.into_parts-seen-in-Err.ensures.low
 
 pub returns-in-Ok-clause-latest : goal.returns-in-Ok-clause-latest
 returns-in-Ok-clause-latest g c =
@@ -56,3 +61,11 @@ returns-in-Ok-clause-executed g c =
     (ap (λ (s : Sight). s.database) c.view-view.ensures.sight
     ∙ tables_here g.N.Making.script c.args.book.now c.args.ledger.now c.requires.script (record { seen = c.requires.seen; commits = c.commits-commits.ensures.kept.seen ∙ ap length c.requires.seen }))
     c.in-Ok.ensures.runs c.in-Ok.ensures.records).records c.in-Ok.ensures.executed
+
+pub returns-in-Ok-clause-last : goal.returns-in-Ok-clause-last
+returns-in-Ok-clause-last g c =
+    leave_shown g.N.Making.script g.N.Naming.word (start_shown c.into_parts-seen.result.1) c.view-view.result.sight c.repair_over.new.view.sight c.args.ledger.now.commits c.in-Ok.ensures.view.same (ap (λ (s : Sight). s.start) c.view-view.ensures.sight) c.into_parts-seen.ensures.leave
+
+pub returns-in-Err-clause-last : goal.returns-in-Err-clause-last
+returns-in-Err-clause-last g c =
+    leave_shown g.N.Making.script g.N.Naming.word (start_shown c.into_parts-seen-in-Err.result.1) c.view-view.result.sight c.repair_over.new.view.sight c.args.ledger.now.commits c.in-Err.ensures.view.same (ap (λ (s : Sight). s.start) c.view-view.ensures.sight) c.into_parts-seen-in-Err.ensures.leave

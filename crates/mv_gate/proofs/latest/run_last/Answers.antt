@@ -6,20 +6,22 @@ use Rattle.mv_shards.specs.Scripts.{work}
 use Rattle.mv_shards.specs.Ledgers.{Entered}
 use Rattle.mv_shards.specs.Histories.{tables_at}
 use Rattle.mv_gate.proofs.Running.{runs_here}
-use Rattle.mv_gate.proofs.Seeing.{asked_late, shown_in}
+use Rattle.mv_gate.proofs.Seeing.{asked_late, told_low, shown_in}
+use Rattle.mv_shards.specs.Leaves.{start_shown}
+use Rattle.mv_gate.proofs.Pins.{leave_shown}
 use Rattle.mv_gate.proofs.latest.run_last.Goals as goal
 
 pub new_task-requires-clause-script : goal.new_task-requires-clause-script
 new_task-requires-clause-script g c = subst IsScript (sym c.args.beside.now.named) c.commits-commits.ensures.kept.script
 
 pub new_task-requires-clause-number : goal.new_task-requires-clause-number
-new_task-requires-clause-number g c = subst (λ (s : Script). c.args.call < length s.calls) (sym c.args.beside.now.named) c.requires
+new_task-requires-clause-number g c = subst (λ (s : Script). c.args.call < length s.calls) (sym c.args.beside.now.named) c.requires.there
 
 pub run_all-requires-clause-script : goal.run_all-requires-clause-script
 run_all-requires-clause-script g c = subst IsScript (sym c.args.beside.now.named) c.commits-commits.ensures.kept.script
 
 pub run_all-requires-clause-number : goal.run_all-requires-clause-number
-run_all-requires-clause-number g c = subst (λ (s : Script). c.args.call < length s.calls) (sym c.args.beside.now.named) c.requires
+run_all-requires-clause-number g c = subst (λ (s : Script). c.args.call < length s.calls) (sym c.args.beside.now.named) c.requires.there
 
 pub run_all-requires-clause-database : goal.run_all-requires-clause-database
 run_all-requires-clause-database g c =
@@ -29,9 +31,12 @@ run_all-requires-clause-database g c =
 pub run_all-requires-clause-runs : goal.run_all-requires-clause-runs
 run_all-requires-clause-runs g c = c.in_ok-task.ensures.runs c.view-view.result.sight.database
 
-pub last_error-requires : goal.last_error-requires
-last_error-requires g c = asked_late c.view-view.result.sight c.run_all.new.view.sight _ c.in-Err.why c.view-view.new.self.commits c.in-Err.ensures.view refl
-    (ap (λ (s : Sight). s.start) c.view-view.ensures.sight ∙ sym (ap (λ (l : Entered). l.commits) c.view-view.ensures.same))
+pub last_error-requires-clause-low : goal.last_error-requires-clause-low
+last_error-requires-clause-low g c =
+    told_low g.N.Making.script.options.horizon c.view-view.new.self.commits _ c.run_all.new.view.sight c.in-Err.why
+    (asked_late c.view-view.result.sight c.run_all.new.view.sight _ c.in-Err.why c.view-view.new.self.commits c.in-Err.ensures.view refl
+    (ap (λ (s : Sight). s.start) c.view-view.ensures.sight ∙ sym (ap (λ (l : Entered). l.commits) c.view-view.ensures.same)))
+    c.into_parts-seen-in-Err.ensures.low
 
 pub returns-in-Ok-clause-runs : goal.returns-in-Ok-clause-runs
 returns-in-Ok-clause-runs g c =
@@ -50,3 +55,11 @@ returns-in-Ok-clause-executed g c =
     let none = ap length c.in_ok-task.ensures.records in
     let zero = c.in_ok-task.ensures.executed in
     omega (arith, all, none, zero)
+
+pub returns-in-Ok-clause-last : goal.returns-in-Ok-clause-last
+returns-in-Ok-clause-last g c =
+    leave_shown g.N.Making.script g.N.Naming.word (start_shown c.into_parts-seen.result.1) c.view-view.result.sight c.run_all.new.view.sight c.args.ledger.now.commits c.in-Ok.ensures.view.same (ap (λ (s : Sight). s.start) c.view-view.ensures.sight) c.into_parts-seen.ensures.leave
+
+pub returns-in-Err-clause-last : goal.returns-in-Err-clause-last
+returns-in-Err-clause-last g c =
+    leave_shown g.N.Making.script g.N.Naming.word (start_shown c.into_parts-seen-in-Err.result.1) c.view-view.result.sight c.run_all.new.view.sight c.args.ledger.now.commits c.in-Err.ensures.view.same (ap (λ (s : Sight). s.start) c.view-view.ensures.sight) c.into_parts-seen-in-Err.ensures.leave

@@ -1,3 +1,4 @@
+use Rattle.std.proofs.Common.{inl, inr}
 use Rattle.mv_core.proofs.Changed.{same_self}
 use Rattle.mv_gate.proofs.Ending.{keeps_same, keeps_answered, done_answered}
 use Rattle.mv_gate.proofs.desk.Desk.answer_left.Goals as goal
@@ -13,3 +14,6 @@ returns-clause-done g c = done_answered c.args.call c.args.self.now c.answer.new
 
 pub returns-clause-kept : goal.returns-clause-kept
 returns-clause-kept g c = keeps_answered c.args.call c.args.self.now c.answer.new.self c.in_ok-answer.ensures.ok.0 c.requires.whole.live
+
+pub returns-clause-brings : goal.returns-clause-brings
+returns-clause-brings g c = inl (inr (inr c.in_ok-answer.ensures.ok.0))

@@ -1,9 +1,11 @@
-use Rattle.std.proofs.Common.{ap, sym, subst, ◌∙◌, rules}
+use Rattle.std.proofs.Common.{refl, ap, sym, subst, ◌∙◌, rules}
 use Rattle.mv_core.specs.Books.{Booked, IsSame}
 use Rattle.mv_core.proofs.Changed.{same_self}
 use Rattle.mv_gate.specs.Gates.{Holding, IsWhole, IsKnown, Tells}
 use Rattle.mv_gate.proofs.Holding.{known_start}
 use Rattle.mv_gate.proofs.Leaving.{seen_before, lost_apart}
+use Rattle.mv_shards.specs.Leaves.{start_shown}
+use Rattle.mv_gate.proofs.Pins.{leave_in, leave_back}
 use Rattle.mv_gate.proofs.desk.Desk.attempt.Goals as goal
 
 pub has-requires : goal.has-requires
@@ -29,3 +31,9 @@ pub decide-requires-clause-tells : goal.decide-requires-clause-tells
 decide-requires-clause-tells g c =
     subst (λ (h : Holding). Tells h.task.log.records c.args.ready.told) (sym c.held.view_is)
     (subst (λ (h : Holding). Tells h.task.log.records c.args.ready.told) (sym c.pass_for-seen.ensures.same) c.args.ready.tells)
+
+pub decide-requires-clause-last : goal.decide-requires-clause-last
+decide-requires-clause-last g c = leave_in g.N.Making.script g.N.Naming.word (start_shown c.args.last.now) c.learn.new.self c.args.self.now c.learn.ensures.same c.requires.last
+
+pub returns-clause-last : goal.returns-clause-last
+returns-clause-last g c = leave_back g.N.Making.script g.N.Naming.word (start_shown c.decide.new.last) c.learn.new.self c.args.self.now _ c.learn.ensures.same refl c.decide.ensures.last

@@ -12,6 +12,8 @@ use Rattle.mv_gate.proofs.Starts.{entry_there}
 use Rattle.mv_gate.proofs.Desks.{desk_seen, seen_on, desk_same, desk_committed, fresh_call, commit_failed}
 use Rattle.mv_gate.proofs.Holding.{whole_same}
 use Rattle.mv_gate.proofs.Committing.{free_last, records_here, reply_here, changes_here}
+use Rattle.mv_shards.specs.Leaves.{start_shown}
+use Rattle.mv_gate.proofs.Pins.{leave_last, leave_back}
 use Rattle.mv_gate.proofs.desk.Desk.commit.Goals as goal
 
 pub settle-requires-clause-live : goal.settle-requires-clause-live
@@ -91,19 +93,28 @@ invariant_of-self-2 g c =
     (made_after (C c.args.call) c.self.inside.book c.reserve.new.self c.commit-commit.new.self (same_both c.self.inside.book c.settle.new.self c.reserve.new.self c.settle.ensures.same c.reserve.ensures.same) c.commit-commit.ensures.made)
     c.in_ok-installed.ensures.appended c.in_ok-installed.ensures.counted
 
-pub returns-in_err-reserve : goal.returns-in_err-reserve
-returns-in_err-reserve g c =
+pub returns-in_err-reserve-clause-made : goal.returns-in_err-reserve-clause-made
+returns-in_err-reserve-clause-made g c =
     commit_failed _ (C c.args.call) c.from_residual.result c.args.self.now c.reserve.new.self c.from_residual.ensures.1
     (subst (λ (b : Booked). IsSame b c.reserve.new.self) c.self.view_is (same_both c.self.inside.book c.settle.new.self c.reserve.new.self c.settle.ensures.same c.reserve.ensures.same))
 
-pub returns-in_err-installed : goal.returns-in_err-installed
-returns-in_err-installed g c =
+pub returns-in_err-installed-clause-made : goal.returns-in_err-installed-clause-made
+returns-in_err-installed-clause-made g c =
     commit_failed _ (C c.args.call) c.from_residual-in_err-installed.result c.args.self.now c.reserve.new.self c.from_residual-in_err-installed.ensures.1
     (subst (λ (b : Booked). IsSame b c.reserve.new.self) c.self.view_is (same_both c.self.inside.book c.settle.new.self c.reserve.new.self c.settle.ensures.same c.reserve.ensures.same))
 
-pub returns : goal.returns
-returns g c =
+pub returns-clause-made : goal.returns-clause-made
+returns-clause-made g c =
     let same = same_both c.self.inside.book c.settle.new.self c.reserve.new.self c.settle.ensures.same c.reserve.ensures.same in (
       subst (λ (b : Booked). Made (C c.args.call) b c.commit-commit.new.self) c.self.view_is (made_after (C c.args.call) c.self.inside.book c.reserve.new.self c.commit-commit.new.self same c.commit-commit.ensures.made),
       c.commit-commit.ensures.number ∙ (ap (λ (s : Course). length s.order + 1) same.course ∙ ap (λ (b : Booked). length b.course.order + 1) c.self.view_is),
     )
+
+pub install-requires-clause-last : goal.install-requires-clause-last
+install-requires-clause-last g c = leave_last g.N.Making.script g.N.Naming.word (start_shown c.args.last.now) c.self.inside.book c.args.self.now c.self.inside.ledger.commits c.self.view_is c.self.invariant.commits c.requires.last
+
+pub returns-in_err-installed-clause-last : goal.returns-in_err-installed-clause-last
+returns-in_err-installed-clause-last g c = leave_back g.N.Making.script g.N.Naming.word (start_shown c.install.new.last) c.self.inside.book c.args.self.now c.self.inside.ledger.commits c.self.view_is c.self.invariant.commits c.install.ensures.last
+
+pub returns-clause-last : goal.returns-clause-last
+returns-clause-last g c = leave_back g.N.Making.script g.N.Naming.word (start_shown c.install.new.last) c.self.inside.book c.args.self.now c.self.inside.ledger.commits c.self.view_is c.self.invariant.commits c.install.ensures.last

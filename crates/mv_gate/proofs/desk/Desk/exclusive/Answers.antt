@@ -11,6 +11,8 @@ use Rattle.mv_gate.proofs.Starts.{entry_there}
 use Rattle.mv_gate.proofs.Desks.{desk_seen, seen_still, desk_same, desk_decided, fresh_call, commit_failed}
 use Rattle.mv_gate.proofs.Holding.{whole_same, fresh_same, turns_same}
 use Rattle.mv_gate.proofs.Committing.{own_decided, records_here, reply_here, changes_here}
+use Rattle.mv_shards.specs.Leaves.{start_shown}
+use Rattle.mv_gate.proofs.Pins.{leave_last, leave_at, leave_back}
 use Rattle.mv_gate.proofs.desk.Desk.exclusive.Goals as goal
 
 pub settle-requires-clause-live : goal.settle-requires-clause-live
@@ -118,24 +120,39 @@ invariant_of-self-2 g c =
     (made_after (X c.args.call) c.self.inside.book c.reserve.new.self c.commit-commit.new.self (same_both c.self.inside.book c.settle.new.self c.reserve.new.self c.settle.ensures.same c.reserve.ensures.same) c.commit-commit.ensures.made)
     (c.in_ok-installed.ensures.appended ∙ ap (λ (xs : List ℕ). xs ++ c.args.call ∷ []) c.repair_last.ensures.kept) (c.in_ok-installed.ensures.counted ∙ ap (λ n. n + 1) c.repair_last.ensures.commits)
 
-pub returns-in_err-reserve : goal.returns-in_err-reserve
-returns-in_err-reserve g c =
+pub returns-in_err-reserve-clause-made : goal.returns-in_err-reserve-clause-made
+returns-in_err-reserve-clause-made g c =
     commit_failed _ (X c.args.call) c.from_residual.result c.args.self.now c.reserve.new.self c.from_residual.ensures.1
     (subst (λ (b : Booked). IsSame b c.reserve.new.self) c.self.view_is (same_both c.self.inside.book c.settle.new.self c.reserve.new.self c.settle.ensures.same c.reserve.ensures.same))
 
-pub returns-in_err-repair_last : goal.returns-in_err-repair_last
-returns-in_err-repair_last g c =
+pub returns-in_err-repair_last-clause-made : goal.returns-in_err-repair_last-clause-made
+returns-in_err-repair_last-clause-made g c =
     commit_failed _ (X c.args.call) c.from_residual-in_err-repair_last.result c.args.self.now c.reserve.new.self c.from_residual-in_err-repair_last.ensures.1
     (subst (λ (b : Booked). IsSame b c.reserve.new.self) c.self.view_is (same_both c.self.inside.book c.settle.new.self c.reserve.new.self c.settle.ensures.same c.reserve.ensures.same))
 
-pub returns-in_err-installed : goal.returns-in_err-installed
-returns-in_err-installed g c =
+pub returns-in_err-installed-clause-made : goal.returns-in_err-installed-clause-made
+returns-in_err-installed-clause-made g c =
     commit_failed _ (X c.args.call) c.from_residual-in_err-installed.result c.args.self.now c.reserve.new.self c.from_residual-in_err-installed.ensures.1
     (subst (λ (b : Booked). IsSame b c.reserve.new.self) c.self.view_is (same_both c.self.inside.book c.settle.new.self c.reserve.new.self c.settle.ensures.same c.reserve.ensures.same))
 
-pub returns : goal.returns
-returns g c =
+pub returns-clause-made : goal.returns-clause-made
+returns-clause-made g c =
     let same = same_both c.self.inside.book c.settle.new.self c.reserve.new.self c.settle.ensures.same c.reserve.ensures.same in (
       subst (λ (b : Booked). Made (X c.args.call) b c.commit-commit.new.self) c.self.view_is (made_after (X c.args.call) c.self.inside.book c.reserve.new.self c.commit-commit.new.self same c.commit-commit.ensures.made),
       c.commit-commit.ensures.number ∙ (ap (λ (s : Course). length s.order + 1) same.course ∙ ap (λ (b : Booked). length b.course.order + 1) c.self.view_is),
     )
+
+pub repair_last-requires-clause-last : goal.repair_last-requires-clause-last
+repair_last-requires-clause-last g c = leave_last g.N.Making.script g.N.Naming.word (start_shown c.args.last.now) c.self.inside.book c.args.self.now c.self.inside.ledger.commits c.self.view_is c.self.invariant.commits c.requires.last
+
+pub install_task-requires-clause-last : goal.install_task-requires-clause-last
+install_task-requires-clause-last g c = leave_at g.N.Making.script g.N.Naming.word (start_shown c.repair_last.new.last) c.self.inside.ledger.commits c.repair_last.new.ledger.commits c.repair_last.ensures.commits c.repair_last.ensures.last
+
+pub returns-in_err-repair_last-clause-last : goal.returns-in_err-repair_last-clause-last
+returns-in_err-repair_last-clause-last g c = leave_back g.N.Making.script g.N.Naming.word (start_shown c.repair_last.new.last) c.self.inside.book c.args.self.now c.self.inside.ledger.commits c.self.view_is c.self.invariant.commits c.repair_last.ensures.last
+
+pub returns-in_err-installed-clause-last : goal.returns-in_err-installed-clause-last
+returns-in_err-installed-clause-last g c = leave_back g.N.Making.script g.N.Naming.word (start_shown c.install_task.new.last) c.self.inside.book c.args.self.now c.repair_last.new.ledger.commits c.self.view_is (c.repair_last.ensures.commits ∙ c.self.invariant.commits) c.install_task.ensures.last
+
+pub returns-clause-last : goal.returns-clause-last
+returns-clause-last g c = leave_back g.N.Making.script g.N.Naming.word (start_shown c.install_task.new.last) c.self.inside.book c.args.self.now c.repair_last.new.ledger.commits c.self.view_is (c.repair_last.ensures.commits ∙ c.self.invariant.commits) c.install_task.ensures.last

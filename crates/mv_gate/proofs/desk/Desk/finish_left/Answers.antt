@@ -1,4 +1,4 @@
-use Rattle.std.proofs.Common.{◌≡◌, None, sym, subst, ◌∙◌}
+use Rattle.std.proofs.Common.{◌≡◌, None, sym, subst, ◌∙◌, inl}
 use Rattle.mv_script.specs.Scripts.{IsScript}
 use Rattle.mv_journal.specs.declared.event.Event.TheVariants.{C}
 use Rattle.mv_lawful.specs.Lawful.{refusal}
@@ -29,13 +29,13 @@ check-requires-clause-writes g c =
     whole_writes c.self.inside.book c.args.call c.args.task (subst IsScript (sym c.self.invariant.script) c.self.invariant.sound) (subst (λ (b : Booked). IsWhole b c.args.call c.args.task) (sym c.self.view_is) c.requires.whole)
 
 pub returns-in_err-commit_unheld-in-Free-clause-kept : goal.returns-in_err-commit_unheld-in-Free-clause-kept
-returns-in_err-commit_unheld-in-Free-clause-kept g c = keeps_commit c.commit_unheld.result c.args.call c.args.self.now c.commit_unheld.new.self c.commit_unheld.ensures c.requires.whole.live
+returns-in_err-commit_unheld-in-Free-clause-kept g c = keeps_commit c.commit_unheld.result c.args.call c.args.self.now c.commit_unheld.new.self c.commit_unheld.ensures.made c.requires.whole.live
 
 pub returns-in_ok-commit_unheld-in-Free-clause-done : goal.returns-in_ok-commit_unheld-in-Free-clause-done
-returns-in_ok-commit_unheld-in-Free-clause-done g c = done_committed c.args.call c.args.self.now c.commit_unheld.new.self c.in_ok-commit_unheld-in-Free.ensures.0 c.requires.whole.live
+returns-in_ok-commit_unheld-in-Free-clause-done g c = done_committed c.args.call c.args.self.now c.commit_unheld.new.self c.in_ok-commit_unheld-in-Free.ensures.made.0 c.requires.whole.live
 
 pub returns-in_ok-commit_unheld-in-Free-clause-kept : goal.returns-in_ok-commit_unheld-in-Free-clause-kept
-returns-in_ok-commit_unheld-in-Free-clause-kept g c = keeps_commit c.commit_unheld.result c.args.call c.args.self.now c.commit_unheld.new.self c.commit_unheld.ensures c.requires.whole.live
+returns-in_ok-commit_unheld-in-Free-clause-kept g c = keeps_commit c.commit_unheld.result c.args.call c.args.self.now c.commit_unheld.new.self c.commit_unheld.ensures.made c.requires.whole.live
 
 pub unreachable-requires : goal.unreachable-requires
 unreachable-requires g c =
@@ -46,3 +46,6 @@ pub commit_unheld-requires-clause-allowed : goal.commit_unheld-requires-clause-a
 commit_unheld-requires-clause-allowed g c =
     let live = (subst (λ (b : Booked). IsWhole b c.args.call c.args.task) (sym c.self.view_is) c.requires.whole).live in
     subst (λ (b : Booked). refusal (work_in b) b.course (C c.args.call) ≡ None) c.self.view_is (c.in-Free.ensures live.0 live.1)
+
+pub returns-in_ok-commit_unheld-in-Free-clause-brings : goal.returns-in_ok-commit_unheld-in-Free-clause-brings
+returns-in_ok-commit_unheld-in-Free-clause-brings g c = inl (inl c.in_ok-commit_unheld-in-Free.ensures.made.0)

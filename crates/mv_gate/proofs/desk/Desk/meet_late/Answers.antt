@@ -25,7 +25,7 @@ move_and_answer-requires-clause-kind g c = sym c.is_read_only.ensures ∙ c.if-i
 
 pub returns-then-is_read_only-clause-ok : goal.returns-then-is_read_only-clause-ok
 returns-then-is_read_only-clause-ok g c =
-    let made = c.in_ok-start.ensures.0 in
+    let made = c.in_ok-start.ensures.made.0 in
     inr (
       record {
         past = c.requires.call.past;
@@ -34,7 +34,7 @@ returns-then-is_read_only-clause-ok g c =
         moved = made.1;
         answered = made.2;
       },
-      c.in_ok-start.ensures.1,
+      c.in_ok-start.ensures.made.1,
     )
 
 pub move_and_commit-requires-clause-kind : goal.move_and_commit-requires-clause-kind
@@ -42,7 +42,7 @@ move_and_commit-requires-clause-kind g c = sym c.is_read_only.ensures ∙ c.if-i
 
 pub returns-clause-ok : goal.returns-clause-ok
 returns-clause-ok g c =
-    let made = c.in_ok-commit.ensures.0 in (
+    let made = c.in_ok-commit.ensures.made.0 in (
       inr (inr (record {
         past = c.requires.call.past;
         none_left = subst (λ (b : Booked). HasRound false b c.args.call) c.self.view_is (λ l live. sym (c.has_round.ensures l live) ∙ c.if-has_round.false);
@@ -50,5 +50,5 @@ returns-clause-ok g c =
         moved = made.1;
         committed = made.2;
       })),
-      c.in_ok-commit.ensures.1,
+      c.in_ok-commit.ensures.made.1,
     )

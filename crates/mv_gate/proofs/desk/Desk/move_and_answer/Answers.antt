@@ -12,10 +12,12 @@ use Rattle.mv_gate.proofs.Starts.{entry_there}
 use Rattle.mv_gate.proofs.Desks.{desk_seen, seen_still, desk_same, desk_read, read_failed}
 use Rattle.mv_gate.proofs.Bringing.{told_all}
 use Rattle.mv_gate.proofs.Committing.{reply_here, move_allowed, moved_number, moved_last, moved_fresh, moved_reply, must_answer, latest_here}
+use Rattle.mv_shards.specs.Leaves.{start_shown}
+use Rattle.mv_gate.proofs.Pins.{leave_last, leave_back}
 use Rattle.mv_gate.proofs.desk.Desk.move_and_answer.Goals as goal
 
-pub run_last-requires : goal.run_last-requires
-run_last-requires g c = subst (λ (x : Script). c.args.call < length x.calls) c.self.invariant.script (subst (λ (b : Booked). MayMove b c.args.call) (sym c.self.view_is) c.requires.may).there
+pub run_last-requires-clause-there : goal.run_last-requires-clause-there
+run_last-requires-clause-there g c = subst (λ (x : Script). c.args.call < length x.calls) c.self.invariant.script (subst (λ (b : Booked). MayMove b c.args.call) (sym c.self.view_is) c.requires.may).there
 
 pub invariant_of-self : goal.invariant_of-self
 invariant_of-self g c =
@@ -98,8 +100,8 @@ invariant_of-self-2 g c =
     (made_after (M c.args.call) c.self.inside.book c.reserve.new.self c.settle.new.self c.reserve.ensures.same (made_before (M c.args.call) c.reserve.new.self c.restart.new.self c.settle.new.self c.restart.ensures.made c.settle.ensures.same))
     c.in-Ok.ensures.answered.0 c.run_last.ensures.seen c.run_last.ensures.commits
 
-pub returns : goal.returns
-returns g c =
+pub returns-clause-made : goal.returns-clause-made
+returns-clause-made g c =
     let mid = made_before (M c.args.call) c.reserve.new.self c.restart.new.self c.settle.new.self c.restart.ensures.made c.settle.ensures.same in
     let moved = made_after (M c.args.call) c.self.inside.book c.reserve.new.self c.settle.new.self c.reserve.ensures.same mid in
     let live = (live_now c.self.inside.book c.self.inside.book c.reserve.new.self c.args.call refl (subst (λ (b : Booked). MayMove b c.args.call) (sym c.self.view_is) c.requires.may).live c.reserve.ensures.same) in
@@ -110,6 +112,18 @@ returns g c =
           ∙ (ap (λ (s : Course). length s.order) moved.course ∙ ap (λ (b : Booked). length b.course.order) c.self.view_is)),
     )
 
-pub returns-in_err-reserve : goal.returns-in_err-reserve
-returns-in_err-reserve g c =
+pub returns-in_err-reserve-clause-made : goal.returns-in_err-reserve-clause-made
+returns-in_err-reserve-clause-made g c =
     read_failed _ c.args.call c.from_residual-in_err-reserve.result c.args.self.now c.reserve.new.self c.from_residual-in_err-reserve.ensures.1 (subst (λ (b : Booked). IsSame b c.reserve.new.self) c.self.view_is c.reserve.ensures.same)
+
+pub run_last-requires-clause-last : goal.run_last-requires-clause-last
+run_last-requires-clause-last g c = leave_last g.N.Making.script g.N.Naming.word (start_shown c.args.last.now) c.self.inside.book c.args.self.now c.self.inside.ledger.commits c.self.view_is c.self.invariant.commits c.requires.last
+
+pub returns-in_err-task-clause-last : goal.returns-in_err-task-clause-last
+returns-in_err-task-clause-last g c = leave_back g.N.Making.script g.N.Naming.word (start_shown c.run_last.new.last) c.self.inside.book c.args.self.now c.self.inside.ledger.commits c.self.view_is c.self.invariant.commits c.run_last.ensures.last
+
+pub returns-in_err-reserve-clause-last : goal.returns-in_err-reserve-clause-last
+returns-in_err-reserve-clause-last g c = leave_back g.N.Making.script g.N.Naming.word (start_shown c.run_last.new.last) c.self.inside.book c.args.self.now c.self.inside.ledger.commits c.self.view_is c.self.invariant.commits c.run_last.ensures.last
+
+pub returns-clause-last : goal.returns-clause-last
+returns-clause-last g c = leave_back g.N.Making.script g.N.Naming.word (start_shown c.run_last.new.last) c.self.inside.book c.args.self.now c.self.inside.ledger.commits c.self.view_is c.self.invariant.commits c.run_last.ensures.last

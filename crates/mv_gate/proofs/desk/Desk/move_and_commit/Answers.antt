@@ -13,10 +13,12 @@ use Rattle.mv_gate.specs.Gates.{MayMove}
 use Rattle.mv_gate.proofs.Starts.{entry_there}
 use Rattle.mv_gate.proofs.Desks.{desk_seen, seen_still, desk_same, desk_gone, fresh_call, gone_failed}
 use Rattle.mv_gate.proofs.Committing.{reply_here, changes_here, move_allowed, moved_free, moved_number, latest_here, last_kept}
+use Rattle.mv_shards.specs.Leaves.{start_shown}
+use Rattle.mv_gate.proofs.Pins.{leave_last, leave_at, leave_back}
 use Rattle.mv_gate.proofs.desk.Desk.move_and_commit.Goals as goal
 
-pub run_last-requires : goal.run_last-requires
-run_last-requires g c = subst (λ (x : Script). c.args.call < length x.calls) c.self.invariant.script (subst (λ (b : Booked). MayMove b c.args.call) (sym c.self.view_is) c.requires.may).there
+pub run_last-requires-clause-there : goal.run_last-requires-clause-there
+run_last-requires-clause-there g c = subst (λ (x : Script). c.args.call < length x.calls) c.self.invariant.script (subst (λ (b : Booked). MayMove b c.args.call) (sym c.self.view_is) c.requires.may).there
 
 pub invariant_of-self : goal.invariant_of-self
 invariant_of-self g c =
@@ -102,18 +104,36 @@ invariant_of-self-2 g c =
     (made_after (M c.args.call) c.self.inside.book c.reserve.new.self c.settle.new.self c.reserve.ensures.same (made_before (M c.args.call) c.reserve.new.self c.restart.new.self c.settle.new.self c.restart.ensures.made c.settle.ensures.same))
     c.commit-commit.ensures.made (c.in_ok-installed.ensures.appended ∙ ap (λ (xs : List ℕ). xs ++ c.args.call ∷ []) c.run_last.ensures.seen) (c.in_ok-installed.ensures.counted ∙ ap (λ n. n + 1) c.run_last.ensures.commits)
 
-pub returns : goal.returns
-returns g c =
+pub returns-clause-made : goal.returns-clause-made
+returns-clause-made g c =
     let moved =
     made_after (M c.args.call) c.self.inside.book c.reserve.new.self c.settle.new.self c.reserve.ensures.same (made_before (M c.args.call) c.reserve.new.self c.restart.new.self c.settle.new.self c.restart.ensures.made c.settle.ensures.same) in (
       (c.settle.new.self, subst (λ (b : Booked). Made (M c.args.call) b c.settle.new.self) c.self.view_is moved, c.commit-commit.ensures.made, c.settle.ensures.settled),
       c.commit-commit.ensures.number ∙ (ap (λ (s : Course). length s.order + 1) moved.course ∙ ap (λ (b : Booked). length b.course.order + 1) c.self.view_is),
     )
 
-pub returns-in_err-reserve : goal.returns-in_err-reserve
-returns-in_err-reserve g c =
+pub returns-in_err-reserve-clause-made : goal.returns-in_err-reserve-clause-made
+returns-in_err-reserve-clause-made g c =
     gone_failed _ c.args.call c.from_residual-in_err-reserve.result c.args.self.now c.reserve.new.self c.from_residual-in_err-reserve.ensures.1 (subst (λ (b : Booked). IsSame b c.reserve.new.self) c.self.view_is c.reserve.ensures.same)
 
-pub returns-in_err-installed : goal.returns-in_err-installed
-returns-in_err-installed g c =
+pub returns-in_err-installed-clause-made : goal.returns-in_err-installed-clause-made
+returns-in_err-installed-clause-made g c =
     gone_failed _ c.args.call c.from_residual-in_err-installed.result c.args.self.now c.reserve.new.self c.from_residual-in_err-installed.ensures.1 (subst (λ (b : Booked). IsSame b c.reserve.new.self) c.self.view_is c.reserve.ensures.same)
+
+pub run_last-requires-clause-last : goal.run_last-requires-clause-last
+run_last-requires-clause-last g c = leave_last g.N.Making.script g.N.Naming.word (start_shown c.args.last.now) c.self.inside.book c.args.self.now c.self.inside.ledger.commits c.self.view_is c.self.invariant.commits c.requires.last
+
+pub install_task-requires-clause-last : goal.install_task-requires-clause-last
+install_task-requires-clause-last g c = leave_at g.N.Making.script g.N.Naming.word (start_shown c.run_last.new.last) c.self.inside.ledger.commits c.run_last.new.ledger.commits c.run_last.ensures.commits c.run_last.ensures.last
+
+pub returns-in_err-task-clause-last : goal.returns-in_err-task-clause-last
+returns-in_err-task-clause-last g c = leave_back g.N.Making.script g.N.Naming.word (start_shown c.run_last.new.last) c.self.inside.book c.args.self.now c.self.inside.ledger.commits c.self.view_is c.self.invariant.commits c.run_last.ensures.last
+
+pub returns-in_err-reserve-clause-last : goal.returns-in_err-reserve-clause-last
+returns-in_err-reserve-clause-last g c = leave_back g.N.Making.script g.N.Naming.word (start_shown c.run_last.new.last) c.self.inside.book c.args.self.now c.self.inside.ledger.commits c.self.view_is c.self.invariant.commits c.run_last.ensures.last
+
+pub returns-in_err-installed-clause-last : goal.returns-in_err-installed-clause-last
+returns-in_err-installed-clause-last g c = leave_back g.N.Making.script g.N.Naming.word (start_shown c.install_task.new.last) c.self.inside.book c.args.self.now c.run_last.new.ledger.commits c.self.view_is (c.run_last.ensures.commits ∙ c.self.invariant.commits) c.install_task.ensures.last
+
+pub returns-clause-last : goal.returns-clause-last
+returns-clause-last g c = leave_back g.N.Making.script g.N.Naming.word (start_shown c.install_task.new.last) c.self.inside.book c.args.self.now c.run_last.new.ledger.commits c.self.view_is (c.run_last.ensures.commits ∙ c.self.invariant.commits) c.install_task.ensures.last

@@ -5,6 +5,8 @@ use Rattle.std.specs.Prelude.{IfOk}
 use Rattle.mv_shards.specs.Reads.{Started}
 use Rattle.mv_gate.specs.Gates.{Waiting, StartsAt, GivesRepair}
 use Rattle.mv_gate.proofs.Leaving.{late_before, late_moves}
+use Rattle.mv_shards.specs.Leaves.{start_shown}
+use Rattle.mv_gate.proofs.Pins.{leave_in, leave_back}
 use Rattle.mv_gate.proofs.desk.Desk.move_late.Goals as goal
 
 pub returns-then-not-finds-clause-ok : goal.returns-then-not-finds-clause-ok
@@ -19,3 +21,9 @@ meet_late-requires-clause-call g c =
 
 pub returns-clause-repair : goal.returns-clause-repair
 returns-clause-repair g c from = subst (λ (w : Waiting). IfOk c.meet_late.result (λ tried. GivesRepair w.call from tried.answer tried.repair c.meet_late.new.self)) c.late.view_is (c.meet_late.ensures.repair from)
+
+pub meet_late-requires-clause-last : goal.meet_late-requires-clause-last
+meet_late-requires-clause-last g c = leave_in g.N.Making.script g.N.Naming.word (start_shown c.args.last.now) c.learn.new.self c.args.self.now c.learn.ensures.same c.requires.last
+
+pub returns-clause-last : goal.returns-clause-last
+returns-clause-last g c = leave_back g.N.Making.script g.N.Naming.word (start_shown c.meet_late.new.last) c.learn.new.self c.args.self.now _ c.learn.ensures.same refl c.meet_late.ensures.last

@@ -16,6 +16,8 @@ use Rattle.mv_gate.proofs.Ending.{outcome_told, journal_told}
 use Rattle.mv_lawful.specs.Work.{ReadersKeepTables}
 use Rattle.mv_script.proofs.Readers.{keeps_tables}
 use Rattle.mv_gate.proofs.Serializing.{if_ok}
+use Rattle.mv_shards.specs.Leaves.{start_shown}
+use Rattle.mv_gate.proofs.Pins.{leave_last}
 use Rattle.mv_gate.proofs.desk.Desk.outcome.Goals as goal
 
 outcome_from : (s : BoardScript) (b : Booked) (ledger : Entered) (starts : List (Option (List ℕ))) (r : Result Outcome NoMemory) → IsDesk s b ledger starts → Lawful (work_in b) b.journal → IfOk r (λ o. o ≡ outcome_of (work_in b) b.journal)
@@ -23,13 +25,13 @@ outcome_from : (s : BoardScript) (b : Booked) (ledger : Entered) (starts : List 
 outcome_from s b ledger starts (Ok o) d lawful is = outcome_told s b ledger starts o d lawful is
 outcome_from s b ledger starts (Err e) d lawful is = tt
 
-pub last_tables-requires : goal.last_tables-requires
-last_tables-requires g c none =
+pub last_tables-requires-clause-idle : goal.last_tables-requires-clause-idle
+last_tables-requires-clause-idle g c none =
     c.self.invariant.seen
     ∙ idle_order c.self.inside.book c.journal-events.ensures.allowed c.journal-events.ensures.reaches (ap (λ (x : Script). length x.calls) c.self.invariant.script ∙ none)
 
 pub outcome-requires-clause-ended : goal.outcome-requires-clause-ended
-outcome-requires-clause-ended g c = subst (λ (b : Booked). open_call (work_in b) b.course ≡ _) (sym c.self.view_is) c.requires
+outcome-requires-clause-ended g c = subst (λ (b : Booked). open_call (work_in b) b.course ≡ _) (sym c.self.view_is) c.requires.ended
 
 pub outcome-requires-clause-tables : goal.outcome-requires-clause-tables
 outcome-requires-clause-tables g c =
@@ -44,3 +46,6 @@ returns-clause-journal g c = journal_told c.args.self c.self.inside.book c.outco
 
 pub returns-clause-readers : goal.returns-clause-readers
 returns-clause-readers g c = if_ok c.outcome.result (ReadersKeepTables (work g.N.Making.script)) (keeps_tables (script_in g.N.Making.script) c.self.invariant.sound)
+
+pub last_tables-requires-clause-last : goal.last_tables-requires-clause-last
+last_tables-requires-clause-last g c = leave_last g.N.Making.script g.N.Naming.word (start_shown c.args.last.now) c.self.inside.book c.args.self c.self.inside.ledger.commits c.self.view_is c.self.invariant.commits c.requires.last

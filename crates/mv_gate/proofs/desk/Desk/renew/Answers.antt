@@ -1,4 +1,4 @@
-use Rattle.std.proofs.Common.{◌≡◌, ◌<◌, length, refl, sym, ap, subst, ◌∙◌, arith}
+use Rattle.std.proofs.Common.{◌≡◌, ◌<◌, Option, length, refl, sym, ap, subst, ◌∙◌, arith}
 use Rattle.mv_view.specs.Viewing.{Sight}
 use Rattle.mv_lawful.specs.Lawful.{Live}
 use Rattle.mv_script.specs.declared.script.Script.{Script}
@@ -11,9 +11,12 @@ use Rattle.mv_gate.specs.Gates.{IsSettledOrWhole, IsWhole, IsPastIn}
 use Rattle.mv_gate.proofs.Desks.{desk_same}
 use Rattle.mv_shards.specs.Histories.{tables_at}
 use Rattle.mv_gate.proofs.Running.{runs_here}
-use Rattle.mv_gate.proofs.Seeing.{asked_late, shown_in}
+use Rattle.mv_gate.proofs.Seeing.{asked_late, told_low, shown_in}
 use Rattle.mv_gate.proofs.Holding.{renewed}
 use Rattle.mv_gate.proofs.Leaving.{past_in}
+use Rattle.mv_grace.specs.Rule.{Pin}
+use Rattle.mv_shards.specs.Leaves.{IsLeave, start_shown}
+use Rattle.mv_gate.proofs.Pins.{leave_at}
 use Rattle.mv_gate.proofs.desk.Desk.renew.Goals as goal
 
 pub new_task-requires-clause-script : goal.new_task-requires-clause-script
@@ -34,15 +37,17 @@ run_all-requires-clause-number g c =
 
 pub run_all-requires-clause-database : goal.run_all-requires-clause-database
 run_all-requires-clause-database g c =
-    shown_in g.N.Making.script c.in_ok-start.start.knows.seen c.args.call c.in_ok-start.start.number c.args.beside.now.script.now c.new-view.result.sight.database c.number-number.ensures.kept.script c.args.beside.now.named
-    (ap (λ (s : Sight). s.database) c.new-view.ensures.sight)
+    shown_in g.N.Making.script c.in_ok-start.start.knows.seen c.args.call c.in_ok-start.start.number c.args.beside.now.script.now c.view-view.result.sight.database c.number-number.ensures.kept.script c.args.beside.now.named
+    (ap (λ (s : Sight). s.database) c.view-view.ensures.sight)
 
 pub run_all-requires-clause-runs : goal.run_all-requires-clause-runs
-run_all-requires-clause-runs g c = c.in_ok-task.ensures.runs c.new-view.result.sight.database
+run_all-requires-clause-runs g c = c.in_ok-task.ensures.runs c.view-view.result.sight.database
 
-pub refused-requires : goal.refused-requires
-refused-requires g c =
-    asked_late c.new-view.result.sight c.run_all.new.view.sight _ c.in-Err.why c.number-number.result c.in-Err.ensures.view refl (ap (λ (s : Sight). s.start) c.new-view.ensures.sight ∙ sym c.number-number.ensures.number)
+pub refused-requires-clause-low : goal.refused-requires-clause-low
+refused-requires-clause-low g c =
+    told_low g.N.Making.script.options.horizon c.number-number.result _ c.run_all.new.view.sight c.in-Err.why
+    (asked_late c.view-view.result.sight c.run_all.new.view.sight _ c.in-Err.why c.number-number.result c.in-Err.ensures.view refl (ap (λ (s : Sight). s.start) c.view-view.ensures.sight ∙ sym c.number-number.ensures.number))
+    c.into_parts-seen-in-Err.ensures.low
 
 pub returns-in-Ok-clause-whole : goal.returns-in-Ok-clause-whole
 returns-in-Ok-clause-whole g c =
@@ -56,9 +61,9 @@ returns-in-Ok-clause-whole g c =
     (subst (λ (x : Booked). IsSettledOrWhole x c.args.call) (sym (c.self.view_is ∙ c.start_of.ensures.same)) (c.is_unrepaired.ensures c.if-is_unrepaired.false))
     (subst (λ (x : Booked). (l : Live) → IsLive x.course c.args.call l → n ≡ l.start) (sym (c.self.view_is ∙ c.start_of.ensures.same)) c.in_ok-start.ensures.number)
     (c.in_ok-start.ensures.seen ∙ ap (λ (x : Booked). x.course.order) (sym (c.self.view_is ∙ c.start_of.ensures.same)))
-    (runs_here s c.args.beside.now.script.now c.args.call c.new-view.result.sight.database (tables_at s seen n) c.run_all.new.task c.args.beside.now.named (ap (λ (v : Sight). v.database) c.new-view.ensures.sight) c.run_all.ensures.runs) c.in-Ok.ensures.ended
+    (runs_here s c.args.beside.now.script.now c.args.call c.view-view.result.sight.database (tables_at s seen n) c.run_all.new.task c.args.beside.now.named (ap (λ (v : Sight). v.database) c.view-view.ensures.sight) c.run_all.ensures.runs) c.in-Ok.ensures.ended
     (c.in-Ok.ensures.records
-    ∙ (ap (λ (x : Script). ((work_of x).run c.args.call c.new-view.result.sight.database).records) c.args.beside.now.named ∙ ap (λ (v : Sight). ((work s).run c.args.call v.database).records) c.new-view.ensures.sight))
+    ∙ (ap (λ (x : Script). ((work_of x).run c.args.call c.view-view.result.sight.database).records) c.args.beside.now.named ∙ ap (λ (v : Sight). ((work s).run c.args.call v.database).records) c.view-view.ensures.sight))
     (let all = c.run_all.ensures.counts.executed in
     let none = ap length c.in_ok-task.ensures.records in
     let zero = c.in_ok-task.ensures.executed in
@@ -77,3 +82,9 @@ returns-clause-past g c =
     subst (λ (x : Booked). IsPastIn x c.args.call) (c.self.view_is ∙ c.start_of.ensures.same)
     (past_in g.N.Making.script c.self.inside.book c.args.call c.number-number.result c.self.inside.ledger.commits c.self.invariant.script c.self.invariant.commits
     (λ l at. c.number-number.ensures.number ∙ subst (λ (x : Booked). (m : Live) → IsLive x.course c.args.call m → c.in_ok-start.start.number ≡ m.start) (sym (c.self.view_is ∙ c.start_of.ensures.same)) c.in_ok-start.ensures.number l at) c.in_ok-refused-in-Err.ensures.past)
+
+pub view-view-requires : goal.view-view-requires
+view-view-requires g c =
+    let live = c.requires.live in
+    leave_at g.N.Making.script g.N.Naming.word (start_shown c.take.result) (live.0).start c.in_ok-start.start.number (c.in_ok-start.ensures.number live.0 live.1)
+    (subst (λ (o : Option Pin). IsLeave g.N.Making.script g.N.Naming.word (start_shown o) (live.0).start) (sym c.take.ensures.value) (c.requires.own live.0 live.1))

@@ -1,9 +1,12 @@
-use Rattle.std.proofs.Common.{true, false, sym, subst, ◌∙◌}
+use Rattle.std.proofs.Common.{length, ap, true, false, sym, subst, ◌∙◌, inl, inr}
 use Rattle.mv_core.specs.Calls.{IsLiveCall}
 use Rattle.mv_core.specs.Books.{Booked}
 use Rattle.mv_gate.specs.Gates.{HasRound}
 use Rattle.mv_gate.proofs.Committing.{hit_fresh, may_repair, may_decide}
 use Rattle.mv_gate.proofs.Ending.{keeps_same, keeps_both, keeps_again, keeps_commit, keeps_decision, done_committed, done_decided}
+use Rattle.mv_shards.specs.Leaves.{start_shown}
+use Rattle.mv_lawful.specs.Lawful.{Course}
+use Rattle.mv_gate.proofs.Pins.{leave_at}
 use Rattle.mv_gate.proofs.desk.Desk.repair_left.Goals as goal
 
 pub has_round-requires : goal.has_round-requires
@@ -32,18 +35,33 @@ returns-in_err-rerun-clause-kept g c = keeps_same c.args.self.now c.rerun.new.se
 
 pub returns-in_err-commit_unheld-clause-kept : goal.returns-in_err-commit_unheld-clause-kept
 returns-in_err-commit_unheld-clause-kept g c =
-    keeps_both c.args.self.now c.rerun.new.self c.commit_unheld.new.self (keeps_again c.args.call c.args.self.now c.rerun.new.self c.in_ok-rerun.ensures.ok c.requires.whole.live) (keeps_same c.rerun.new.self c.commit_unheld.new.self c.in_err-commit_unheld.ensures)
+    keeps_both c.args.self.now c.rerun.new.self c.commit_unheld.new.self (keeps_again c.args.call c.args.self.now c.rerun.new.self c.in_ok-rerun.ensures.ok c.requires.whole.live) (keeps_same c.rerun.new.self c.commit_unheld.new.self c.in_err-commit_unheld.ensures.made)
 
 pub returns-then-has_round-clause-done : goal.returns-then-has_round-clause-done
-returns-then-has_round-clause-done g c = done_committed c.args.call c.rerun.new.self c.commit_unheld.new.self c.in_ok-commit_unheld.ensures.0 c.in_ok-rerun.ensures.whole.live
+returns-then-has_round-clause-done g c = done_committed c.args.call c.rerun.new.self c.commit_unheld.new.self c.in_ok-commit_unheld.ensures.made.0 c.in_ok-rerun.ensures.whole.live
 
 pub returns-then-has_round-clause-kept : goal.returns-then-has_round-clause-kept
 returns-then-has_round-clause-kept g c =
     keeps_both c.args.self.now c.rerun.new.self c.commit_unheld.new.self (keeps_again c.args.call c.args.self.now c.rerun.new.self c.in_ok-rerun.ensures.ok c.requires.whole.live)
-    (keeps_commit c.commit_unheld.result c.args.call c.rerun.new.self c.commit_unheld.new.self c.commit_unheld.ensures c.in_ok-rerun.ensures.whole.live)
+    (keeps_commit c.commit_unheld.result c.args.call c.rerun.new.self c.commit_unheld.new.self c.commit_unheld.ensures.made c.in_ok-rerun.ensures.whole.live)
 
 pub returns-clause-done : goal.returns-clause-done
-returns-clause-done g c = done_decided c.args.call c.args.self.now c.exclusive.new.self c.in_ok-exclusive.ensures.0 c.requires.whole.live
+returns-clause-done g c = done_decided c.args.call c.args.self.now c.exclusive.new.self c.in_ok-exclusive.ensures.made.0 c.requires.whole.live
 
 pub returns-clause-kept : goal.returns-clause-kept
-returns-clause-kept g c = keeps_decision c.exclusive.result c.args.call c.args.self.now c.exclusive.new.self c.exclusive.ensures c.requires.whole.live
+returns-clause-kept g c = keeps_decision c.exclusive.result c.args.call c.args.self.now c.exclusive.new.self c.exclusive.ensures.made c.requires.whole.live
+
+pub returns-then-has_round-clause-brings : goal.returns-then-has_round-clause-brings
+returns-then-has_round-clause-brings g c = inr (c.rerun.new.self, inl c.in_ok-rerun.ensures.ok, inl c.in_ok-commit_unheld.ensures.made.0)
+
+pub returns-clause-brings : goal.returns-clause-brings
+returns-clause-brings g c = inl (inr (inl c.in_ok-exclusive.ensures.made.0))
+
+pub commit_unheld-requires-clause-last : goal.commit_unheld-requires-clause-last
+commit_unheld-requires-clause-last g c = leave_at g.N.Making.script g.N.Naming.word (start_shown c.rerun.new.last) (length c.args.self.now.course.order) (length c.rerun.new.self.course.order) (ap (λ (x : Course). length x.order) c.in_ok-rerun.ensures.ok.course) c.rerun.ensures.last
+
+pub returns-in_err-commit_unheld-clause-last : goal.returns-in_err-commit_unheld-clause-last
+returns-in_err-commit_unheld-clause-last g c = leave_at g.N.Making.script g.N.Naming.word (start_shown c.commit_unheld.new.last) (length c.rerun.new.self.course.order) (length c.args.self.now.course.order) (sym (ap (λ (x : Course). length x.order) c.in_ok-rerun.ensures.ok.course)) c.commit_unheld.ensures.last
+
+pub returns-then-has_round-clause-last : goal.returns-then-has_round-clause-last
+returns-then-has_round-clause-last g c = leave_at g.N.Making.script g.N.Naming.word (start_shown c.commit_unheld.new.last) (length c.rerun.new.self.course.order) (length c.args.self.now.course.order) (sym (ap (λ (x : Course). length x.order) c.in_ok-rerun.ensures.ok.course)) c.commit_unheld.ensures.last

@@ -10,6 +10,8 @@ use Rattle.mv_gate.proofs.Starts.{entry_there, changes_seen}
 use Rattle.mv_gate.proofs.Desks.{desk_same, desk_again}
 use Rattle.mv_gate.proofs.Holding.{whole_same, fresh_same, turns_same}
 use Rattle.mv_gate.proofs.Committing.{again_free, again_whole}
+use Rattle.mv_shards.specs.Leaves.{start_shown}
+use Rattle.mv_gate.proofs.Pins.{leave_last, leave_back}
 use Rattle.mv_gate.proofs.desk.Desk.rerun.Goals as goal
 
 pub settle-requires-clause-live : goal.settle-requires-clause-live
@@ -99,3 +101,12 @@ returns-in_err-_start-clause-err g c = always_err _ _ (subst (λ (b : Booked). I
 
 pub returns-in_err-repair_last-clause-err : goal.returns-in_err-repair_last-clause-err
 returns-in_err-repair_last-clause-err g c = always_err _ _ (subst (λ (b : Booked). IsSame b c.reserve.new.self) c.self.view_is (same_both c.self.inside.book c.settle.new.self c.reserve.new.self c.settle.ensures.same c.reserve.ensures.same))
+
+pub repair_last-requires-clause-last : goal.repair_last-requires-clause-last
+repair_last-requires-clause-last g c = leave_last g.N.Making.script g.N.Naming.word (start_shown c.args.last.now) c.self.inside.book c.args.self.now c.next_start.new.ledger.commits c.self.view_is (c.next_start.ensures.commits ∙ (ap (λ (l : Entered). l.commits) c.pass_for-seen.ensures.same ∙ c.self.invariant.commits)) c.requires.last
+
+pub returns-in_err-repair_last-clause-last : goal.returns-in_err-repair_last-clause-last
+returns-in_err-repair_last-clause-last g c = leave_back g.N.Making.script g.N.Naming.word (start_shown c.repair_last.new.last) c.self.inside.book c.args.self.now c.next_start.new.ledger.commits c.self.view_is (c.next_start.ensures.commits ∙ (ap (λ (l : Entered). l.commits) c.pass_for-seen.ensures.same ∙ c.self.invariant.commits)) c.repair_last.ensures.last
+
+pub returns-clause-last : goal.returns-clause-last
+returns-clause-last g c = leave_back g.N.Making.script g.N.Naming.word (start_shown c.repair_last.new.last) c.self.inside.book c.args.self.now c.next_start.new.ledger.commits c.self.view_is (c.next_start.ensures.commits ∙ (ap (λ (l : Entered). l.commits) c.pass_for-seen.ensures.same ∙ c.self.invariant.commits)) c.repair_last.ensures.last

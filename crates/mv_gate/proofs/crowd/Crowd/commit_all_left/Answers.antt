@@ -1,7 +1,7 @@
 use Rattle.std.proofs.Common.{length, ap, arith}
 use Rattle.mv_script.specs.declared.script.Script.{Script}
 use Rattle.mv_gate.proofs.Ending.{keeps_both, done_more, all_done}
-use Rattle.mv_gate.proofs.desk.Desk.commit_all_left.Goals as goal
+use Rattle.mv_gate.proofs.crowd.Crowd.commit_all_left.Goals as goal
 
 pub bring-requires-clause-there : goal.bring-requires-clause-there
 bring-requires-clause-there g c =
@@ -12,9 +12,10 @@ bring-requires-clause-there g c =
 
 pub loop-call-preserved : goal.loop-call-preserved
 loop-call-preserved g c = record {
-  kept = keeps_both _ c.loop-call.self c.bring.new.self c.loop-call.invariant.kept c.in_ok-bring.ensures.kept;
+  kept = keeps_both _ c.loop-call.desk c.bring.new.desk c.loop-call.invariant.kept c.in_ok-bring.ensures.kept;
   begun = let b = c.in_ok-bring.ensures.begun in omega (arith, b);
-  done = done_more c.loop-call.self c.bring.new.self c.loop-call.call c.loop-call.invariant.done c.in_ok-bring.ensures.kept c.in_ok-bring.ensures.done;
+  done = done_more c.loop-call.desk c.bring.new.desk c.loop-call.call c.loop-call.invariant.done c.in_ok-bring.ensures.kept c.in_ok-bring.ensures.done;
+  readers = c.in_ok-bring.ensures.readers;
 }
 
 pub returns-clause-ended : goal.returns-clause-ended
@@ -22,4 +23,4 @@ returns-clause-ended g c =
     let ge = c.loop-call-test.false in
     let end = c.calls-call-end.ensures in
     let same = ap (λ (s : Script). length s.calls) c.loop-call.invariant.kept.script in
-    all_done c.loop-call.self c.loop-call.call (omega (arith, ge, end, same)) c.loop-call.invariant.done
+    all_done c.loop-call.desk c.loop-call.call (omega (arith, ge, end, same)) c.loop-call.invariant.done
