@@ -1,6 +1,7 @@
-//! A reader beside workers. Each start that it takes shows what the commits up to it have left, then and later.
+//! A reader beside workers. Each start that it takes shows what the commits up to it have left, then and later. The horizon
+//! keeps all of them.
 
-ghost use Rattle.std.specs.Prelude.{◌≡◌};
+ghost use Rattle.std.specs.Prelude.{◌≡◌, ◌≢◌, None};
 ghost use Rattle.mv_script.specs.Scripts.{IsScript};
 ghost use Rattle.mv_shards.specs.Scripts.{script_in};
 
@@ -10,6 +11,7 @@ use crate::watched::{Reading, all_rows, readings_beside};
 use mv_cases::ensure::ensure;
 use mv_edge::pace::NoPace;
 use mv_gate::gate::{Gate, run_all};
+use mv_grace::grace::{GraceBlank, Naming};
 use mv_journal::outcome::HistoryLine;
 use mv_script::script::Script;
 use mv_seats::board::{Blank, Making};
@@ -110,12 +112,14 @@ fn same_rows(found: &[Keyed], wanted: &[Keyed]) -> bool {
 }
 
 /// Whether each start still shows what it has shown.
-fn still_show<N: Making, R: Wait>(
+fn still_show<N: Making + Naming, R: Wait>(
     rt: &R,
     alloc: Global,
     gate: &Gate<N>,
     readings: &mut [Reading<N>],
-) -> bool {
+) -> bool
+    requires { N.script.options.horizon ≢ None }
+{
     for reading in readings.iter_mut() {
         let Ok(rows) = all_rows(rt, alloc, gate, &mut reading.start) else {
             return false;
@@ -150,19 +154,22 @@ fn count_starts<N: Making>(
 }
 
 /// Runs all moves by three workers beside a reader. Returns how many starts it has taken that differ.
-fn starts_beside<N: Making + Send + Sync, R: Threads + Wait + Sync>(
+fn starts_beside<N: Making + Naming + Send + Sync, R: Threads + Wait + Sync>(
     rt: &R,
     alloc: Global,
     blank: Blank,
+    grace: GraceBlank,
     script: Script,
 ) -> Result<u32, Fail>
     requires board { blank.board ≡ N.board }
+    requires word { grace ≡ N.word }
     requires named { blank.script ≡ N.script }
     requires shards { N.script.shards ≡ 8 }
     requires script { script ≡ script_in N.script }
+    requires horizon { N.script.options.horizon ≢ None }
     requires sound { IsScript script }
 {
-    let (gate, mut pass) = Gate::<N>::new(alloc, blank, script)?;
+    let (gate, mut pass) = Gate::<N>::new(alloc, blank, grace, script)?;
     let mine = pass.note(gate.board())?;
     let mut readings = readings_beside(rt, alloc, &gate, mine, WORKERS)?;
     let same = still_show(rt, alloc, &gate, readings.as_mut_slice());
@@ -179,11 +186,12 @@ fn a_reader_beside_workers_reads_prefixes(rt: HostRuntime) -> Result<(), Fail> {
     let text = script_of(alloc)?;
     let options = Options {
         rounds: 3,
-        horizon: None,
+        horizon: Some(CALLS),
     };
     let Prepared { script, .. } = prepared(alloc, text.as_str(), options)?;
     let blank = blank_of(alloc, &script)?;
-    let count = starts_beside::<Brand, _>(&rt, alloc, blank, script)?;
+    let grace = GraceBlank::new(alloc)?;
+    let count = starts_beside::<Brand, _>(&rt, alloc, blank, grace, script)?;
     ensure(
         alloc,
         count >= CALLS / WORKERS,

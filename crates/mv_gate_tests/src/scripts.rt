@@ -1,6 +1,6 @@
 //! Scripts of accounts, and their runs.
 
-ghost use Rattle.std.specs.Prelude.{◌<◌, ◌≤◌, length, IfOk};
+ghost use Rattle.std.specs.Prelude.{◌≡◌, ◌<◌, ◌≤◌, length, IfOk};
 ghost use Rattle.mv_accept.specs.Accepting.{most_calls};
 ghost use Rattle.mv_script.specs.Scripts.{IsScript};
 
@@ -99,6 +99,7 @@ const OPTIONS: Options = Options {
 pub(crate) fn prepared(alloc: Global, script: &str, options: Options) -> Result<Prepared, Fail>
     ensures sound { IfOk result (λ p. IsScript p.script) }
     ensures few { IfOk result (λ p. length p.script.calls ≤ most_calls) }
+    ensures options { IfOk result (λ p. p.script.options ≡ options) }
 {
     let Ok(program) = accept(alloc, script.as_bytes()) else {
         return Err("no program".into());

@@ -1,6 +1,6 @@
 //! What the gate's shards show beside its workers, and what a call does whose rows they have dropped.
 
-ghost use Rattle.std.specs.Prelude.{◌≡◌, ◌≤◌, length, IfOk};
+ghost use Rattle.std.specs.Prelude.{◌≡◌, ◌≢◌, ◌≤◌, None, Some, length, IfOk};
 ghost use Rattle.mv_accept.specs.Accepting.{most_calls};
 ghost use Rattle.mv_seats.specs.Knowing.{Plain};
 ghost use Rattle.mv_script.specs.Scripts.{IsScript};
@@ -12,6 +12,7 @@ use mv_cases::accounts::{ADD, OTHERS};
 use mv_cases::ensure::ensure;
 use mv_edge::pace::{Moment, NoPace, Pace, Point};
 use mv_gate::gate::{Gate, run_all, worker};
+use mv_grace::grace::{GraceBlank, Naming};
 use mv_journal::event::Event;
 use mv_script::script::Script;
 use mv_seats::board::{Blank, Making};
@@ -33,15 +34,19 @@ use std::test::*;
 use std::thread;
 use std::thread::Threads;
 
-/// Returns a script of the accounts with these calls.
-fn script_of(alloc: Global, calls: &str, horizon: Option<u32>) -> Result<Script, Fail>
+/// Returns a script of the accounts with these calls, and this horizon.
+fn script_of(alloc: Global, calls: &str, horizon: u32) -> Result<Script, Fail>
     ensures sound { IfOk result IsScript }
     ensures few { IfOk result (λ script. length script.calls ≤ most_calls) }
+    ensures horizon { IfOk result (λ script. script.options.horizon ≡ Some horizon) }
 {
     let mut text = String::from_str(alloc, ADD)?;
     text.push_str(OTHERS)?;
     text.push_str(calls)?;
-    let options = Options { rounds: 3, horizon };
+    let options = Options {
+        rounds: 3,
+        horizon: Some(horizon),
+    };
     let Prepared { script, .. } = prepared(alloc, text.as_str(), options)?;
     Ok(script)
 }
@@ -70,13 +75,15 @@ fn key_of(alloc: Global, number: i64) -> Result<Key, NoMemory> {
 }
 
 /// Writes the balance of account 1 at a start, or that its rows may be gone.
-fn write_balance<N: Making, R: Wait>(
+fn write_balance<N: Making + Naming, R: Wait>(
     rt: &R,
     alloc: Global,
     gate: &Gate<N>,
     start: &mut Start<N>,
     text: &mut String,
-) -> Result<(), Fail> {
+) -> Result<(), Fail>
+    requires { N.script.options.horizon ≢ None }
+{
     let key = key_of(alloc, 1)?;
     let mut view = ShardsView::new(rt, gate.shards(), gate.board(), start);
     let found = view.row(alloc, 0, &key);
@@ -93,32 +100,37 @@ fn write_balance<N: Making, R: Wait>(
 }
 
 /// Writes the number of a start and the balance of account 1 there.
-fn write_start<N: Making, R: Wait>(
+fn write_start<N: Making + Naming, R: Wait>(
     rt: &R,
     alloc: Global,
     gate: &Gate<N>,
     start: &mut Start<N>,
     text: &mut String,
-) -> Result<(), Fail> {
+) -> Result<(), Fail>
+    requires { N.script.options.horizon ≢ None }
+{
     write!(text, " {}:", start.number())?;
     write_balance(rt, alloc, gate, start, text)
 }
 
 /// Runs two calls by one worker, and tells what the shards show of account 1: before all commits, after the first and after
 /// the second, and again once the shards were collected up to commit 1.
-fn shown<N: Making + Send + Sync, R: Threads + Wait + Sync>(
+fn shown<N: Making + Naming + Send + Sync, R: Threads + Wait + Sync>(
     rt: &R,
     alloc: Global,
     blank: Blank,
+    grace: GraceBlank,
     script: Script,
 ) -> Result<String, Fail>
     requires board { blank.board ≡ N.board }
+    requires word { grace ≡ N.word }
     requires named { blank.script ≡ N.script }
     requires shards { N.script.shards ≡ 8 }
     requires script { script ≡ script_in N.script }
+    requires horizon { N.script.options.horizon ≢ None }
     requires sound { IsScript script }
 {
-    let (gate, mut pass) = Gate::<N>::new(alloc, blank, script)?;
+    let (gate, mut pass) = Gate::<N>::new(alloc, blank, grace, script)?;
     let mut first = gate.snapshot(rt, alloc, &mut pass)?;
     let mut readings = readings_beside(rt, alloc, &gate, pass, 1)?;
     let mut text = String::new(alloc);
@@ -140,28 +152,24 @@ fn shown_of<R: Threads + Wait + Sync>(
     rt: &R,
     alloc: Global,
     calls: &str,
-    horizon: Option<u32>,
+    horizon: u32,
 ) -> Result<String, Fail> {
     let script = script_of(alloc, calls, horizon)?;
     let blank = blank_of(alloc, &script)?;
-    shown::<Brand, R>(rt, alloc, blank, script)
+    let grace = GraceBlank::new(alloc)?;
+    shown::<Brand, R>(rt, alloc, blank, grace, script)
 }
 
 /// Two calls, a horizon, and what the shards show.
-const LOOKED: &[(&str, Option<u32>, &str)] = &[
+const LOOKED: &[(&str, u32, &str)] = &[
     (
         "CALL add(1, 5); CALL add(1, 5);",
-        Some(1),
+        1,
         " 0: 100 1: 105 2: 110; 0: stale(0, 1) 1: 105 2: 110",
     ),
     (
-        "CALL add(1, 5); CALL add(1, 5);",
-        None,
-        " 0: 100 1: 105 2: 110; 0: 100 1: 105 2: 110",
-    ),
-    (
         "CALL add(1, 5); CALL add(1, 7);",
-        Some(5),
+        5,
         " 0: 100 1: 105 2: 112; 0: 100 1: 105 2: 112",
     ),
 ];
@@ -215,22 +223,24 @@ impl Pace for Held {
     }
 }
 
-/// The post of a worker: its pass and its number.
+/// The post of a worker: its pass and its number. A horizon is given.
 #[derive(Drop)]
 struct Post<N: Making> {
     pass: Pass<N>,
     number: u32,
     ghost plain: { pass.role ≡ Plain },
+    ghost horizon: { N.script.options.horizon ≢ None },
 }
 
 fn post_of<N: Making>(pass: Pass<N>, number: u32) -> Post<N>
-    requires { pass.role ≡ Plain }
+    requires plain { pass.role ≡ Plain }
+    requires horizon { N.script.options.horizon ≢ None }
 {
     Post { pass, number }
 }
 
 /// Works at a post. At the end, the shards drop what the horizon doesn't keep, and call 0 is freed.
-fn drop_after_work<N: Making, R: Threads + Wait + Sync>(
+fn drop_after_work<N: Making + Naming, R: Threads + Wait + Sync>(
     rt: &R,
     alloc: Global,
     gate: &Gate<N>,
@@ -244,7 +254,7 @@ fn drop_after_work<N: Making, R: Threads + Wait + Sync>(
 }
 
 /// Works at each post, beside each other. The worker that doesn't have call 0 ends first.
-fn drop_after_each<N: Making + Send + Sync, R: Threads + Wait + Sync>(
+fn drop_after_each<N: Making + Naming + Send + Sync, R: Threads + Wait + Sync>(
     rt: &R,
     alloc: Global,
     gate: &Gate<N>,
@@ -260,19 +270,22 @@ fn drop_after_each<N: Making + Send + Sync, R: Threads + Wait + Sync>(
 }
 
 /// Runs calls by two workers, of which one drops rows that call 0 has still to read. Returns the events of the whole run.
-fn dropped<N: Making + Send + Sync, R: Threads + Wait + Sync>(
+fn dropped<N: Making + Naming + Send + Sync, R: Threads + Wait + Sync>(
     rt: &R,
     alloc: Global,
     blank: Blank,
+    grace: GraceBlank,
     script: Script,
 ) -> Result<List<Event>, Fail>
     requires board { blank.board ≡ N.board }
+    requires word { grace ≡ N.word }
     requires named { blank.script ≡ N.script }
     requires shards { N.script.shards ≡ 8 }
     requires script { script ≡ script_in N.script }
+    requires horizon { N.script.options.horizon ≢ None }
     requires sound { IsScript script }
 {
-    let (gate, mut pass) = Gate::<N>::new(alloc, blank, script)?;
+    let (gate, mut pass) = Gate::<N>::new(alloc, blank, grace, script)?;
     let first = pass.note(gate.board())?;
     let second = pass.note(gate.board())?;
     let mut posts = vec![in alloc; post_of(first, 0), post_of(second, 1)]?;
@@ -286,9 +299,10 @@ const OVERTAKEN: &str = "CALL transfer(1, 2, 10); CALL add(1, 1); CALL add(1, 1)
 #[test]
 fn a_call_whose_rows_were_dropped_moves(rt: HostRuntime) -> Result<(), Fail> {
     let alloc = rt.alloc();
-    let script = script_of(alloc, OVERTAKEN, Some(1))?;
+    let script = script_of(alloc, OVERTAKEN, 1)?;
     let blank = blank_of(alloc, &script)?;
-    let events = dropped::<Brand, _>(&rt, alloc, blank, script)?;
+    let grace = GraceBlank::new(alloc)?;
+    let events = dropped::<Brand, _>(&rt, alloc, blank, grace, script)?;
     let moved = events
         .as_slice()
         .iter()

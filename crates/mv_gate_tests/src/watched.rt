@@ -1,10 +1,11 @@
 //! Workers beside a reader, who takes a start after each commit and reads there.
 
-ghost use Rattle.std.specs.Prelude.{◌≡◌};
+ghost use Rattle.std.specs.Prelude.{◌≡◌, ◌≢◌, None};
 ghost use Rattle.mv_seats.specs.Knowing.{Plain};
 
 use mv_edge::pace::{Moment, Pace, Point};
 use mv_gate::gate::{Gate, worker};
+use mv_grace::grace::Naming;
 use mv_seats::board::Making;
 use mv_seats::pass::Pass;
 use mv_shards::start::Start;
@@ -98,17 +99,19 @@ pub(crate) struct Reading<N: Making> {
     pub(crate) rows: Rows,
 }
 
-/// The post of a worker, or of the reader: its pass, its number, and what it has read.
+/// The post of a worker, or of the reader: its pass, its number, and what it has read. A horizon is given.
 #[derive(Drop)]
 struct Post<N: Making> {
     pass: Pass<N>,
     number: u32,
     readings: Vec<Reading<N>>,
     ghost plain: { pass.role ≡ Plain },
+    ghost horizon: { N.script.options.horizon ≢ None },
 }
 
 fn post_of<N: Making>(alloc: Global, pass: Pass<N>, number: u32) -> Post<N>
-    requires { pass.role ≡ Plain }
+    requires plain { pass.role ≡ Plain }
+    requires horizon { N.script.options.horizon ≢ None }
 {
     Post {
         pass,
@@ -118,12 +121,14 @@ fn post_of<N: Making>(alloc: Global, pass: Pass<N>, number: u32) -> Post<N>
 }
 
 /// Returns all rows of the accounts at a start. It goes over the shards, one after another.
-pub(crate) fn all_rows<N: Making, R: Wait>(
+pub(crate) fn all_rows<N: Making + Naming, R: Wait>(
     rt: &R,
     alloc: Global,
     gate: &Gate<N>,
     start: &mut Start<N>,
-) -> Result<Rows, Refused> {
+) -> Result<Rows, Refused>
+    requires { N.script.options.horizon ≢ None }
+{
     let pred = Pred {
         table: 0,
         tests: List::new(alloc),
@@ -133,13 +138,14 @@ pub(crate) fn all_rows<N: Making, R: Wait>(
 }
 
 /// Takes a start, and reads there.
-fn read<N: Making, R: Wait>(
+fn read<N: Making + Naming, R: Wait>(
     rt: &R,
     alloc: Global,
     gate: &Gate<N>,
     pass: &mut Pass<N>,
 ) -> Result<Reading<N>, Refused>
-    requires { pass.old.role ≡ Plain }
+    requires plain { pass.old.role ≡ Plain }
+    requires horizon { N.script.options.horizon ≢ None }
     ensures { pass.new ≡ pass.old }
 {
     let mut start = gate.snapshot(rt, alloc, pass)?;
@@ -148,7 +154,7 @@ fn read<N: Making, R: Wait>(
 }
 
 /// Takes a start for each commit that asks for one, until all workers have ended. If memory runs out, it takes no more.
-fn read_beside<N: Making, R: Wait>(
+fn read_beside<N: Making + Naming, R: Wait>(
     rt: &R,
     alloc: Global,
     gate: &Gate<N>,
@@ -175,7 +181,7 @@ fn read_beside<N: Making, R: Wait>(
 }
 
 /// Works at a post, as the reader or as a worker.
-fn work_at<N: Making, R: Threads + Wait + Sync>(
+fn work_at<N: Making + Naming, R: Threads + Wait + Sync>(
     rt: &R,
     alloc: Global,
     gate: &Gate<N>,
@@ -193,7 +199,7 @@ fn work_at<N: Making, R: Threads + Wait + Sync>(
 }
 
 /// Works at each post, beside each other. The reader's post is the last one.
-fn work_at_each<N: Making + Send + Sync, R: Threads + Wait + Sync>(
+fn work_at_each<N: Making + Naming + Send + Sync, R: Threads + Wait + Sync>(
     rt: &R,
     alloc: Global,
     gate: &Gate<N>,
@@ -211,14 +217,15 @@ fn work_at_each<N: Making + Send + Sync, R: Threads + Wait + Sync>(
 }
 
 /// Runs the calls of a gate by so many workers beside a reader. Returns what the reader has read, in turn.
-pub(crate) fn readings_beside<N: Making + Send + Sync, R: Threads + Wait + Sync>(
+pub(crate) fn readings_beside<N: Making + Naming + Send + Sync, R: Threads + Wait + Sync>(
     rt: &R,
     alloc: Global,
     gate: &Gate<N>,
     mut pass: Pass<N>,
     workers: u32,
 ) -> Result<Vec<Reading<N>>, Fail>
-    requires { pass.role ≡ Plain }
+    requires plain { pass.role ≡ Plain }
+    requires horizon { N.script.options.horizon ≢ None }
 {
     let mut posts = Vec::new(alloc);
     for number in 0..=workers {

@@ -16,5 +16,5 @@ for_each_mut-requires-sync-F g c κs within =
     param_sync 2 _ (arg_sync _ no _ (four_sync _ _ _ _ _
     (shr_sync _ _ (param 1 g.row.R) (search (r, sendable)))
     (shr_sync _ _ Global.the_row global.the_sync)
-    (shr_sync _ _ (Gate.the_row n g.N.Making) (gate_sync n g.N.Making))
+    (shr_sync _ _ (Gate.the_row n g.N.Making g.N.Naming) (gate_sync n g.N.Making g.N.Naming))
     (shr_sync _ _ Watched.the_row watched.the_sync)))
