@@ -25,6 +25,7 @@ use mv_values::memory::NoMemory;
 use mv_values::patch::Write;
 use mv_values::pred::Pred;
 use mv_values::rows::{Database, Rows};
+use mv_values::tested::Tested;
 use mv_view::view::Refused;
 use std::alloc::Global;
 use std::sync::Wait;
@@ -51,6 +52,7 @@ impl<N: Making + Naming> PinnedShards<N> {
         opening: &Database,
         board: &Board<N>,
         pass: &mut Pass<N>,
+        columns: &List<Tested>,
     ) -> Result<PinnedShards<N>, NoMemory>
         requires script { IsScript (script_in N.script) }
         requires shards { N.script.shards ≡ 8 }
@@ -61,7 +63,7 @@ impl<N: Making + Naming> PinnedShards<N> {
         ensures seen { OnOk result (pass.new.seen ≡ []) }
         ensures marks { OnOk result (pass.new.marks ≡ []) }
     {
-        let shards = Shards::new(alloc, opening, None, board, pass)?;
+        let shards = Shards::new(alloc, opening, None, board, pass, columns)?;
         Ok(PinnedShards { shards })
     }
 
