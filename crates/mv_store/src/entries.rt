@@ -211,10 +211,20 @@ fn is_by(pending: &Pending, call: u32) -> bool
 }
 
 /// An index of the values that the versions of rows have in some columns.
-#[derive(Drop)]
 pub(crate) struct ValueIndex {
     columns: List<Tested>,
     index: Index,
+}
+
+impl Drop for ValueIndex {
+    /// Drops the entries. A drop of its own is one step for who drops a store; a derived one is a step for each of its
+    /// parts.
+    fn drop(self) {
+        let ValueIndex {
+            columns: _,
+            index: _,
+        } = self;
+    }
 }
 
 impl Model for ValueIndex {
