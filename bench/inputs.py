@@ -362,6 +362,16 @@ END;
     return [NUMBERS, procedure, *numbered("t", ROWS)], repeated(calls, lambda number: f"a({37 * number % ROWS})")
 
 
+def additions_beside_a_report(calls, turns):
+    """The same calls, after one that counts the thousand rows so many times."""
+    (tables, procedure, *copies), adds = additions(calls)
+    report = """CREATE PROCEDURE report (:turns ROWS (i INT)) READ ONLY DECLARE :n = 0; BEGIN
+  FOR :r IN :turns DO SELECT COUNT(*) INTO :n FROM t WHERE v >= 0; END FOR;  PRINT :n;
+END;
+"""
+    return [tables, procedure, report, *copies], chain([f"CALL report({rows_of(range(turns))});\n"], adds)
+
+
 def additions_in_turn(calls, collected):
     """The same calls with a journal: each commits before the next one begins. If `collected`, old versions are
     collected as often as a worker of `run` does it."""

@@ -527,7 +527,21 @@ def collection(bench):
         rows += series(" ".join(words), {count: taken[str(count)] for count in counts})
     header = ["words", "calls", "seconds", "growth", "of linear", "MB", "bytes a call"]
     show("Calls of `add` on 1,000 rows", header, rows)
+    held_back(bench, counts[1])
     share_of_collecting(bench, counts[0])
+
+
+def held_back(bench, count):
+    """What a long report holds back: calls beside one, and twice as many, of which the second half comes after it."""
+    rows = []
+    for calls in (count, 2 * count):
+        for turns in (0, count // 100):
+            script = bench.write(f"held-{calls}-{turns}", *inputs.additions_beside_a_report(calls, turns))
+            text = bench.folder / "held.txt"
+            taken = take(bench.run(("run", "--threads", "4"), script), text)
+            rows.append([rate(calls), rate(turns), rate(commits_before_end(text)), seconds(taken.clock), megabytes(taken.memory)])
+    header = ["calls", "turns of the report", "commits meanwhile", "clock", "MB"]
+    show("Calls of `add` on 1,000 rows beside a report, by `run --threads 4`", header, rows)
 
 
 def share_of_collecting(bench, count):
