@@ -362,11 +362,14 @@ END;
     return [NUMBERS, procedure, *numbered("t", ROWS)], repeated(calls, lambda number: f"a({37 * number % ROWS})")
 
 
+COUNT = "SELECT COUNT(*) INTO :n FROM t WHERE v >= 0; "
+
+
 def additions_beside_a_report(calls, turns):
-    """The same calls, after one that counts the thousand rows so many times."""
+    """The same calls, after one that counts the thousand rows four times in each of so many turns."""
     (tables, procedure, *copies), adds = additions(calls)
-    report = """CREATE PROCEDURE report (:turns ROWS (i INT)) READ ONLY DECLARE :n = 0; BEGIN
-  FOR :r IN :turns DO SELECT COUNT(*) INTO :n FROM t WHERE v >= 0; END FOR;  PRINT :n;
+    report = f"""CREATE PROCEDURE report (:turns ROWS (i INT)) READ ONLY DECLARE :n = 0; BEGIN
+  FOR :r IN :turns DO {COUNT * 4}END FOR;  PRINT :n;
 END;
 """
     return [tables, procedure, report, *copies], chain([f"CALL report({rows_of(range(turns))});\n"], adds)
