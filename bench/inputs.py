@@ -362,17 +362,16 @@ END;
     return [NUMBERS, procedure, *numbered("t", ROWS)], repeated(calls, lambda number: f"a({37 * number % ROWS})")
 
 
-COUNT = "SELECT COUNT(*) INTO :n FROM t WHERE v >= 0; "
-
-
 def additions_beside_a_report(calls, turns):
-    """The same calls, after one that counts the thousand rows four times in each of so many turns."""
+    """The same calls, after one that counts the rows of a larger table so many times."""
     (tables, procedure, *copies), adds = additions(calls)
-    report = f"""CREATE PROCEDURE report (:turns ROWS (i INT)) READ ONLY DECLARE :n = 0; BEGIN
-  FOR :r IN :turns DO {COUNT * 4}END FOR;  PRINT :n;
+    report = """CREATE TABLE u (id INT, v INT, PRIMARY KEY (id));
+CREATE PROCEDURE report (:turns ROWS (i INT)) READ ONLY DECLARE :n = 0; BEGIN
+  FOR :r IN :turns DO SELECT COUNT(*) INTO :n FROM u WHERE v >= 0; END FOR;  PRINT :n;
 END;
 """
-    return [tables, procedure, report, *copies], chain([f"CALL report({rows_of(range(turns))});\n"], adds)
+    opening = [tables, report, procedure, *copies, *numbered("u", 100 * ROWS)]
+    return opening, chain([f"CALL report({rows_of(range(turns))});\n"], adds)
 
 
 def additions_in_turn(calls, collected):

@@ -535,7 +535,7 @@ def held_back(bench, count):
     """What a long report holds back: calls beside one, and twice as many, of which the second half comes after it."""
     rows = []
     for calls in (count, 2 * count):
-        for turns in (0, count // 400):
+        for turns in (0, count // 500):
             script = bench.write(f"held-{calls}-{turns}", *inputs.additions_beside_a_report(calls, turns))
             text = bench.folder / "held.txt"
             taken = take(bench.run(("run", "--threads", "4"), script), text)
