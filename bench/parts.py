@@ -532,10 +532,10 @@ def collection(bench):
 
 
 def held_back(bench, count):
-    """What a long report holds back: calls beside one, and twice as many, of which the second half comes after it."""
+    """What a report of so many turns holds back, and what is left of that once more calls have come after it."""
     rows = []
     for calls in (count, 2 * count):
-        for turns in (0, count // 500):
+        for turns in (0, 10, 50):
             script = bench.write(f"held-{calls}-{turns}", *inputs.additions_beside_a_report(calls, turns))
             text = bench.folder / "held.txt"
             taken = take(bench.run(("run", "--threads", "4"), script), text)
