@@ -9,13 +9,14 @@ ghost use Rattle.mv_chain.specs.Holding.{versions_of, is_plain};
 ghost use Rattle.mv_chain.specs.Having.{has_value, undos_have};
 
 use crate::column::row_has;
-use crate::history::{History, copy_of_match};
+use crate::history::{History, lent_match};
 use crate::pending::Pending;
 use crate::undo::{Undo, column_of};
 use mv_values::copied::Copied;
+use mv_values::lent::Lent;
 use mv_values::memory::NoMemory;
 use mv_values::patch::Patch;
-use mv_values::pred::Pred;
+use mv_values::pred_ref::PredRef;
 use mv_values::value::{Row, Value};
 use std::alloc::Global;
 use std::marker::Model;
@@ -68,14 +69,15 @@ impl Chain {
         }
     }
 
-    /// Returns a copy of the row after commit n, if there is one. Takes time linear in the size of the row and of the
-    /// patches after n, and logarithmic in the number of commits.
-    pub fn row_at(&self, alloc: Global, n: u32) -> Result<Option<Row>, NoMemory>
+    /// Returns the row after commit n, if there is one. At the newest number it lends the row. Otherwise it makes the row,
+    /// in time linear in the size of the row and of the patches after n. The search for the patches takes time logarithmic
+    /// in the number of commits.
+    pub fn row_at(&self, alloc: Global, n: u32) -> Result<Option<Lent<'_>>, NoMemory>
         ensures { IfOk result (λ row. row ≡ row_at self.now n) }
     {
         match &self.held {
             Form::Nothing => Ok(None),
-            Form::Only(row) => Ok(Some(row.copy(alloc)?)),
+            Form::Only(row) => Ok(Some(Lent::kept(row))),
             Form::History(history) => history.row_at(alloc, n),
         }
     }
@@ -92,14 +94,19 @@ impl Chain {
         }
     }
 
-    /// Returns a copy of the row after commit n, if there is one and the predicate matches it. At the newest number it
-    /// copies the row only if it matches. Otherwise it takes as long as `row_at`.
-    pub fn found_at(&self, alloc: Global, n: u32, pred: &Pred) -> Result<Option<Row>, NoMemory>
+    /// Returns the row after commit n, if there is one and the predicate matches it. It takes as long as `row_at`, and
+    /// lends the row where that does.
+    pub fn found_at(
+        &self,
+        alloc: Global,
+        n: u32,
+        pred: &PredRef<'_>,
+    ) -> Result<Option<Lent<'_>>, NoMemory>
         ensures { IfOk result (λ row. row ≡ matched pred.now (row_at self.now n)) }
     {
         match &self.held {
             Form::Nothing => Ok(None),
-            Form::Only(row) => copy_of_match(alloc, Some(row), pred),
+            Form::Only(row) => Ok(lent_match(Some(row), pred)),
             Form::History(history) => history.found_at(alloc, n, pred),
         }
     }

@@ -1,12 +1,13 @@
 //! The versions of a row that has more than one, or patches of calls that have not committed.
 
-ghost use Rattle.std.specs.Prelude.{◌≡◌, ◌↔◌, ◌==◌, ◌&&◌, ◌||◌, not, true, IsTrue, ◌<◌, ◌≤◌, ◌++◌, ◌∷◌, ℕ, [], IfOk, OnOk, OnErr, OnSome, IfSome, length, slice_get};
+ghost use Rattle.std.specs.Prelude.{◌≡◌, ◌↔◌, ◌==◌, ◌&&◌, ◌||◌, not, true, IsTrue, ◌<◌, ◌≤◌, ◌++◌, ◌∷◌, ℕ, [], IfOk, OnOk, OnErr, OnSome, IfSome, drop, length, slice_get};
 ghost use Rattle.std.specs.Vec.{vec_capacity};
 ghost use Rattle.std.specs.Option.{is_some, option_and_then, option_copied};
 ghost use Rattle.mv_values.specs.declared.value.Value.{Value as Val};
 ghost use Rattle.mv_values.specs.Preds.{matched};
 ghost use Rattle.mv_chain.specs.Versions.{row_at, newest, IsAboveAll, own_of, without, with_own, stamped, collected, is_blank, blank};
 ghost use Rattle.mv_chain.specs.Holding.{is_plain};
+ghost use Rattle.mv_chain.specs.Undoing.{before};
 ghost use Rattle.mv_chain.specs.Having.{has_value, undos_have};
 
 use crate::column::{others_have, own_has, patched_has, undone_have};
@@ -15,9 +16,10 @@ use crate::compose::compose;
 use crate::pending::{Pending, place_of};
 use crate::undo::{Undo, are_below, place_after, row_before, stood_before, value_before};
 use mv_values::copied::Copied;
+use mv_values::lent::{Lent, kept, made};
 use mv_values::memory::NoMemory;
 use mv_values::patch::Patch;
-use mv_values::pred::Pred;
+use mv_values::pred_ref::PredRef;
 use mv_values::value::{Row, Value};
 use std::alloc::Global;
 use std::marker::Model;
@@ -63,31 +65,28 @@ impl History {
         self.row.as_ref()
     }
 
-    /// Returns a copy of the row after commit n, if there is one. Takes time linear in the size of the row and of the
-    /// patches after n, and logarithmic in the number of commits.
-    pub(crate) fn row_at(&self, alloc: Global, n: u32) -> Result<Option<Row>, NoMemory>
+    /// Returns the row after commit n, if there is one. At the newest number it lends the row. Otherwise it makes the row,
+    /// in time linear in the size of the row and of the patches after n. The search for the patches takes time logarithmic
+    /// in the number of commits.
+    pub(crate) fn row_at(&self, alloc: Global, n: u32) -> Result<Option<Lent<'_>>, NoMemory>
         ensures { IfOk result (λ row. row ≡ row_at self.now n) }
     {
         let undos = self.undos.as_slice();
         let first = place_after(undos, n);
-        let row = copy_of(alloc, self.row.as_ref())?;
-        let was = row_before(alloc, row, undos, first)?;
+        let was = row_lent(alloc, self.row.as_ref(), undos, first)?;
         Ok(was)
     }
 
-    /// Returns a copy of the row after commit n, if there is one and the predicate matches it. At the newest number it
-    /// copies the row only if it matches. Otherwise it takes as long as `row_at`.
+    /// Returns the row after commit n, if there is one and the predicate matches it. It takes as long as `row_at`, and
+    /// lends the row where that does.
     pub(crate) fn found_at(
         &self,
         alloc: Global,
         n: u32,
-        pred: &Pred,
-    ) -> Result<Option<Row>, NoMemory>
+        pred: &PredRef<'_>,
+    ) -> Result<Option<Lent<'_>>, NoMemory>
         ensures { IfOk result (λ row. row ≡ matched pred.now (row_at self.now n)) }
     {
-        if place_after(self.undos.as_slice(), n) == self.undos.len() {
-            return copy_of_match(alloc, self.row.as_ref(), pred);
-        }
         let row = self.row_at(alloc, n)?;
         Ok(only_match(row, pred))
     }
@@ -318,28 +317,43 @@ fn copy_of(alloc: Global, row: Option<&Row>) -> Result<Option<Row>, NoMemory>
     }
 }
 
-/// Copies a row, if there is one and the predicate matches it.
-pub(crate) fn copy_of_match(
+/// Returns the row before the commits from this place on, given the row after them. It lends the row if there are no such
+/// commits, and else makes it.
+fn row_lent<'a>(
     alloc: Global,
-    row: Option<&Row>,
-    pred: &Pred,
-) -> Result<Option<Row>, NoMemory>
-    ensures { IfOk result (λ copy. copy ≡ matched pred.now (option_copied row.entry)) }
+    row: Option<&'a Row>,
+    undos: &[Undo],
+    first: usize,
+) -> Result<Option<Lent<'a>>, NoMemory>
+    requires { first ≤ length undos.now }
+    ensures { IfOk result (λ was. was ≡ before (drop first undos.now) (option_copied row.entry)) }
+{
+    if first == undos.len() {
+        return Ok(kept(row));
+    }
+    let row = copy_of(alloc, row)?;
+    let was = row_before(alloc, row, undos, first)?;
+    Ok(made(was))
+}
+
+/// Lends the row, if there is one and the predicate matches it.
+pub(crate) fn lent_match<'a>(row: Option<&'a Row>, pred: &PredRef<'_>) -> Option<Lent<'a>>
+    ensures { result ≡ matched pred.now (option_copied row.entry) }
 {
     match row {
-        Some(row) if pred.matches(row) => Ok(Some(row.copy(alloc)?)),
-        _ => Ok(None),
+        Some(row) if pred.matches(row) => Some(Lent::kept(row)),
+        _ => None,
     }
 }
 
 /// Returns the row, if there is one and the predicate matches it.
-fn only_match(row: Option<Row>, pred: &Pred) -> Option<Row>
-    ensures { result ≡ matched pred.now row }
+fn only_match<'a>(row: Option<Lent<'a>>, pred: &PredRef<'_>) -> Option<Lent<'a>>
+    ensures { result ≡ matched pred.now row.entry }
 {
-    let Some(row) = row else {
-        return None;
-    };
-    if pred.matches(&row) { Some(row) } else { None }
+    match row {
+        Some(row) if pred.matches(row.get()) => Some(row),
+        _ => None,
+    }
 }
 
 /// Appends an entry. There must be room for it.

@@ -7,7 +7,7 @@ ghost use Rattle.mv_values.specs.Columns.{column_of, columns_of};
 ghost use Rattle.mv_values.specs.Order.{value_order, key_order};
 ghost use Rattle.mv_history.specs.Hits.{named_columns, is_alike};
 
-use mv_log::pred_ref::PredRef;
+use mv_values::pred_ref::PredRef;
 use mv_values::value::{Row, Value};
 
 /// Whether two rows have the same value in a column. A column that a row lacks counts as 0.

@@ -17,6 +17,7 @@ use mv_history::change::Change;
 use mv_log::records::Records;
 use mv_record::applying::patch_row;
 use mv_values::copied::Copied;
+use mv_values::lent::own;
 use mv_values::list::List;
 use mv_values::memory::NoMemory;
 use mv_values::patch::Write;
@@ -72,11 +73,15 @@ fn no_change() -> Change {
 }
 
 /// Returns the change of a key by its first write: from its row in the view's database to the row after the write.
-fn first_change<V: View>(alloc: Global, write: &Write, view: &mut V) -> Result<Change, Refused>
+fn first_change<'s, V: View<'s>>(
+    alloc: Global,
+    write: &Write,
+    view: &mut V,
+) -> Result<Change, Refused>
     ensures change { IfOk result (λ change. change ≡ change_of_write write.now (row_of (rows_at (V.sight view.old).database write.now.table) write.now.key)) }
     ensures asks { HasAsked 1 (V.sight view.old) (V.sight view.new) result }
 {
-    let before = view.row(alloc, write.table, &write.key)?;
+    let before = own(alloc, view.row(alloc, write.table, &write.key)?)?;
     let after = patch_row(alloc, &write.patch, before.as_ref())?;
     let key = write.key.copy(alloc)?;
     Ok(Change {
@@ -101,7 +106,7 @@ fn next_change(alloc: Global, change: Change, write: &Write) -> Result<Change, N
 }
 
 /// Adds a write to the changes, unless it is to a table that the database lacks.
-fn add_write<V: View>(
+fn add_write<'s, V: View<'s>>(
     alloc: Global,
     tables: usize,
     changes: &mut List<Change>,
@@ -131,7 +136,7 @@ fn add_write<V: View>(
 }
 
 /// Adds writes to the changes.
-fn add_writes<V: View>(
+fn add_writes<'s, V: View<'s>>(
     alloc: Global,
     tables: usize,
     changes: &mut List<Change>,
@@ -201,7 +206,7 @@ fn differing(alloc: Global, changes: List<Change>) -> Result<Changes, NoMemory>
 /// change has the row of a written key before and after the writes, if these differ. Fails if memory runs out, or with
 /// `Stale` if the view does. Costs one look-up in the view for each key written, and for each write the logarithm of
 /// their number. The first write of a key moves the changes of later keys.
-pub fn changes_of_commit<V: View>(
+pub fn changes_of_commit<'s, V: View<'s>>(
     alloc: Global,
     tables: usize,
     records: &Records<'_>,

@@ -14,9 +14,10 @@ ghost use Rattle.mv_changes.specs.Hitting.{hits_pred, hits_admitted};
 use crate::changes::Changes;
 use crate::columns::are_alike;
 use mv_history::change::Change;
-use mv_log::pred_ref::{PredRef, Preds};
+use mv_log::pred_ref::Preds;
 use mv_log::record_ref::RecordRef;
 use mv_undo::undo::Undo;
+use mv_values::pred_ref::PredRef;
 
 /// Whether the predicate sees the same of the row before the change and after it.
 fn sees_same(pred: &PredRef<'_>, change: &Change) -> bool

@@ -73,7 +73,7 @@ pub fn is_read_only(script: &Script, number: u32) -> bool
 
 /// Executes the next statement of a call of the script over a view. Fails with `NoMemory` if memory runs out, and with
 /// `Stale` if the view reports it.
-pub fn run_next<V: View>(
+pub fn run_next<'s, V: View<'s>>(
     alloc: Global,
     script: &Script,
     number: u32,
@@ -95,7 +95,7 @@ pub fn run_next<V: View>(
 
 /// Executes the rest of a call of the script over a view. Fails with `NoMemory` if memory runs out, and with `Stale` if
 /// the view reports it. Then the call keeps the records added so far.
-pub fn run_all<V: View>(
+pub fn run_all<'s, V: View<'s>>(
     alloc: Global,
     script: &Script,
     number: u32,
@@ -119,7 +119,7 @@ pub fn run_all<V: View>(
 /// Repairs a call of the script that has run whole: runs it again over a view, to which the changes of the commits lead.
 /// Executes only what depends on them, and returns the number of executed records. Fails with `NoMemory` if memory runs
 /// out, and with `Stale` if the view reports it. Then its records are of no use.
-pub fn repair_over<V: View>(
+pub fn repair_over<'s, V: View<'s>>(
     alloc: Global,
     script: &Script,
     number: u32,

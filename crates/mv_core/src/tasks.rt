@@ -114,7 +114,7 @@ pub fn has_step(book: &Book, call: u32, running: &Running) -> bool
 /// The view shows the tables there, and a statement must be left. The journal names that statement next. A task that has
 /// run no more statements than the journal names runs exactly one more. Any other runs none. Fails with `NoMemory` if
 /// memory runs out, and with `Stale` if the view reports it. Then the task has run none.
-pub fn step_task<V: View>(
+pub fn step_task<'s, V: View<'s>>(
     alloc: Global,
     book: &Book,
     view: &mut V,
@@ -140,7 +140,7 @@ pub fn step_task<V: View>(
 
 /// Runs the rest of a live call at its start, over a view that shows the tables there. Executes nothing else. Fails with
 /// `NoMemory` if memory runs out, and with `Stale` if the view reports it. Then the task is still that of the call.
-pub fn finish_task<V: View>(
+pub fn finish_task<'s, V: View<'s>>(
     alloc: Global,
     book: &Book,
     view: &mut V,
@@ -161,7 +161,7 @@ pub fn finish_task<V: View>(
 /// Validates a live call that isn't read only. First it runs the rest of the call at its start, unless that is below
 /// low. The view shows the tables there, or need not if the start is below low. Fails with `NoMemory` if memory runs
 /// out, and with `Stale` if the view reports it, but only if the start isn't below low.
-pub fn validate_task<V: View>(
+pub fn validate_task<'s, V: View<'s>>(
     alloc: Global,
     book: &Book,
     view: &mut V,
@@ -190,7 +190,7 @@ pub fn validate_task<V: View>(
 /// Repairs a live call that has run whole at its start, which isn't below low: runs it again over a view that shows the
 /// tables after all commits. Fails with `NoMemory` if memory runs out, and with `Stale` if the view reports it. Then the
 /// call has lost its records, and is still the one that starts there.
-pub fn repair_task<V: View>(
+pub fn repair_task<'s, V: View<'s>>(
     alloc: Global,
     book: &Book,
     view: &mut V,
@@ -219,7 +219,7 @@ pub fn repair_task<V: View>(
 /// Event A of a live call that has run whole at its start, which isn't below low: repairs it over a view that shows the
 /// tables after all commits. Returns the number of executed records. Fails with `NoMemory` if memory runs out, and with
 /// `Stale` if the view reports it. Then no event was made, and the call may have lost its records.
-pub fn rerun_task<V: View>(
+pub fn rerun_task<'s, V: View<'s>>(
     alloc: Global,
     book: &mut Book,
     view: &mut V,
@@ -250,7 +250,7 @@ pub fn rerun_task<V: View>(
 
 /// Runs a call of the script whole over a view. Returns its task, which has the spare log. Fails with `NoMemory` if
 /// memory runs out, and with `Stale` if the view reports it.
-pub fn whole_task<V: View>(
+pub fn whole_task<'s, V: View<'s>>(
     alloc: Global,
     script: &Script,
     number: u32,
@@ -273,7 +273,7 @@ pub fn whole_task<V: View>(
 /// Event M of a live call: it starts anew after all commits, and is run whole over a view that shows the tables there.
 /// Returns its task, which has the spare log. Fails with `NoMemory` if memory runs out, and with `Stale` if the view
 /// reports it. Then the call hasn't moved.
-pub fn move_task<V: View>(
+pub fn move_task<'s, V: View<'s>>(
     alloc: Global,
     book: &mut Book,
     view: &mut V,
@@ -332,7 +332,7 @@ pub fn answer_task(alloc: Global, book: &mut Book, call: u32, task: &Task) -> Re
 
 /// Returns the changes that a call with these records makes to the tables after all commits, which the view shows. Fails
 /// with `NoMemory` if memory runs out, and with `Stale` if the view reports it.
-pub fn changes_made<V: View>(
+pub fn changes_made<'s, V: View<'s>>(
     alloc: Global,
     book: &Book,
     view: &mut V,
@@ -357,7 +357,7 @@ pub struct Told {
 /// Returns what the commit of a call tells. The records are those of its full run on the tables after all commits, which
 /// the view shows. Leaves out the changes if no other call is live. Fails with `NoMemory` if memory runs out, and with
 /// `Stale` if the view reports it.
-pub fn tell<V: View>(
+pub fn tell<'s, V: View<'s>>(
     alloc: Global,
     book: &Book,
     view: &mut V,

@@ -118,7 +118,7 @@ pub(crate) fn put_told(
 
 /// Returns the changes that a call with these records makes to a view's database, which has this many tables. Fails with
 /// `NoMemory` if memory runs out, and with `Stale` if the view reports it.
-pub fn changes_told<V: View>(
+pub fn changes_told<'s, V: View<'s>>(
     alloc: Global,
     tables: usize,
     records: &Records<'_>,

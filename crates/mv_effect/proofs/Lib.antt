@@ -13,3 +13,6 @@ pub mod Foremost
 pub mod OwnKeys
 pub mod Whole
 pub mod Checking
+pub mod Columns
+pub mod OnePred
+pub mod Parts

@@ -1,12 +1,15 @@
 //! Writes what statements ask and how they end into the log of their call.
 
-ghost use Rattle.std.specs.Prelude.{◌≡◌, ◌∷◌, ◌++◌, [], OnOk, OnErr};
-ghost use Rattle.mv_recorded.specs.Effects.{only_asks, only_end};
+ghost use Rattle.std.specs.Prelude.{◌≡◌, ◌<◌, ◌∷◌, ◌++◌, [], OnOk, OnErr};
+ghost use Rattle.mv_recorded.specs.Effects.{only_end};
+ghost use Rattle.mv_log.specs.Logged.{no_effect};
+ghost use Rattle.mv_effect.specs.Asking.{asked, asking, AsksOne};
 ghost use Rattle.mv_effect.specs.Logging.{BeginsPred, IsBlank, with_preds, without_effect};
 ghost use Rattle.mv_effect.specs.Stops.{EndsBy};
 ghost use Rattle.mv_effect.specs.Looking.{OnlyAsks};
 ghost use Rattle.mv_view.specs.Viewing.{Sight};
 
+use crate::numbers::narrow;
 use mv_alone::state::Stop;
 use mv_log::log::Log;
 use mv_values::calls::End;
@@ -14,6 +17,7 @@ use mv_values::list::List;
 use mv_values::memory::NoMemory;
 use mv_values::op::Op;
 use mv_values::pred::{Pred, Test};
+use mv_values::pred_ref::PredRef;
 use mv_values::value::Value;
 use mv_view::view::Refused;
 
@@ -40,15 +44,22 @@ fn push_tests(log: &mut Log, tests: List<Test>) -> Result<(), NoMemory>
     Ok(())
 }
 
-/// Adds a predicate to the open effect, which has nothing yet.
-pub(crate) fn ask(log: &mut Log, pred: Pred) -> Result<(), NoMemory>
-    requires { IsBlank log.old }
-    ensures ok { OnOk result (log.new ≡ record log.old { effect = only_asks pred }) }
+/// Asks for the rows of a table by the tests and columns that were added. The open effect has nothing yet.
+pub(crate) fn ask(log: &mut Log, table: u16) -> Result<(), NoMemory>
+    requires table { table < 256 }
+    requires effect { log.old.effect ≡ no_effect }
+    ensures ok { OnOk result (log.new ≡ asking log.old (record { table = table; tests = log.old.tests; columns = log.old.columns })) }
     ensures err { OnErr result (without_effect log.new ≡ without_effect log.old) }
 {
-    push_tests(log, pred.tests)?;
-    log.push_columns(pred.columns.as_slice())?;
-    log.push_pred(pred.table)
+    log.push_pred(narrow(table))
+}
+
+/// Lends the one predicate that the open effect asks.
+pub(crate) fn asked_pred(log: &Log) -> PredRef<'_>
+    requires { AsksOne log.now }
+    ensures { result ≡ asked log.now }
+{
+    log.last_pred()
 }
 
 /// Adds one more predicate to the open effect.
@@ -92,6 +103,18 @@ pub(crate) fn stop_early(log: &mut Log, stopped: Stop) -> Result<(), NoMemory>
     ensures err { OnErr result (without_effect log.new ≡ without_effect log.old) }
 {
     stop(log, stopped)?;
+    Ok(())
+}
+
+/// Ends the call in the open effect of a statement that was stopped while it asked. So it asks nothing. Fails if the
+/// statement was stopped because memory ran out.
+pub(crate) fn stop_after(log: &mut Log, stopped: Stop) -> Result<(), Refused>
+    ensures ended { OnOk result (EndsBy [] stopped (without_effect log.old) log.new) }
+    ensures err { OnErr result (without_effect log.new ≡ without_effect log.old) }
+    ensures view { (sight : Sight) → OnlyAsks sight sight result }
+{
+    log.drop_effect();
+    stop_early(log, stopped)?;
     Ok(())
 }
 

@@ -15,17 +15,18 @@ ghost use Rattle.mv_recorded.specs.Doing.{set_patch, write};
 ghost use Rattle.mv_recorded.specs.Effects.{IsEffect, effect_after, effect_unless, changes, new_of, effect_of_writes, slots_behind};
 ghost use Rattle.mv_undo.specs.Owning.{earlier};
 ghost use Rattle.mv_checks.specs.Checking.{meant, row_checks, HasValue};
+ghost use Rattle.mv_effect.specs.Asking.{asked, AsksOne};
 ghost use Rattle.mv_effect.specs.Logging.{BeginsPred, IsBlank, without_effect, with_preds, with_sets, with_writes};
 ghost use Rattle.mv_effect.specs.Stops.{leaving};
 ghost use Rattle.mv_effect.specs.Looking.{AreSoundTables, OnlyAsks, AskedBy, AskedFor};
 ghost use Rattle.mv_effect.specs.Naming.{Tests, Sets};
 
-use crate::asking::{ask, end, stop, stop_unasked};
+use crate::asking::{end, stop, stop_after, stop_unasked};
 use crate::checks::run_checks;
 use crate::context::Context;
 use crate::numbers::narrow;
-use crate::predicates::{pred_from, update_pred};
-use crate::rows::{is_any, visible_rows};
+use crate::predicates::{ask_update, ask_where};
+use crate::rows::{is_any, rows_asked};
 use crate::slots::push_found;
 use mv_alone::env::column_value;
 use mv_alone::find::{columns_in, key_in};
@@ -36,15 +37,17 @@ use mv_checks::check::Check;
 use mv_checks::children::{children_of, delete_checks};
 use mv_checks::parents::{push_items, row_checks, sets_reference};
 use mv_log::log::Log;
+use mv_table::found::Found;
+use mv_table::found_rows::FoundRows;
+use mv_table::table::Stored;
 use mv_values::calls::End;
 use mv_values::copied::Copied;
 use mv_values::list::List;
 use mv_values::memory::NoMemory;
 use mv_values::patch::{Assign, Patch, Write};
-use mv_values::pred::Pred;
-use mv_values::rows::{Keyed, Rows};
+use mv_values::rows::Keyed;
 use mv_values::schema::TableInfo;
-use mv_values::value::{Key, Row, Value};
+use mv_values::value::{Key, Value};
 use mv_view::view::{Refused, View};
 use std::alloc::Global;
 
@@ -67,7 +70,7 @@ fn push_insertion(env: &Env, table: u16, item: Keyed, log: &mut Log) -> Result<(
 
 /// Runs what INSERT of a row under its key checks, and adds the predicates to the open effect. Returns the end if a check
 /// fails.
-fn check_row<V: View>(
+fn check_row<'s, V: View<'s>>(
     alloc: Global,
     context: &Context<'_>,
     table: u16,
@@ -89,7 +92,7 @@ fn check_row<V: View>(
 }
 
 /// Writes the effect of an INSERT of this row under its key.
-fn insert_row<V: View>(
+fn insert_row<'s, V: View<'s>>(
     alloc: Global,
     context: &Context<'_>,
     table: u16,
@@ -117,7 +120,7 @@ fn insert_row<V: View>(
 /// Writes the effect of INSERT: it writes its row, and sets `:found`. It asks for rows with the same key by a test of
 /// each key column, and then for the parent of each column with REFERENCES. The call ends if a value is stopped, if there
 /// is a row with the key, or if a parent isn't there.
-pub(crate) fn insert<V: View>(
+pub(crate) fn insert<'s, V: View<'s>>(
     alloc: Global,
     context: &Context<'_>,
     table: u16,
@@ -144,15 +147,16 @@ pub(crate) fn insert<V: View>(
 }
 
 /// Adds the writes that delete these rows to the open effect, which has none yet.
-fn push_deletes(table: u8, rows: Rows, log: &mut Log) -> Result<(), NoMemory>
+fn push_deletes(alloc: Global, table: u8, rows: &[Found<'_>], log: &mut Log) -> Result<(), NoMemory>
     requires { log.old.effect.writes ≡ [] }
-    ensures ok { OnOk result (log.new ≡ with_writes log.old (map (λ item. write table item.key patch.Delete) rows)) }
+    ensures ok { OnOk result (log.new ≡ with_writes log.old (map (λ item. write table item.key patch.Delete) rows.now)) }
     ensures err { OnErr result (without_effect log.new ≡ without_effect log.old) }
 {
-    for item in rows.into_items() {
+    for item in rows {
+        let key = item.key().copy(alloc)?;
         log.push_write(Write {
             table,
-            key: item.key,
+            key,
             patch: Patch::Delete,
         })?;
     }
@@ -160,36 +164,41 @@ fn push_deletes(table: u8, rows: Rows, log: &mut Log) -> Result<(), NoMemory>
 }
 
 /// Adds the writes that delete these rows to the open effect, which has none yet, and sets `:found`.
-fn push_deletion(env: &Env, table: u16, rows: Rows, log: &mut Log) -> Result<(), NoMemory>
+fn push_deletion(
+    alloc: Global,
+    env: &Env,
+    table: u16,
+    rows: &FoundRows<'_>,
+    log: &mut Log,
+) -> Result<(), NoMemory>
     requires table { table < 256 }
     requires found { env.now.found < 2 ^ 16 }
     requires writes { log.old.effect.writes ≡ [] }
     requires sets { log.old.effect.sets ≡ [] }
-    ensures ok { OnOk result (log.new ≡ with_sets (with_writes log.old (map (λ item. write table item.key patch.Delete) rows)) (slots_behind (with_found env.now (is_some_row rows)) (env.now.found ∷ []))) }
+    ensures ok { OnOk result (log.new ≡ with_sets (with_writes log.old (map (λ item. write table item.key patch.Delete) rows.now)) (slots_behind (with_found env.now (is_some_row rows.now)) (env.now.found ∷ []))) }
     ensures err { OnErr result (without_effect log.new ≡ without_effect log.old) }
 {
-    let found = is_any(&rows);
-    push_deletes(narrow(table), rows, log)?;
-    push_found(env, found, log)
+    push_deletes(alloc, narrow(table), rows.as_slice(), log)?;
+    push_found(env, is_any(rows), log)
 }
 
 /// Returns the keys of these rows.
-fn keys_of(alloc: Global, rows: &[Keyed]) -> Result<List<Key>, NoMemory>
+fn keys_of(alloc: Global, rows: &[Found<'_>]) -> Result<List<Key>, NoMemory>
     ensures { IfOk result (λ all. all ≡ keys rows.now) }
 {
     let mut all = List::with_room(alloc, rows.len())?;
     for item in rows {
-        all.push(item.key.copy(alloc)?)?;
+        all.push(item.key().copy(alloc)?)?;
     }
     Ok(all)
 }
 
 /// Runs what DELETE of these rows checks, and adds the predicates to the open effect. Returns the end if a check fails.
-fn check_deletion<V: View>(
+fn check_deletion<'s, V: View<'s>>(
     alloc: Global,
     context: &Context<'_>,
     table: u16,
-    rows: &Rows,
+    rows: &FoundRows<'_>,
     log: &mut Log,
     view: &mut V,
 ) -> Result<Option<End>, Refused>
@@ -213,38 +222,36 @@ fn check_deletion<V: View>(
     run_checks(alloc, context, own, checks, log, view)
 }
 
-/// Writes the effect of a DELETE that asked this and found these rows.
-fn delete_rows<V: View>(
+/// Writes the rest of the effect of a DELETE that asked and found these rows.
+fn delete_rows<'s, V: View<'s>>(
     alloc: Global,
     context: &Context<'_>,
     table: u16,
-    pred: Pred,
-    rows: Rows,
+    rows: &FoundRows<'_>,
     log: &mut Log,
     view: &mut V,
 ) -> Result<(), Refused>
     requires stands { AreSoundTables context.now.tables.now (earlier context.now.number context.now.undo.now) (V.sight view.old).database }
     requires found { context.now.env.now.found < 2 ^ 16 }
     requires table { table < 256 }
-    requires blank { IsBlank log.old }
-    ensures ok { OnOk result (log.new ≡ record log.old { effect = effect_unless (first_fault (delete_checks context.now.tables.now table rows) (applied (earlier context.now.number context.now.undo.now) (V.sight view.old).database)) (pred ∷ preds_up_to (delete_checks context.now.tables.now table rows) (applied (earlier context.now.number context.now.undo.now) (V.sight view.old).database)) (is_some_row rows) (map (λ item. write table item.key patch.Delete) rows) context.now.env.now }) }
+    requires one { AsksOne log.old }
+    ensures ok { OnOk result (log.new ≡ record log.old { effect = effect_unless (first_fault (delete_checks context.now.tables.now table rows.now) (applied (earlier context.now.number context.now.undo.now) (V.sight view.old).database)) (asked log.old ∷ preds_up_to (delete_checks context.now.tables.now table rows.now) (applied (earlier context.now.number context.now.undo.now) (V.sight view.old).database)) (is_some_row rows.now) (map (λ item. write table item.key patch.Delete) rows.now) context.now.env.now }) }
     ensures err { OnErr result (without_effect log.new ≡ without_effect log.old) }
     ensures view { OnlyAsks (V.sight view.old) (V.sight view.new) result }
-    ensures looks { AskedFor (preds_up_to (delete_checks context.now.tables.now table rows) (applied (earlier context.now.number context.now.undo.now) (V.sight view.old).database)) (earlier context.now.number context.now.undo.now) (V.sight view.old) (V.sight view.new) }
+    ensures looks { AskedFor (preds_up_to (delete_checks context.now.tables.now table rows.now) (applied (earlier context.now.number context.now.undo.now) (V.sight view.old).database)) (earlier context.now.number context.now.undo.now) (V.sight view.old) (V.sight view.new) }
 {
-    ask(log, pred)?;
-    if let Some(fault) = check_deletion(alloc, context, table, &rows, log, view)? {
+    if let Some(fault) = check_deletion(alloc, context, table, rows, log, view)? {
         end(log, fault)?;
         return Ok(());
     }
-    push_deletion(context.env, table, rows, log)?;
+    push_deletion(alloc, context.env, table, rows, log)?;
     Ok(())
 }
 
 /// Writes the effect of DELETE: it deletes the rows that match, and sets `:found`. For each column with REFERENCES to
 /// their table and each of the rows, it asks for rows that hold its key. The call ends if a right side of WHERE is stopped,
 /// or if one of these rows stays.
-pub(crate) fn delete<V: View>(
+pub(crate) fn delete<'s, V: View<'s>>(
     alloc: Global,
     context: &Context<'_>,
     table: u16,
@@ -262,12 +269,12 @@ pub(crate) fn delete<V: View>(
     ensures view { OnlyAsks (V.sight view.old) (V.sight view.new) result }
     ensures looks { AskedBy context.now.tables.now (layer.Delete table conds.now) context.now.env.now (earlier context.now.number context.now.undo.now) (V.sight view.old) (V.sight view.new) }
 {
-    let pred = match pred_from(alloc, context.tables, table, conds, &[], context.env) {
-        Ok(pred) => pred,
-        Err(reason) => return stop_unasked(log, reason),
-    };
-    let rows = visible_rows(alloc, context, &pred, view)?;
-    delete_rows(alloc, context, table, pred, rows, log, view)
+    match ask_where(alloc, context.tables, table, conds, context.env, log) {
+        Ok(()) => {}
+        Err(reason) => return stop_after(log, reason),
+    }
+    let rows = rows_asked(alloc, context, log, view)?;
+    delete_rows(alloc, context, table, &rows, log, view)
 }
 
 /// Returns the columns of SET, with their values in the row after it.
@@ -310,7 +317,7 @@ fn write_for(
     tables: &[TableInfo],
     env: &Env,
     update: &Update<'_>,
-    item: &Keyed,
+    item: &Found<'_>,
 ) -> Result<Write, Stop>
     requires table { update.now.table < 256 }
     requires columns { All (λ (i : RSetItem). i.column < 256) update.now.items.now }
@@ -318,11 +325,11 @@ fn write_for(
 {
     let columns = columns_in(tables, update.table);
     let keys = key_in(tables, update.table);
-    let row = row_after_set(alloc, columns, keys, env, &item.row, update.items)?;
+    let row = row_after_set(alloc, columns, keys, env, item.row(), update.items)?;
     Ok(set_write(
         alloc,
         narrow(update.table),
-        &item.key,
+        item.key(),
         update.items,
         row.as_slice(),
     )?)
@@ -334,7 +341,7 @@ fn push_sets(
     alloc: Global,
     context: &Context<'_>,
     update: &Update<'_>,
-    rows: &[Keyed],
+    rows: &[Found<'_>],
     log: &mut Log,
 ) -> Result<(), Stop>
     requires table { update.now.table < 256 }
@@ -350,23 +357,21 @@ fn push_sets(
     Ok(())
 }
 
-/// Writes the effect of an UPDATE that asked this and found these rows. It sets no column with REFERENCES.
+/// Writes the rest of the effect of an UPDATE that asked and found these rows. It sets no column with REFERENCES.
 fn set_rows(
     alloc: Global,
     context: &Context<'_>,
     update: &Update<'_>,
-    pred: Pred,
-    rows: &Rows,
+    rows: &FoundRows<'_>,
     log: &mut Log,
 ) -> Result<(), NoMemory>
     requires table { update.now.table < 256 }
     requires columns { All (λ (i : RSetItem). i.column < 256) update.now.items.now }
     requires found { context.now.env.now.found < 2 ^ 16 }
-    requires blank { IsBlank log.old }
-    ensures ok { OnOk result (log.new ≡ record log.old { effect = effect_after pred (changes update.now.table update.now.items.now (new_of context.now.tables.now update.now.table context.now.env.now update.now.items.now) rows.now) (λ ws. effect_of_writes (pred ∷ []) (is_some_row rows.now) ws context.now.env.now) }) }
+    requires one { AsksOne log.old }
+    ensures ok { OnOk result (log.new ≡ record log.old { effect = effect_after (asked log.old) (changes update.now.table update.now.items.now (new_of context.now.tables.now update.now.table context.now.env.now update.now.items.now) rows.now) (λ ws. effect_of_writes (asked log.old ∷ []) (is_some_row rows.now) ws context.now.env.now) }) }
     ensures err { OnErr result (without_effect log.new ≡ without_effect log.old) }
 {
-    ask(log, pred)?;
     match push_sets(alloc, context, update, rows.as_slice(), log) {
         Ok(()) => push_found(context.env, is_any(rows), log),
         Err(reason) => stop(log, reason),
@@ -379,7 +384,7 @@ fn push_update(
     alloc: Global,
     context: &Context<'_>,
     update: &Update<'_>,
-    rows: &Rows,
+    rows: &FoundRows<'_>,
     log: &mut Log,
 ) -> Result<(), NoMemory>
     requires table { update.now.table < 256 }
@@ -402,25 +407,25 @@ fn update_checks(
     alloc: Global,
     context: &Context<'_>,
     update: &Update<'_>,
-    rows: &[Keyed],
+    rows: &[Found<'_>],
 ) -> Result<List<Check>, NoMemory>
     requires { All IsTable context.now.tables.now }
     ensures { IfOk result (λ checks. map (meant []) checks ≡ update_checks context.now.tables.now update.now.table update.now.items.now context.now.env.now rows.now) }
 {
     let mut checks = List::new(alloc);
     for item in rows {
-        let row = item.row.as_slice();
+        let row = item.row().as_slice();
         push_items(alloc, context.tables, context.env, update, row, &mut checks)?;
     }
     Ok(checks)
 }
 
 /// Runs what UPDATE of these rows checks, and adds the predicates to the open effect. Returns the end if a check fails.
-fn check_update<V: View>(
+fn check_update<'s, V: View<'s>>(
     alloc: Global,
     context: &Context<'_>,
     update: &Update<'_>,
-    rows: &Rows,
+    rows: &FoundRows<'_>,
     log: &mut Log,
     view: &mut V,
 ) -> Result<Option<End>, Refused>
@@ -436,13 +441,12 @@ fn check_update<V: View>(
     run_checks(alloc, context, &[], checks.as_slice(), log, view)
 }
 
-/// Writes the effect of an UPDATE that asked this and found these rows.
-fn update_rows<V: View>(
+/// Writes the rest of the effect of an UPDATE that asked and found these rows.
+fn update_rows<'s, V: View<'s>>(
     alloc: Global,
     context: &Context<'_>,
     update: &Update<'_>,
-    pred: Pred,
-    rows: &Rows,
+    rows: &FoundRows<'_>,
     log: &mut Log,
     view: &mut V,
 ) -> Result<(), Refused>
@@ -450,13 +454,12 @@ fn update_rows<V: View>(
     requires table { update.now.table < 256 }
     requires columns { All (λ (i : RSetItem). i.column < 256) update.now.items.now }
     requires found { context.now.env.now.found < 2 ^ 16 }
-    requires blank { IsBlank log.old }
-    ensures ok { OnOk result (log.new ≡ record log.old { effect = effect_unless (first_fault (update_checks context.now.tables.now update.now.table update.now.items.now context.now.env.now rows.now) (applied (earlier context.now.number context.now.undo.now) (V.sight view.old).database)) (pred ∷ preds_up_to (update_checks context.now.tables.now update.now.table update.now.items.now context.now.env.now rows.now) (applied (earlier context.now.number context.now.undo.now) (V.sight view.old).database)) (is_some_row rows.now) (on (changes update.now.table update.now.items.now (new_of context.now.tables.now update.now.table context.now.env.now update.now.items.now) rows.now) (λ ws. ws)) context.now.env.now }) }
+    requires one { AsksOne log.old }
+    ensures ok { OnOk result (log.new ≡ record log.old { effect = effect_unless (first_fault (update_checks context.now.tables.now update.now.table update.now.items.now context.now.env.now rows.now) (applied (earlier context.now.number context.now.undo.now) (V.sight view.old).database)) (asked log.old ∷ preds_up_to (update_checks context.now.tables.now update.now.table update.now.items.now context.now.env.now rows.now) (applied (earlier context.now.number context.now.undo.now) (V.sight view.old).database)) (is_some_row rows.now) (on (changes update.now.table update.now.items.now (new_of context.now.tables.now update.now.table context.now.env.now update.now.items.now) rows.now) (λ ws. ws)) context.now.env.now }) }
     ensures err { OnErr result (without_effect log.new ≡ without_effect log.old) }
     ensures view { OnlyAsks (V.sight view.old) (V.sight view.new) result }
     ensures looks { AskedFor (preds_up_to (update_checks context.now.tables.now update.now.table update.now.items.now context.now.env.now rows.now) (applied (earlier context.now.number context.now.undo.now) (V.sight view.old).database)) (earlier context.now.number context.now.undo.now) (V.sight view.old) (V.sight view.new) }
 {
-    ask(log, pred)?;
     if let Some(fault) = check_update(alloc, context, update, rows, log, view)? {
         end(log, fault)?;
         return Ok(());
@@ -468,7 +471,7 @@ fn update_rows<V: View>(
 /// Writes the effect of UPDATE: it writes a new version of each row that matches, and sets `:found`. For each new value of
 /// a column with REFERENCES it asks for the parent. The call ends if a right side of WHERE or of SET is stopped, if a text
 /// is longer than its column allows, or if a parent isn't there.
-pub(crate) fn update<V: View>(
+pub(crate) fn update<'s, V: View<'s>>(
     alloc: Global,
     context: &Context<'_>,
     update: &Update<'_>,
@@ -486,14 +489,14 @@ pub(crate) fn update<V: View>(
     ensures view { OnlyAsks (V.sight view.old) (V.sight view.new) result }
     ensures looks { AskedBy context.now.tables.now (layer.Update update.now.table update.now.items.now update.now.conds.now) context.now.env.now (earlier context.now.number context.now.undo.now) (V.sight view.old) (V.sight view.new) }
 {
-    let pred = match update_pred(alloc, context.tables, update, context.env) {
-        Ok(pred) => pred,
-        Err(reason) => return stop_unasked(log, reason),
-    };
-    let rows = visible_rows(alloc, context, &pred, view)?;
-    if sets_reference(context.tables, update.table, update.items) {
-        return update_rows(alloc, context, update, pred, &rows, log, view);
+    match ask_update(alloc, context.tables, update, context.env, log) {
+        Ok(()) => {}
+        Err(reason) => return stop_after(log, reason),
     }
-    set_rows(alloc, context, update, pred, &rows, log)?;
+    let rows = rows_asked(alloc, context, log, view)?;
+    if sets_reference(context.tables, update.table, update.items) {
+        return update_rows(alloc, context, update, &rows, log, view);
+    }
+    set_rows(alloc, context, update, &rows, log)?;
     Ok(())
 }

@@ -17,24 +17,25 @@ use crate::context::Context;
 use crate::rows::{first_visible, visible_rows};
 use mv_checks::check::{Check, is_among};
 use mv_log::log::Log;
+use mv_table::found::Found;
 use mv_table::scan::Direction;
+use mv_table::table::Stored;
 use mv_values::calls::End;
 use mv_values::copied::Copied;
-use mv_values::pred::Pred;
-use mv_values::rows::Keyed;
+use mv_values::pred_ref::PredRef;
 use mv_values::value::Key;
 use mv_view::view::{Refused, View};
 use std::alloc::Global;
 
 /// Whether the key of the row is one of these.
-fn has_key(own: &[Key], item: &Keyed) -> bool
+fn has_key(own: &[Key], item: &Found<'_>) -> bool
     ensures { result ≡ is_among own.now item.now.key }
 {
-    is_among(own, &item.key)
+    is_among(own, item.key())
 }
 
 /// Whether the key of each row is one of these.
-fn have_keys(own: &[Key], rows: &[Keyed]) -> bool
+fn have_keys(own: &[Key], rows: &[Found<'_>]) -> bool
     ensures { result ≡ list_all (λ item. is_among own.now item.key) rows.now }
 {
     rows.iter().all(|item| has_key(own, item))
@@ -42,10 +43,10 @@ fn have_keys(own: &[Key], rows: &[Keyed]) -> bool
 
 /// Whether the predicate finds a row after the call's own writes that the statement sees. Asks the view for the first one.
 #[tactic(auto, using(mv_alone::proofs::FirstRows::some_foremost))]
-fn finds_some<V: View>(
+fn finds_some<'s, V: View<'s>>(
     alloc: Global,
     context: &Context<'_>,
-    pred: &Pred,
+    pred: &PredRef<'_>,
     view: &mut V,
 ) -> Result<bool, Refused>
     requires stands { AreSoundTables context.now.tables.now (earlier context.now.number context.now.undo.now) (V.sight view.old).database }
@@ -59,10 +60,10 @@ fn finds_some<V: View>(
 }
 
 /// Whether the predicate finds no rows but those with these keys.
-fn finds_only<V: View>(
+fn finds_only<'s, V: View<'s>>(
     alloc: Global,
     context: &Context<'_>,
-    pred: &Pred,
+    pred: &PredRef<'_>,
     own: &[Key],
     view: &mut V,
 ) -> Result<bool, Refused>
@@ -78,10 +79,10 @@ fn finds_only<V: View>(
 
 /// Whether the predicate finds no row; if `may_be_own`, none but those with these keys.
 #[tactic(auto, using(mv_checks::proofs::Running::none_among))]
-fn finds_no_other<V: View>(
+fn finds_no_other<'s, V: View<'s>>(
     alloc: Global,
     context: &Context<'_>,
-    pred: &Pred,
+    pred: &PredRef<'_>,
     may_be_own: bool,
     own: &[Key],
     view: &mut V,
@@ -108,7 +109,7 @@ fn unless(right: bool, end: End) -> Option<End>
 
 /// Runs a check of a statement that found rows with these keys, and adds its predicate to the open effect. Returns the end if it
 /// fails.
-fn run_one<V: View>(
+fn run_one<'s, V: View<'s>>(
     alloc: Global,
     context: &Context<'_>,
     own: &[Key],
@@ -128,12 +129,13 @@ fn run_one<V: View>(
     match check {
         Check::Faults(end) => Ok(Some(end.copy(alloc)?)),
         Check::Needs(pred, end) => {
-            let is_right = finds_some(alloc, context, pred, view)?;
+            let is_right = finds_some(alloc, context, &PredRef::of(pred), view)?;
             ask_more(log, pred.copy(alloc)?)?;
             Ok(unless(is_right, end.copy(alloc)?))
         }
         Check::Forbids(pred, may_be_own, end) => {
-            let is_right = finds_no_other(alloc, context, pred, *may_be_own, own, view)?;
+            let asked = PredRef::of(pred);
+            let is_right = finds_no_other(alloc, context, &asked, *may_be_own, own, view)?;
             ask_more(log, pred.copy(alloc)?)?;
             Ok(unless(is_right, end.copy(alloc)?))
         }
@@ -142,7 +144,7 @@ fn run_one<V: View>(
 
 /// Runs checks of a statement that found rows with these keys, up to the first that fails, and adds their predicates to the open
 /// effect. Returns the end if one fails.
-pub(crate) fn run_checks<V: View>(
+pub(crate) fn run_checks<'s, V: View<'s>>(
     alloc: Global,
     context: &Context<'_>,
     own: &[Key],

@@ -10,21 +10,22 @@ ghost use Rattle.mv_catalog.specs.declared.resolved.RStmt.{RStmt};
 ghost use Rattle.mv_catalog.specs.declared.resolved.RStmt.TheOpen as layer;
 ghost use Rattle.mv_catalog.specs.Text.{IsTable};
 ghost use Rattle.mv_alone.specs.Alone.{fixed};
-ghost use Rattle.mv_alone.specs.FirstRows.{Leads};
+ghost use Rattle.mv_alone.specs.FirstRows.{Leads, IsFromEnd};
 ghost use Rattle.mv_alone.specs.Rows.{aggregate, is_some_row, item_at, matching, ordered};
 ghost use Rattle.mv_recorded.specs.Asking.{column_in, with_sorts, KnowsKey};
 ghost use Rattle.mv_undo.specs.Owning.{earlier};
 ghost use Rattle.mv_recorded.specs.Effects.{IsEffect, asks, pred_with, effect_after, row_number, effect_of_loop, effect_of_select, effect_of_aggregate};
+ghost use Rattle.mv_effect.specs.Asking.{asked, asked_with, AsksOne};
 ghost use Rattle.mv_effect.specs.Logging.{IsBlank, without_effect};
 ghost use Rattle.mv_effect.specs.Stops.{GivesOrEnds};
 ghost use Rattle.mv_effect.specs.Looking.{AreSoundTables, OnlyAsks, different, AskedAtMost, AskedBy};
 ghost use Rattle.mv_effect.specs.Naming.{Tests, AreColumns};
 ghost use Rattle.mv_effect.specs.Totalling.{total_asked};
 
-use crate::asking::{ask, stop, stop_unasked};
+use crate::asking::{asked_pred, stop, stop_after};
 use crate::context::Context;
-use crate::predicates::{aggregate_pred, select_pred};
-use crate::rows::{first_visible, visible_rows};
+use crate::predicates::{ask_select, ask_total};
+use crate::rows::{first_asked, rows_asked};
 use crate::slots::{push_found, push_selected, push_total};
 use crate::tableless::{has_turn, push_turns};
 use mv_alone::chosen::order_direction;
@@ -37,139 +38,154 @@ use mv_alone::state::{Env, Stop};
 use mv_alone::totals::{aggregate_of, value_in};
 use mv_catalog::resolved::{Query, RAgg, RCond, RExpr, RSort};
 use mv_log::log::Log;
+use mv_table::found::Found;
 use mv_table::scan::Direction;
 use mv_values::list::List;
 use mv_values::memory::NoMemory;
-use mv_values::pred::Pred;
-use mv_values::rows::Keyed;
-use mv_values::value::{Row, Value};
+use mv_values::pred_ref::PredRef;
+use mv_values::value::Row;
 use mv_view::view::{Refused, View};
 use std::alloc::Global;
 
-/// Returns what a SELECT asks and the number of its row. Fails if a right side of WHERE or OFFSET is stopped.
+/// Asks what a SELECT asks, and returns the number of its row. Fails if a right side of WHERE or OFFSET is stopped.
 #[tactic(auto, using(crate::proofs::Ends::unasked, crate::proofs::Ends::row_unasked))]
 fn row_query(
     alloc: Global,
     context: &Context<'_>,
     query: &Query<'_>,
     at: &Option<RExpr>,
-) -> Result<(Pred, i64), Stop>
+    log: &mut Log,
+) -> Result<i64, Stop>
     requires few { length context.now.tables.now ≤ 64 }
     requires each { All IsTable context.now.tables.now }
     requires tests { Tests context.now.tables.now query.now.table query.now.conds.now }
     requires columns { AreColumns context.now.tables.now query.now.table (with_sorts query.now.columns.now query.now.sorts.now) }
-    ensures asks { GivesOrEnds result (pred_with (asks context.now.tables.now query.now.table query.now.conds.now (with_sorts query.now.columns.now query.now.sorts.now) context.now.env.now) (row_number at.now context.now.env.now)) }
-    ensures knows { IfOk result (λ r. KnowsKey context.now.tables.now r.0) }
+    requires blank { IsBlank log.old }
+    ensures asks { GivesOrEnds (asked_with result (asked log.new)) (pred_with (asks context.now.tables.now query.now.table query.now.conds.now (with_sorts query.now.columns.now query.now.sorts.now) context.now.env.now) (row_number at.now context.now.env.now)) }
+    ensures one { OnOk result (AsksOne log.new) }
+    ensures rest { OnOk result (log.new ≡ (let was = log.old in record was { effect = log.new.effect })) }
+    ensures err { OnErr result (without_effect log.new ≡ without_effect log.old) }
+    ensures knows { OnOk result (KnowsKey context.now.tables.now (asked log.new)) }
 {
-    let pred = select_pred(alloc, context.tables, query, context.env)?;
+    ask_select(alloc, context.tables, query, context.env, log)?;
     let at = offset(alloc, at, context.env)?;
-    Ok((pred, number_in(&at)))
+    Ok(number_in(&at))
 }
 
-/// Writes the effect of a SELECT that asked this, takes the row with this number and found these rows.
+/// Writes the rest of the effect of a SELECT that asked, takes the row with this number and found these rows.
 fn select_at(
     alloc: Global,
     env: &Env,
     query: &Query<'_>,
     to: &[u16],
-    asked: (Pred, i64),
-    rows: &[Keyed],
+    at: i64,
+    rows: &[Found<'_>],
     log: &mut Log,
 ) -> Result<(), NoMemory>
     requires rising { IsRising rows.now }
     requires found { env.now.found < 2 ^ 16 }
-    requires blank { IsBlank log.old }
-    ensures ok { OnOk result (log.new ≡ record log.old { effect = effect_of_select asked.0 query.now.columns.now to.now (item_at (ordered query.now.sorts.now (matching [] rows.now)) asked.1) env.now }) }
+    requires one { AsksOne log.old }
+    ensures ok { OnOk result (log.new ≡ record log.old { effect = effect_of_select (asked log.old) query.now.columns.now to.now (item_at (ordered query.now.sorts.now (matching [] rows.now)) at) env.now }) }
     ensures err { OnErr result (without_effect log.new ≡ without_effect log.old) }
 {
-    let (pred, at) = asked;
     let item = chosen_row(alloc, query.sorts, rows, at)?;
-    select_row(alloc, env, query.columns, to, pred, item, log)
+    select_row(alloc, env, query.columns, to, item, log)
 }
 
-/// Writes the effect of a SELECT that asked this and takes this row.
+/// Writes the rest of the effect of a SELECT that asked and takes this row.
 fn select_row(
     alloc: Global,
     env: &Env,
     columns: &[u16],
     to: &[u16],
-    pred: Pred,
-    row: Option<&Keyed>,
+    row: Option<&Found<'_>>,
     log: &mut Log,
 ) -> Result<(), NoMemory>
     requires found { env.now.found < 2 ^ 16 }
-    requires blank { IsBlank log.old }
-    ensures ok { OnOk result (log.new ≡ record log.old { effect = effect_of_select pred columns.now to.now (option_copied row.entry) env.now }) }
+    requires one { AsksOne log.old }
+    ensures ok { OnOk result (log.new ≡ record log.old { effect = effect_of_select (asked log.old) columns.now to.now (option_copied row.entry) env.now }) }
     ensures err { OnErr result (without_effect log.new ≡ without_effect log.old) }
 {
-    ask(log, pred)?;
     push_selected(alloc, env, columns, to, row, log)
 }
 
-/// Writes the effect of a SELECT that asked this and takes this row.
+/// Writes the rest of the effect of a SELECT that asked and takes this row.
 fn select_found(
     alloc: Global,
     env: &Env,
     columns: &[u16],
     to: &[u16],
-    pred: Pred,
-    row: Option<Keyed>,
+    row: Option<Found<'_>>,
     log: &mut Log,
 ) -> Result<(), NoMemory>
     requires found { env.now.found < 2 ^ 16 }
-    requires blank { IsBlank log.old }
-    ensures ok { OnOk result (log.new ≡ record log.old { effect = effect_of_select pred columns.now to.now row env.now }) }
+    requires one { AsksOne log.old }
+    ensures ok { OnOk result (log.new ≡ record log.old { effect = effect_of_select (asked log.old) columns.now to.now row.entry env.now }) }
     ensures err { OnErr result (without_effect log.new ≡ without_effect log.old) }
 {
-    select_row(alloc, env, columns, to, pred, row.as_ref(), log)
+    select_row(alloc, env, columns, to, row.as_ref(), log)
 }
 
 /// Returns the direction in which the first row that the predicate finds is the one with this number in ORDER BY order.
 /// Returns none if more rows may be needed.
-fn leading_at(context: &Context<'_>, sorts: &[RSort], pred: &Pred, at: i64) -> Option<Direction>
+fn leading_at(
+    context: &Context<'_>,
+    sorts: &[RSort],
+    pred: &PredRef<'_>,
+    at: i64,
+) -> Option<Direction>
     ensures first { IfSome result (λ d. at ≡ pos 0) }
     ensures leads { IfSome result (Leads sorts.now (key_columns context.now.tables.now pred.now.table) pred.now.tests) }
 {
     if at != 0 {
         return None;
     }
-    let keys = key_in(context.tables, pred.table as u16);
-    order_direction(sorts, keys, pred.tests.as_slice())
+    let keys = key_in(context.tables, pred.table() as u16);
+    order_direction(sorts, keys, pred.tests())
 }
 
-/// Writes the effect of a SELECT that asks this and takes the row with this number. It asks the view for one row, where
+/// Returns what `leading_at` returns for what the open effect asks.
+fn leading_asked(context: &Context<'_>, sorts: &[RSort], log: &Log, at: i64) -> Option<Direction>
+    requires { AsksOne log.now }
+    ensures first { IfSome result (λ d. at ≡ pos 0) }
+    ensures leads { IfSome result (Leads sorts.now (key_columns context.now.tables.now (asked log.now).table) (asked log.now).tests) }
+{
+    leading_at(context, sorts, &asked_pred(log), at)
+}
+
+/// Writes the rest of the effect of a SELECT that asked and takes the row with this number. It asks the view for one row, where
 /// that is the first or the last in key order and none of the call's own writes matters.
-fn select_asked<V: View>(
+fn select_asked<'s, V: View<'s>>(
     alloc: Global,
     context: &Context<'_>,
     query: &Query<'_>,
     to: &[u16],
-    asked: (Pred, i64),
+    at: i64,
     log: &mut Log,
     view: &mut V,
 ) -> Result<(), Refused>
     requires stands { AreSoundTables context.now.tables.now (earlier context.now.number context.now.undo.now) (V.sight view.old).database }
     requires found { context.now.env.now.found < 2 ^ 16 }
-    requires knows { KnowsKey context.now.tables.now asked.0 }
-    requires blank { IsBlank log.old }
-    ensures effect { OnOk result (log.new ≡ record log.old { effect = effect_of_select asked.0 query.now.columns.now to.now (item_at (ordered query.now.sorts.now (found_by asked.0 (applied (earlier context.now.number context.now.undo.now) (V.sight view.old).database))) asked.1) context.now.env.now }) }
+    requires one { AsksOne log.old }
+    requires knows { KnowsKey context.now.tables.now (asked log.old) }
+    ensures effect { OnOk result (log.new ≡ record log.old { effect = effect_of_select (asked log.old) query.now.columns.now to.now (item_at (ordered query.now.sorts.now (found_by (asked log.old) (applied (earlier context.now.number context.now.undo.now) (V.sight view.old).database))) at) context.now.env.now }) }
     ensures err { OnErr result (without_effect log.new ≡ without_effect log.old) }
     ensures view { OnlyAsks (V.sight view.old) (V.sight view.new) result }
     ensures looks { AskedAtMost 1 (different (earlier context.now.number context.now.undo.now)) (V.sight view.old) (V.sight view.new) }
 {
-    if let Some(direction) = leading_at(context, query.sorts, &asked.0, asked.1) {
-        let row = first_visible(alloc, context, &asked.0, direction, view)?;
-        select_found(alloc, context.env, query.columns, to, asked.0, row, log)?;
+    if let Some(direction) = leading_asked(context, query.sorts, log, at) {
+        let row = first_asked(alloc, context, log, direction, view)?;
+        select_found(alloc, context.env, query.columns, to, row, log)?;
         return Ok(());
     }
-    let rows = visible_rows(alloc, context, &asked.0, view)?;
-    select_at(alloc, context.env, query, to, asked, rows.as_slice(), log)?;
+    let rows = rows_asked(alloc, context, log, view)?;
+    select_at(alloc, context.env, query, to, at, rows.as_slice(), log)?;
     Ok(())
 }
 
 /// Writes the effect of SELECT INTO: it sets its targets to the columns of the chosen row, if there is one, and sets
 /// `:found`. The call ends if a right side of WHERE or OFFSET is stopped.
-pub(crate) fn select<V: View>(
+pub(crate) fn select<'s, V: View<'s>>(
     alloc: Global,
     context: &Context<'_>,
     query: &Query<'_>,
@@ -189,89 +205,93 @@ pub(crate) fn select<V: View>(
     ensures view { OnlyAsks (V.sight view.old) (V.sight view.new) result }
     ensures looks { AskedBy context.now.tables.now (layer.Select query.now.columns.now to.now query.now.table query.now.conds.now query.now.sorts.now at.now) context.now.env.now (earlier context.now.number context.now.undo.now) (V.sight view.old) (V.sight view.new) }
 {
-    let asked = match row_query(alloc, context, query, at) {
-        Ok(asked) => asked,
-        Err(reason) => return stop_unasked(log, reason),
+    let at = match row_query(alloc, context, query, at, log) {
+        Ok(at) => at,
+        Err(reason) => return stop_after(log, reason),
     };
-    select_asked(alloc, context, query, to, asked, log, view)
+    select_asked(alloc, context, query, to, at, log, view)
 }
 
-/// Writes the effect of an aggregate that asked this and found these rows.
+/// Writes the rest of the effect of an aggregate that asked and found these rows.
 fn total_rows(
     alloc: Global,
     env: &Env,
     agg: RAgg,
     to: u16,
-    pred: Pred,
-    rows: &[Keyed],
+    rows: &[Found<'_>],
     log: &mut Log,
 ) -> Result<(), NoMemory>
     requires found { env.now.found < 2 ^ 16 }
-    requires blank { IsBlank log.old }
-    ensures ok { OnOk result (log.new ≡ record log.old { effect = effect_after pred (aggregate agg (matching [] rows.now)) (λ total. effect_of_aggregate pred to total (is_some_row (matching [] rows.now)) env.now) }) }
+    requires one { AsksOne log.old }
+    ensures ok { OnOk result (log.new ≡ record log.old { effect = effect_after (asked log.old) (aggregate agg (matching [] rows.now)) (λ total. effect_of_aggregate (asked log.old) to total (is_some_row (matching [] rows.now)) env.now) }) }
     ensures err { OnErr result (without_effect log.new ≡ without_effect log.old) }
 {
-    ask(log, pred)?;
     match aggregate_of(alloc, agg, rows) {
         Ok(total) => push_total(env, to, total, !rows.is_empty(), log),
         Err(reason) => stop(log, reason),
     }
 }
 
-/// Writes the effect of MIN or MAX that asked this, where this row tells its value.
+/// Writes the rest of the effect of MIN or MAX that asked, where this row tells its value.
 fn total_row(
     alloc: Global,
     env: &Env,
     column: u16,
     to: u16,
-    pred: Pred,
-    row: Option<Keyed>,
+    row: Option<Found<'_>>,
     log: &mut Log,
 ) -> Result<(), NoMemory>
     requires found { env.now.found < 2 ^ 16 }
-    requires blank { IsBlank log.old }
-    ensures ok { OnOk result (log.new ≡ record log.old { effect = effect_of_aggregate pred to (option_map (λ item. column_of item.row column) row) (is_some row) env.now }) }
+    requires one { AsksOne log.old }
+    ensures ok { OnOk result (log.new ≡ record log.old { effect = effect_of_aggregate (asked log.old) to (option_map (λ item. column_of item.row column) row.entry) (is_some row.entry) env.now }) }
     ensures err { OnErr result (without_effect log.new ≡ without_effect log.old) }
 {
-    ask(log, pred)?;
     let total = value_in(alloc, column, row.as_ref())?;
     push_total(env, to, total, row.is_some(), log)
 }
 
-/// Writes the effect of an aggregate that asks this. MIN and MAX of a key column ask the view for one row, where `=`
+/// Returns the column and the direction of `aggregate_direction` for what the open effect asks.
+fn told_by(context: &Context<'_>, agg: RAgg, log: &Log) -> Option<(u16, Direction)>
+    requires { AsksOne log.now }
+    ensures { IfSome result (λ t. IsFromEnd agg (key_columns context.now.tables.now (asked log.now).table) (asked log.now).tests t.0 t.1) }
+{
+    let pred = asked_pred(log);
+    let keys = key_in(context.tables, pred.table() as u16);
+    aggregate_direction(agg, keys, pred.tests())
+}
+
+/// Writes the rest of the effect of an aggregate that asked. MIN and MAX of a key column ask the view for one row, where `=`
 /// fixes all key columns before it and none of the call's own writes matters.
-fn total_asked<V: View>(
+fn total_asked<'s, V: View<'s>>(
     alloc: Global,
     context: &Context<'_>,
     agg: RAgg,
     to: u16,
-    pred: Pred,
     log: &mut Log,
     view: &mut V,
 ) -> Result<(), Refused>
     requires stands { AreSoundTables context.now.tables.now (earlier context.now.number context.now.undo.now) (V.sight view.old).database }
     requires found { context.now.env.now.found < 2 ^ 16 }
-    requires knows { KnowsKey context.now.tables.now pred }
-    requires blank { IsBlank log.old }
-    ensures effect { OnOk result (log.new ≡ record log.old { effect = total_asked agg to pred (found_by pred (applied (earlier context.now.number context.now.undo.now) (V.sight view.old).database)) context.now.env.now }) }
+    requires one { AsksOne log.old }
+    requires knows { KnowsKey context.now.tables.now (asked log.old) }
+    ensures effect { OnOk result (log.new ≡ record log.old { effect = total_asked agg to (asked log.old) (found_by (asked log.old) (applied (earlier context.now.number context.now.undo.now) (V.sight view.old).database)) context.now.env.now }) }
     ensures err { OnErr result (without_effect log.new ≡ without_effect log.old) }
     ensures view { OnlyAsks (V.sight view.old) (V.sight view.new) result }
     ensures looks { AskedAtMost 1 (different (earlier context.now.number context.now.undo.now)) (V.sight view.old) (V.sight view.new) }
 {
-    let keys = key_in(context.tables, pred.table as u16);
-    if let Some((column, direction)) = aggregate_direction(agg, keys, pred.tests.as_slice()) {
-        let row = first_visible(alloc, context, &pred, direction, view)?;
-        total_row(alloc, context.env, column, to, pred, row, log)?;
+    if let Some((column, direction)) = told_by(context, agg, log) {
+        let row = first_asked(alloc, context, log, direction, view)?;
+        total_row(alloc, context.env, column, to, row, log)?;
         return Ok(());
     }
-    let rows = visible_rows(alloc, context, &pred, view)?;
-    total_rows(alloc, context.env, agg, to, pred, rows.as_slice(), log)?;
+    let rows = rows_asked(alloc, context, log, view)?;
+    total_rows(alloc, context.env, agg, to, rows.as_slice(), log)?;
     Ok(())
 }
 
 /// Writes the effect of SELECT with an aggregate: it sets its target, if there is a total, and sets `:found`. The call
 /// ends if a right side of WHERE is stopped, or if a sum is out of range.
-pub(crate) fn total<V: View>(
+pub(crate) fn total<'s, V: View<'s>>(
     alloc: Global,
     context: &Context<'_>,
     agg: RAgg,
@@ -292,54 +312,46 @@ pub(crate) fn total<V: View>(
     ensures view { OnlyAsks (V.sight view.old) (V.sight view.new) result }
     ensures looks { AskedBy context.now.tables.now (layer.Total agg to table conds.now) context.now.env.now (earlier context.now.number context.now.undo.now) (V.sight view.old) (V.sight view.new) }
 {
-    let pred = match aggregate_pred(alloc, context.tables, agg, table, conds, context.env) {
-        Ok(pred) => pred,
-        Err(reason) => return stop_unasked(log, reason),
-    };
-    total_asked(alloc, context, agg, to, pred, log, view)
+    match ask_total(alloc, context.tables, agg, table, conds, context.env, log) {
+        Ok(()) => {}
+        Err(reason) => return stop_after(log, reason),
+    }
+    total_asked(alloc, context, agg, to, log, view)
 }
 
-/// Writes the effect of a FOR that asked this and has these turns.
-fn loop_turns(
-    alloc: Global,
-    env: &Env,
-    pred: Pred,
-    turns: List<Row>,
-    log: &mut Log,
-) -> Result<(), NoMemory>
+/// Writes the rest of the effect of a FOR that asked and has these turns.
+fn loop_turns(alloc: Global, env: &Env, turns: List<Row>, log: &mut Log) -> Result<(), NoMemory>
     requires found { env.now.found < 2 ^ 16 }
-    requires blank { IsBlank log.old }
-    ensures ok { OnOk result (log.new ≡ record log.old { effect = effect_of_loop pred turns env.now }) }
+    requires one { AsksOne log.old }
+    ensures ok { OnOk result (log.new ≡ record log.old { effect = effect_of_loop (asked log.old) turns env.now }) }
     ensures err { OnErr result (without_effect log.new ≡ without_effect log.old) }
 {
-    ask(log, pred)?;
     push_found(env, has_turn(&turns), log)?;
     push_turns(alloc, turns, log)
 }
 
-/// Writes the effect of a FOR that asked this and found these rows.
+/// Writes the rest of the effect of a FOR that asked and found these rows.
 fn loop_rows(
     alloc: Global,
     env: &Env,
     once: bool,
     query: &Query<'_>,
-    pred: Pred,
-    rows: &[Keyed],
+    rows: &[Found<'_>],
     log: &mut Log,
 ) -> Result<(), NoMemory>
     requires rising { IsRising rows.now }
     requires found { env.now.found < 2 ^ 16 }
-    requires blank { IsBlank log.old }
-    ensures ok { OnOk result (log.new ≡ record log.old { effect = effect_of_loop pred (fixed once query.now.columns.now query.now.sorts.now (matching [] rows.now)) env.now }) }
+    requires one { AsksOne log.old }
+    ensures ok { OnOk result (log.new ≡ record log.old { effect = effect_of_loop (asked log.old) (fixed once query.now.columns.now query.now.sorts.now (matching [] rows.now)) env.now }) }
     ensures err { OnErr result (without_effect log.new ≡ without_effect log.old) }
 {
     let turns = fixed_rows(alloc, once, query.columns, query.sorts, rows)?;
-    loop_turns(alloc, env, pred, turns, log)
+    loop_turns(alloc, env, turns, log)
 }
 
 /// Writes the effect of FOR over SELECT: it fixes its rows, and sets `:found` to whether there are any. The call ends
 /// if a right side of WHERE is stopped.
-pub(crate) fn for_select<V: View>(
+pub(crate) fn for_select<'s, V: View<'s>>(
     alloc: Global,
     context: &Context<'_>,
     once: bool,
@@ -358,11 +370,11 @@ pub(crate) fn for_select<V: View>(
     ensures view { OnlyAsks (V.sight view.old) (V.sight view.new) result }
     ensures looks { (row : ℕ) (body : List RStmt) → AskedBy context.now.tables.now (layer.ForSelect row once query.now.columns.now query.now.table query.now.conds.now query.now.sorts.now body) context.now.env.now (earlier context.now.number context.now.undo.now) (V.sight view.old) (V.sight view.new) }
 {
-    let pred = match select_pred(alloc, context.tables, query, context.env) {
-        Ok(pred) => pred,
-        Err(reason) => return stop_unasked(log, reason),
-    };
-    let rows = visible_rows(alloc, context, &pred, view)?;
-    loop_rows(alloc, context.env, once, query, pred, rows.as_slice(), log)?;
+    match ask_select(alloc, context.tables, query, context.env, log) {
+        Ok(()) => {}
+        Err(reason) => return stop_after(log, reason),
+    }
+    let rows = rows_asked(alloc, context, log, view)?;
+    loop_rows(alloc, context.env, once, query, rows.as_slice(), log)?;
     Ok(())
 }

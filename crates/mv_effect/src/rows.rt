@@ -1,6 +1,7 @@
 //! The rows that a statement sees: those of a view, after the call's own writes.
 
 ghost use Rattle.std.specs.Prelude.{◌≡◌, ◌<◌, true, false, IfOk, IfSome, OnOk, length, option_to_list, List};
+ghost use Rattle.mv_values.specs.declared.rows.Keyed.{Keyed};
 ghost use Rattle.mv_values.specs.declared.value.Value.{Value};
 ghost use Rattle.std.specs.Option.{option_copied};
 ghost use Rattle.mv_values.specs.Patching.{row_of, placed, standing, applied, found_by};
@@ -11,31 +12,52 @@ ghost use Rattle.mv_table.specs.Spans.{AdmitsOnly};
 ghost use Rattle.mv_alone.specs.Rows.{is_some_row};
 ghost use Rattle.mv_record.specs.Admitting.{Admitted};
 ghost use Rattle.mv_record.specs.Writes.{writes_on, AreRising};
+ghost use Rattle.mv_undo.specs.Overlaying.{IsSeen};
 ghost use Rattle.mv_undo.specs.Owning.{earlier, is_among, is_fixed, is_sought, touches, AreSought};
 ghost use Rattle.mv_view.specs.Viewing.{MayAnswer, answered, with_row_call};
+ghost use Rattle.mv_effect.specs.Asking.{asked, AsksOne};
 ghost use Rattle.mv_effect.specs.Looking.{different, AreSoundTables, OnlyAsks, AskedAtMost};
 ghost use Rattle.mv_effect.specs.Firsts.{is_met_before, IsFirstOf};
 ghost use Rattle.mv_recorded.specs.Asking.{KnowsKey};
 
+use crate::asking::asked_pred;
 use crate::context::Context;
 use mv_alone::find::key_in;
+use mv_log::log::Log;
 use mv_record::applying::put_row;
+use mv_table::found::Found;
+use mv_table::found_rows::FoundRows;
 use mv_table::scan::Direction;
 use mv_table::span::whole_key;
+use mv_table::table::Stored;
 use mv_undo::undo::Undo;
 use mv_values::copied::Copied;
+use mv_values::lent::{self, Lent};
 use mv_values::list::List;
 use mv_values::memory::NoMemory;
-use mv_values::pred::Pred;
-use mv_values::rows::{Keyed, Rows};
+use mv_values::pred_ref::PredRef;
+use mv_values::rows::Rows;
 use mv_values::schema::TableInfo;
 use mv_values::value::{Key, Row};
 use mv_view::key_set::KeySet;
 use mv_view::view::{Refused, View};
 use std::alloc::Global;
 
+/// Puts a row that was found under a key, or none.
+fn put_found(
+    alloc: Global,
+    rows: &mut Rows,
+    key: &Key,
+    row: Option<Lent<'_>>,
+) -> Result<(), NoMemory>
+    ensures { OnOk result (rows.new ≡ placed key.now row.entry rows.old) }
+{
+    let row = lent::own(alloc, row)?;
+    put_row(alloc, rows, key, row)
+}
+
 /// Adds the view's row under a key of a table to other rows. Asks the view for it once.
-fn add_row<V: View>(
+fn add_row<'s, V: View<'s>>(
     alloc: Global,
     table: u8,
     key: &Key,
@@ -47,13 +69,13 @@ fn add_row<V: View>(
     ensures stale { MayAnswer (V.sight view.old) (V.sight view.new) result }
 {
     let row = view.row(alloc, table, key)?;
-    put_row(alloc, own, key, row)?;
+    put_found(alloc, own, key, row)?;
     Ok(())
 }
 
 /// Returns the view's rows under those of these keys of a table whose rows the own writes of records with smaller numbers
 /// don't fix. Asks the view once for each of them.
-fn rows_under<V: View>(
+fn rows_under<'s, V: View<'s>>(
     alloc: Global,
     undo: &Undo,
     number: usize,
@@ -79,7 +101,7 @@ fn rows_under<V: View>(
 #[tactic(auto, using(crate::proofs::Unwritten::nothing_sought))]
 fn written_keys(
     alloc: Global,
-    pred: &Pred,
+    pred: &PredRef<'_>,
     undo: &Undo,
     number: usize,
 ) -> Result<List<Key>, NoMemory>
@@ -91,15 +113,33 @@ fn written_keys(
     undo.keys(alloc, number, pred)
 }
 
+/// Returns the rows that `Undo::overlay` makes of rows that were found.
+fn overlaid<'s>(
+    alloc: Global,
+    pred: &PredRef<'_>,
+    undo: &Undo,
+    number: usize,
+    keys: &[Key],
+    rows: FoundRows<'s>,
+    own: Rows,
+) -> Result<FoundRows<'s>, NoMemory>
+    requires { AreSought pred.now (earlier number undo.now) keys.now }
+    ensures { IfOk result (λ after. (db : List (List Keyed)) → IsSeen pred.now (earlier number undo.now) rows.entry own db → after ≡ found_by pred.now (applied (earlier number undo.now) db)) }
+{
+    let rows = rows.into_rows(alloc)?;
+    let after = undo.overlay(alloc, number, pred, keys, rows, own)?;
+    FoundRows::made(alloc, after)
+}
+
 /// Returns the predicate's rows after the own writes of records with smaller numbers, in key order. Asks the view once
 /// for its rows, and once for each key that these records wrote and the predicate admits, where they don't fix its row.
-fn look<V: View>(
+fn look<'s, V: View<'s>>(
     alloc: Global,
-    pred: &Pred,
+    pred: &PredRef<'_>,
     undo: &Undo,
     number: usize,
     view: &mut V,
-) -> Result<Rows, Refused>
+) -> Result<FoundRows<'s>, Refused>
     requires rising { AreRising (V.sight view.old).database }
     requires table { pred.now.table < length (V.sight view.old).database }
     requires before { Admitted pred.now (rows_at (V.sight view.old).database pred.now.table) }
@@ -114,8 +154,8 @@ fn look<V: View>(
         return Ok(rows);
     }
     let keys = keys.as_slice();
-    let own = rows_under(alloc, undo, number, pred.table, keys, view)?;
-    let rows = undo.overlay(alloc, number, pred, keys, rows, own)?;
+    let own = rows_under(alloc, undo, number, pred.table(), keys, view)?;
+    let rows = overlaid(alloc, pred, undo, number, keys, rows, own)?;
     Ok(rows)
 }
 
@@ -136,20 +176,20 @@ impl<'a> KeySet for OwnKeys<'a> {
 }
 
 /// Whether a scan in this direction meets the key before the row, if there is one.
-fn is_met_before(direction: Direction, key: &Key, other: Option<&Keyed>) -> bool
+fn is_met_before(direction: Direction, key: &Key, other: Option<&Found<'_>>) -> bool
     ensures { result ≡ is_met_before direction key.now (option_copied other.entry) }
 {
     let Some(item) = other else {
         return true;
     };
     match direction {
-        Direction::Forward => key.order(&item.key).is_lt(),
-        Direction::Backward => item.key.order(key).is_lt(),
+        Direction::Forward => key.order(item.key()).is_lt(),
+        Direction::Backward => item.key().order(key).is_lt(),
     }
 }
 
 /// Returns the row if the predicate matches it.
-fn matched(pred: &Pred, row: Option<Row>) -> Option<Row>
+fn matched(pred: &PredRef<'_>, row: Option<Row>) -> Option<Row>
     ensures { result ≡ matched pred.now row }
 {
     match row {
@@ -160,14 +200,14 @@ fn matched(pred: &Pred, row: Option<Row>) -> Option<Row>
 
 /// Returns the view's row under a key of a table, or `None` where the own writes of records with smaller numbers fix the
 /// row. Then it doesn't ask the view, else once.
-fn row_before<V: View>(
+fn row_before<'s, V: View<'s>>(
     alloc: Global,
     undo: &Undo,
     number: usize,
     table: u8,
     key: &Key,
     view: &mut V,
-) -> Result<Option<Row>, Refused>
+) -> Result<Option<Lent<'s>>, Refused>
     ensures found { IfOk result (λ row. is_fixed (writes_on table key.now (earlier number undo.now)) ≡ false → row ≡ row_of (rows_at (V.sight view.old).database table) key.now) }
     ensures view { OnlyAsks (V.sight view.old) (V.sight view.new) result }
     ensures looks { AskedAtMost 0 1 (V.sight view.old) (V.sight view.new) }
@@ -179,39 +219,50 @@ fn row_before<V: View>(
     Ok(was)
 }
 
+/// Borrows a row, if there is one.
+fn borrowed<'a>(row: &'a Option<Lent<'_>>) -> Option<&'a Row>
+    ensures { option_copied result ≡ row.now }
+{
+    match row {
+        Some(row) => Some(row.get()),
+        None => None,
+    }
+}
+
 /// Returns the row under a key after the own writes of records with smaller numbers, if the predicate matches it. Asks
 /// the view for the row before them, where they don't fix the row.
-fn own_row<V: View>(
+fn own_row<'s, V: View<'s>>(
     alloc: Global,
-    pred: &Pred,
+    pred: &PredRef<'_>,
     undo: &Undo,
     number: usize,
     key: &Key,
     view: &mut V,
-) -> Result<Option<Row>, Refused>
+) -> Result<Option<Lent<'s>>, Refused>
     requires rising { AreRising (V.sight view.old).database }
     requires table { pred.now.table < length (V.sight view.old).database }
     ensures found { IfOk result (λ row. row ≡ row_of (found_by pred.now (applied (earlier number undo.now) (V.sight view.old).database)) key.now) }
     ensures view { OnlyAsks (V.sight view.old) (V.sight view.new) result }
     ensures looks { AskedAtMost 0 1 (V.sight view.old) (V.sight view.new) }
 {
-    let was = row_before(alloc, undo, number, pred.table, key, view)?;
-    let row = undo.row_behind(alloc, number, pred.table, key, was.as_ref())?;
-    Ok(matched(pred, row))
+    let table = pred.table();
+    let was = row_before(alloc, undo, number, table, key, view)?;
+    let row = undo.row_behind(alloc, number, table, key, borrowed(&was))?;
+    Ok(lent::made(matched(pred, row)))
 }
 
 /// Returns the first row in this direction, of those that the predicate matches after the own writes of records with
 /// smaller numbers and whose keys these writes are on, if a scan meets it before another row. Asks the view for the row
 /// under each such key that the scan meets until then, where these writes don't fix the row.
-fn first_own<V: View>(
+fn first_own<'s, V: View<'s>>(
     alloc: Global,
-    pred: &Pred,
+    pred: &PredRef<'_>,
     undo: &Undo,
     number: usize,
     direction: Direction,
-    other: Option<&Keyed>,
+    other: Option<&Found<'s>>,
     view: &mut V,
-) -> Result<Option<Keyed>, Refused>
+) -> Result<Option<Found<'s>>, Refused>
     requires rising { AreRising (V.sight view.old).database }
     requires table { pred.now.table < length (V.sight view.old).database }
     ensures found { IfOk result (IsFirstOf direction (is_sought pred.now (earlier number undo.now)) (found_by pred.now (applied (earlier number undo.now) (V.sight view.old).database)) (option_copied other.entry)) }
@@ -228,7 +279,7 @@ fn first_own<V: View>(
         }
         if let Some(row) = own_row(alloc, pred, undo, number, key, view)? {
             let key = key.copy(alloc)?;
-            return Ok(Some(Keyed { key, row }));
+            return Ok(Some(Found::under(key, row)));
         }
     }
     Ok(None)
@@ -238,14 +289,14 @@ fn first_own<V: View>(
 /// smaller numbers. Asks the view once for its first row under a key that these writes aren't on, and then for the row
 /// under each of their keys that a scan meets before that one, until it has met a row. It doesn't ask for a row that these
 /// writes fix.
-fn first_after<V: View>(
+fn first_after<'s, V: View<'s>>(
     alloc: Global,
-    pred: &Pred,
+    pred: &PredRef<'_>,
     undo: &Undo,
     number: usize,
     direction: Direction,
     view: &mut V,
-) -> Result<Option<Keyed>, Refused>
+) -> Result<Option<Found<'s>>, Refused>
     requires rising { AreRising (V.sight view.old).database }
     requires table { pred.now.table < length (V.sight view.old).database }
     requires before { Admitted pred.now (rows_at (V.sight view.old).database pred.now.table) }
@@ -254,7 +305,7 @@ fn first_after<V: View>(
     ensures view { OnlyAsks (V.sight view.old) (V.sight view.new) result }
     ensures looks { AskedAtMost 1 (different (earlier number undo.now)) (V.sight view.old) (V.sight view.new) }
 {
-    let table = pred.table;
+    let table = pred.table();
     let own_keys = OwnKeys {
         undo,
         number,
@@ -266,31 +317,35 @@ fn first_after<V: View>(
 }
 
 /// Returns the key that the predicate's tests give whole, if they do: rows that it matches stand under no other one.
-fn only_key(alloc: Global, tables: &[TableInfo], pred: &Pred) -> Result<Option<Key>, NoMemory>
+fn only_key(
+    alloc: Global,
+    tables: &[TableInfo],
+    pred: &PredRef<'_>,
+) -> Result<Option<Key>, NoMemory>
     ensures { IfOk result (λ key. IfSome key (AdmitsOnly pred.now.tests (length (key_columns tables.now pred.now.table)))) }
 {
-    let keys = key_in(tables, pred.table as u16);
-    whole_key(alloc, pred.tests.as_slice(), keys.len())
+    let keys = key_in(tables, pred.table() as u16);
+    whole_key(alloc, pred.tests(), keys.len())
 }
 
 /// Returns the row under a key after the own writes of records with smaller numbers, if the predicate matches it. Asks
 /// the view once: for the row if it matches, or for the row before these writes where they are on the key. It doesn't
 /// ask for a row that they fix.
-fn row_under<V: View>(
+fn row_under<'s, V: View<'s>>(
     alloc: Global,
-    pred: &Pred,
+    pred: &PredRef<'_>,
     undo: &Undo,
     number: usize,
     key: &Key,
     view: &mut V,
-) -> Result<Option<Row>, Refused>
+) -> Result<Option<Lent<'s>>, Refused>
     requires rising { AreRising (V.sight view.old).database }
     requires table { pred.now.table < length (V.sight view.old).database }
     ensures found { IfOk result (λ row. row ≡ row_of (found_by pred.now (applied (earlier number undo.now) (V.sight view.old).database)) key.now) }
     ensures view { OnlyAsks (V.sight view.old) (V.sight view.new) result }
     ensures looks { AskedAtMost 1 (different (earlier number undo.now)) (V.sight view.old) (V.sight view.new) }
 {
-    if undo.touched(number, pred.table, key) {
+    if undo.touched(number, pred.table(), key) {
         return own_row(alloc, pred, undo, number, key, view);
     }
     let row = view.match_under(alloc, pred, key)?;
@@ -298,24 +353,24 @@ fn row_under<V: View>(
 }
 
 /// Returns the row with its key, if there is one.
-fn keyed(key: Key, row: Option<Row>) -> Option<Keyed>
-    ensures { option_to_list result ≡ standing key row }
+fn keyed<'s>(key: Key, row: Option<Lent<'s>>) -> Option<Found<'s>>
+    ensures { option_to_list result ≡ standing key row.entry }
 {
     match row {
-        Some(row) => Some(Keyed { key, row }),
+        Some(row) => Some(Found::under(key, row)),
         None => None,
     }
 }
 
 /// Returns the only row that the predicate matches after the own writes that the statement sees, if there is one. Its
 /// tests admit no other key.
-fn only_row<V: View>(
+fn only_row<'s, V: View<'s>>(
     alloc: Global,
     context: &Context<'_>,
-    pred: &Pred,
+    pred: &PredRef<'_>,
     key: Key,
     view: &mut V,
-) -> Result<Option<Keyed>, Refused>
+) -> Result<Option<Found<'s>>, Refused>
     requires stands { AreSoundTables context.now.tables.now (earlier context.now.number context.now.undo.now) (V.sight view.old).database }
     requires knows { KnowsKey context.now.tables.now pred.now }
     requires only { AdmitsOnly pred.now.tests (length (key_columns context.now.tables.now pred.now.table)) key }
@@ -327,26 +382,15 @@ fn only_row<V: View>(
     Ok(keyed(key, row))
 }
 
-/// Returns these rows: one or none.
-fn rows_of(alloc: Global, item: Option<Keyed>) -> Result<Rows, NoMemory>
-    ensures { IfOk result (λ rows. rows ≡ option_to_list item) }
-{
-    let mut rows = Rows::new(alloc);
-    if let Some(item) = item {
-        rows.push(item)?;
-    }
-    Ok(rows)
-}
-
 /// Returns the rows that the predicate matches after the own writes that the statement sees. Its tests admit no other key
 /// than this one.
-fn only_rows<V: View>(
+fn only_rows<'s, V: View<'s>>(
     alloc: Global,
     context: &Context<'_>,
-    pred: &Pred,
+    pred: &PredRef<'_>,
     key: Key,
     view: &mut V,
-) -> Result<Rows, Refused>
+) -> Result<FoundRows<'s>, Refused>
     requires stands { AreSoundTables context.now.tables.now (earlier context.now.number context.now.undo.now) (V.sight view.old).database }
     requires knows { KnowsKey context.now.tables.now pred.now }
     requires only { AdmitsOnly pred.now.tests (length (key_columns context.now.tables.now pred.now.table)) key }
@@ -355,18 +399,18 @@ fn only_rows<V: View>(
     ensures looks { AskedAtMost 1 (different (earlier context.now.number context.now.undo.now)) (V.sight view.old) (V.sight view.new) }
 {
     let item = only_row(alloc, context, pred, key, view)?;
-    Ok(rows_of(alloc, item)?)
+    Ok(FoundRows::one(alloc, item))
 }
 
 /// Returns the predicate's rows after the call's own writes that the statement sees, in key order. Asks the view once
 /// for its rows, and once for each key that these writes are on and the predicate admits, where they don't fix its row.
 /// Where the predicate's tests give the key whole, it asks for the row under that key alone.
-pub(crate) fn visible_rows<V: View>(
+pub(crate) fn visible_rows<'s, V: View<'s>>(
     alloc: Global,
     context: &Context<'_>,
-    pred: &Pred,
+    pred: &PredRef<'_>,
     view: &mut V,
-) -> Result<Rows, Refused>
+) -> Result<FoundRows<'s>, Refused>
     requires stands { AreSoundTables context.now.tables.now (earlier context.now.number context.now.undo.now) (V.sight view.old).database }
     requires knows { KnowsKey context.now.tables.now pred.now }
     ensures found { IfOk result (λ rows. rows ≡ found_by pred.now (applied (earlier context.now.number context.now.undo.now) (V.sight view.old).database)) }
@@ -383,13 +427,13 @@ pub(crate) fn visible_rows<V: View>(
 /// under a key that the call's own writes aren't on. Then it asks for the row under each of their keys that a scan meets
 /// before that one, until it has met a row. It doesn't ask for a row that these writes fix. Where the predicate's tests
 /// give the key whole, it asks for the row under that key alone.
-pub(crate) fn first_visible<V: View>(
+pub(crate) fn first_visible<'s, V: View<'s>>(
     alloc: Global,
     context: &Context<'_>,
-    pred: &Pred,
+    pred: &PredRef<'_>,
     direction: Direction,
     view: &mut V,
-) -> Result<Option<Keyed>, Refused>
+) -> Result<Option<Found<'s>>, Refused>
     requires stands { AreSoundTables context.now.tables.now (earlier context.now.number context.now.undo.now) (V.sight view.old).database }
     requires knows { KnowsKey context.now.tables.now pred.now }
     ensures found { IfOk result (λ row. row ≡ foremost direction (found_by pred.now (applied (earlier context.now.number context.now.undo.now) (V.sight view.old).database))) }
@@ -402,8 +446,43 @@ pub(crate) fn first_visible<V: View>(
     }
 }
 
+/// Returns the rows that `visible_rows` returns for what the open effect asks.
+pub(crate) fn rows_asked<'s, V: View<'s>>(
+    alloc: Global,
+    context: &Context<'_>,
+    log: &Log,
+    view: &mut V,
+) -> Result<FoundRows<'s>, Refused>
+    requires one { AsksOne log.now }
+    requires stands { AreSoundTables context.now.tables.now (earlier context.now.number context.now.undo.now) (V.sight view.old).database }
+    requires knows { KnowsKey context.now.tables.now (asked log.now) }
+    ensures found { IfOk result (λ rows. rows ≡ found_by (asked log.now) (applied (earlier context.now.number context.now.undo.now) (V.sight view.old).database)) }
+    ensures view { OnlyAsks (V.sight view.old) (V.sight view.new) result }
+    ensures looks { AskedAtMost 1 (different (earlier context.now.number context.now.undo.now)) (V.sight view.old) (V.sight view.new) }
+{
+    visible_rows(alloc, context, &asked_pred(log), view)
+}
+
+/// Returns the row that `first_visible` returns for what the open effect asks.
+pub(crate) fn first_asked<'s, V: View<'s>>(
+    alloc: Global,
+    context: &Context<'_>,
+    log: &Log,
+    direction: Direction,
+    view: &mut V,
+) -> Result<Option<Found<'s>>, Refused>
+    requires one { AsksOne log.now }
+    requires stands { AreSoundTables context.now.tables.now (earlier context.now.number context.now.undo.now) (V.sight view.old).database }
+    requires knows { KnowsKey context.now.tables.now (asked log.now) }
+    ensures found { IfOk result (λ row. row ≡ foremost direction (found_by (asked log.now) (applied (earlier context.now.number context.now.undo.now) (V.sight view.old).database))) }
+    ensures view { OnlyAsks (V.sight view.old) (V.sight view.new) result }
+    ensures looks { AskedAtMost 1 (different (earlier context.now.number context.now.undo.now)) (V.sight view.old) (V.sight view.new) }
+{
+    first_visible(alloc, context, &asked_pred(log), direction, view)
+}
+
 /// Whether there are any rows.
-pub(crate) fn is_any(rows: &Rows) -> bool
+pub(crate) fn is_any(rows: &FoundRows<'_>) -> bool
     ensures { result ≡ is_some_row rows.now }
 {
     match rows.as_slice().first() {

@@ -17,9 +17,10 @@ use mv_alone::env::column_value;
 use mv_alone::state::{Content, Env};
 use mv_log::log::Log;
 use mv_record::record::Slot;
+use mv_table::found::Found;
+use mv_table::table::Stored;
 use mv_values::copied::Copied;
 use mv_values::memory::NoMemory;
-use mv_values::rows::Keyed;
 use mv_values::value::Value;
 use std::alloc::Global;
 
@@ -159,7 +160,7 @@ pub(crate) fn push_selected(
     env: &Env,
     columns: &[u16],
     to: &[u16],
-    item: Option<&Keyed>,
+    item: Option<&Found<'_>>,
     log: &mut Log,
 ) -> Result<(), NoMemory>
     requires found { env.now.found < 2 ^ 16 }
@@ -168,7 +169,7 @@ pub(crate) fn push_selected(
     ensures err { OnErr result (without_effect log.new ≡ without_effect log.old) }
 {
     match item {
-        Some(item) => push_row_slots(alloc, env, columns, to, item.row.as_slice(), log),
+        Some(item) => push_row_slots(alloc, env, columns, to, item.row().as_slice(), log),
         None => push_found(env, false, log),
     }
 }

@@ -22,7 +22,7 @@ use mv_view::view::{Refused, View};
 use std::alloc::Global;
 
 /// Writes the effect of a statement into the open record of a log. On an error the open effect may be begun.
-fn write_effect<V: View>(
+fn write_effect<'s, V: View<'s>>(
     alloc: Global,
     tables: &[TableInfo],
     statement: &RStmt,
@@ -132,7 +132,7 @@ fn write_effect<V: View>(
 
 /// Writes the effect of a statement into the open record of a log. Returns whether the condition of an IF holds, and
 /// `false` for any other statement. On an error the open effect may be begun.
-fn write_choice<V: View>(
+fn write_choice<'s, V: View<'s>>(
     alloc: Global,
     tables: &[TableInfo],
     statement: &RStmt,
@@ -168,7 +168,7 @@ fn write_choice<V: View>(
 ///
 /// Fails with `NoMemory` if memory runs out, and with `Stale` if the view answers `Stale`. The log is then unchanged.
 #[tactic(auto, using(crate::proofs::Ends::taken_back))]
-pub fn effect<V: View>(
+pub fn effect<'s, V: View<'s>>(
     alloc: Global,
     tables: &[TableInfo],
     statement: &RStmt,

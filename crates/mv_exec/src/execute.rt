@@ -28,7 +28,7 @@ use std::alloc::Global;
 
 /// Executes the open statement of a call, which is its next one, and adds its record. Returns whether the call has ended.
 /// On an error only the open statement may have changed.
-fn execute<V: View>(
+fn execute<'s, V: View<'s>>(
     alloc: Global,
     graph: &Graph,
     task: &mut Task,
@@ -75,7 +75,7 @@ fn execute<V: View>(
 
 /// Executes the next statement of a call, and adds its record. Returns whether the call has ended. On an error only the
 /// open statement may have changed.
-pub(crate) fn execute_next<V: View>(
+pub(crate) fn execute_next<'s, V: View<'s>>(
     alloc: Global,
     graph: &Graph,
     task: &mut Task,

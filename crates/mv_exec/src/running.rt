@@ -116,7 +116,7 @@ pub fn adopt(alloc: Global, graph: &Graph, task: &mut Task, old: u32) -> Result<
 /// was queried for no more than the predicates of the record that was tried.
 ///
 /// Fails with `NoMemory` if memory runs out, and with `Stale` if the view reports it.
-pub fn next<V: View>(
+pub fn next<'s, V: View<'s>>(
     alloc: Global,
     graph: &Graph,
     task: &mut Task,
@@ -155,7 +155,7 @@ pub fn next<V: View>(
 /// continue it, and `restart` and `begin_repair` can begin it again.
 ///
 /// Fails with `NoMemory` if memory runs out, and with `Stale` if the view reports it.
-pub fn finish<V: View>(
+pub fn finish<'s, V: View<'s>>(
     alloc: Global,
     graph: &Graph,
     task: &mut Task,

@@ -1,6 +1,6 @@
 -- Copies of whole tables.
 use Rattle.std.proofs.Common.{◌≡◌, ◌<◌, ◌+◌, ℕ, true, List, [], ◌∷◌, ◌++◌, length, take, refl, sym, ap, subst, ◌∙◌, rules}
-use Rattle.std.specs.Prelude.{slice_index_or, Result, Ok, Err, IfOk, IsErrAnd}
+use Rattle.std.specs.Prelude.{slice_index_or, Result, Ok, Err, IsErrAnd}
 use Rattle.std.specs.List.{filter, list_all}
 use Rattle.std.proofs.lemmas.List.{take_more}
 use Rattle.mv_values.specs.declared.pred.Pred.{Pred}
@@ -25,10 +25,6 @@ all_found pred db e = ap (λ (ts : List Test). filter (λ (item : Keyed). meets 
   keeps : (rows : List Keyed) → filter (λ (item : Keyed). meets [] item.row) rows ≡ rows
   keeps [] = refl
   keeps (x ∷ xs) = ap (λ l. x ∷ l) (keeps xs)
-
-pub found_rows : (pred : Pred) (db : Tables) (r : Result (List Keyed) Refused) → pred.tests ≡ [] → IfOk r (λ rows. rows ≡ found_by pred db) → IfOk r (λ rows. rows ≡ rows_at db pred.table)
-found_rows pred db (Ok rows) e is = is ∙ all_found pred db e
-found_rows pred db (Err why) e is = tt
 
 -- Several tables
 

@@ -5,28 +5,25 @@ ghost use Rattle.mv_values.specs.Tables.{rows_at};
 ghost use Rattle.mv_effect.specs.Looking.{OnlyAsks};
 
 use mv_values::list::List;
-use mv_values::pred::Pred;
+use mv_values::pred_ref::PredRef;
 use mv_values::rows::{Database, Rows};
 use mv_view::view::{Refused, View};
 use std::alloc::Global;
 
 /// Copies the rows of a table that a view shows. Fails with `NoMemory` if memory runs out, and with `Stale` if the view
 /// reports it.
-fn rows_shown<V: View>(alloc: Global, view: &mut V, table: u8) -> Result<Rows, Refused>
+fn rows_shown<'s, V: View<'s>>(alloc: Global, view: &mut V, table: u8) -> Result<Rows, Refused>
     ensures rows { IfOk result (λ rows. rows ≡ rows_at (V.sight view.old).database table) }
     ensures view { OnlyAsks (V.sight view.old) (V.sight view.new) result }
 {
-    let pred = Pred {
-        table,
-        tests: List::new(alloc),
-        columns: List::new(alloc),
-    };
-    view.rows(alloc, &pred)
+    let pred = PredRef::new(table, &[], &[]);
+    let found = view.rows(alloc, &pred)?;
+    Ok(found.into_rows(alloc)?)
 }
 
 /// Copies the database that a view shows, which has this many tables. Fails with `NoMemory` if memory runs out, and with
 /// `Stale` if the view reports it.
-pub(crate) fn tables_shown<V: View>(
+pub(crate) fn tables_shown<'s, V: View<'s>>(
     alloc: Global,
     count: usize,
     view: &mut V,

@@ -12,6 +12,7 @@ use mv_shards::start::Start;
 use mv_values::list::List;
 use mv_values::memory::NoMemory;
 use mv_values::pred::Pred;
+use mv_values::pred_ref::PredRef;
 use mv_values::rows::Rows;
 use mv_view::view::Refused;
 use std::alloc::Global;
@@ -134,7 +135,8 @@ pub(crate) fn all_rows<N: Making + Naming, R: Wait>(
         tests: List::new(alloc),
         columns: List::new(alloc),
     };
-    gate.shards().rows_at(rt, alloc, gate.board(), start, &pred)
+    gate.shards()
+        .rows_at(rt, alloc, gate.board(), start, &PredRef::of(&pred))
 }
 
 /// Takes a start, and reads there.

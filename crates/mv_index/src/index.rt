@@ -15,7 +15,8 @@ use crate::keys::Keys;
 use crate::lens::{KeyLens, note_len};
 use mv_values::list::List;
 use mv_values::memory::NoMemory;
-use mv_values::pred::{Pred, Test};
+use mv_values::pred::Test;
+use mv_values::pred_ref::PredRef;
 use mv_values::tested::{Tested, is_equality};
 use mv_values::value::{Key, Row, Value};
 use std::alloc::Global;
@@ -270,14 +271,21 @@ impl Index {
         }
     }
 
+    /// Returns the keys for a test of a predicate, if it's one of an indexed column by `=`.
+    fn keys_of(&self, pred: &PredRef<'_>, test: &Test) -> Option<&Keys>
+        ensures { option_copied result ≡ keys_for self.now pred.now.table test.now }
+    {
+        self.keys_for(pred.table(), test)
+    }
+
     /// Returns the fewest keys that stand under the value of an `=` test of an indexed column, if there is such a test.
     /// Where several tests have as few, it takes the one of the least column.
-    pub(crate) fn fewest(&self, pred: &Pred) -> Option<&Keys>
+    pub(crate) fn fewest(&self, pred: &PredRef<'_>) -> Option<&Keys>
         ensures { MatchOption result (All (λ test. keys_for self.now pred.now.table test ≡ None) pred.now.tests) (λ keys. AreFewest self.now pred.now keys.now) }
     {
         let mut best: Option<Candidate<'_>> = None;
-        for test in pred.tests.as_slice() {
-            let Some(keys) = self.keys_for(pred.table, test) else {
+        for test in pred.tests() {
+            let Some(keys) = self.keys_of(pred, test) else {
                 continue;
             };
             let column = test.column;
@@ -290,20 +298,32 @@ impl Index {
     }
 
     /// Whether a table has had a row.
-    pub(crate) fn has_had_row(&self, table: u8) -> bool
+    fn has_had_row(&self, table: u8) -> bool
         ensures had { result ≡ is_some (lens_of self.now table) }
         ensures byte { table < 2 ^ 8 }
     {
         self.key_lens.contains_key(&table)
     }
 
+    /// Whether the table of a predicate has had a row.
+    pub(crate) fn has_had_row_of(&self, pred: &PredRef<'_>) -> bool
+        ensures had { result ≡ is_some (lens_of self.now pred.now.table) }
+        ensures byte { pred.now.table < 2 ^ 8 }
+    {
+        self.has_had_row(pred.table())
+    }
+
     /// Returns the key that the predicate's `=` tests give whole, if they do.
-    pub(crate) fn whole_key(&self, alloc: Global, pred: &Pred) -> Result<Option<Key>, NoMemory>
+    pub(crate) fn whole_key(
+        &self,
+        alloc: Global,
+        pred: &PredRef<'_>,
+    ) -> Result<Option<Key>, NoMemory>
         ensures given { IfOk result (λ key. is_some key ≡ gives_key self.now pred.now) }
         ensures only { IfOk result (λ key. IfSome key (IsOnly self.now pred.now)) }
     {
-        match self.key_lens.get(&pred.table) {
-            Some(lens) => lens.whole_key(alloc, pred.tests.as_slice()),
+        match self.key_lens.get(&pred.table()) {
+            Some(lens) => lens.whole_key(alloc, pred.tests()),
             None => Ok(None),
         }
     }

@@ -45,7 +45,7 @@ impl Model for Keys {
 
 /// Keys that are lent.
 #[derive(Clone, Copy)]
-pub(crate) enum Lent<'a> {
+pub(crate) enum LentKeys<'a> {
     None,
     One(&'a Key),
     Many(&'a KeyMap<()>),
@@ -133,13 +133,13 @@ impl Keys {
     }
 
     /// Lends the keys.
-    pub(crate) fn lend(&self) -> Lent<'_>
+    pub(crate) fn lend(&self) -> LentKeys<'_>
         ensures { lent result ≡ self.now }
     {
         match &self.form {
-            Form::None => Lent::None,
-            Form::One(key) => Lent::One(key),
-            Form::Many(keys) => Lent::Many(keys),
+            Form::None => LentKeys::None,
+            Form::One(key) => LentKeys::One(key),
+            Form::Many(keys) => LentKeys::Many(keys),
         }
     }
 

@@ -12,62 +12,89 @@ ghost use Rattle.mv_table.specs.Scans.{foremost};
 ghost use Rattle.mv_record.specs.Admitting.{Admitted};
 ghost use Rattle.mv_record.specs.Writes.{AreRising};
 ghost use Rattle.mv_view.specs.Narrowing.{outside};
+ghost use Rattle.mv_view.specs.Viewing.{with_row_call, answered, MayAnswer};
 ghost use Rattle.mv_index.specs.Indexing.{Covers, HaveKeys, IsOnlyKey};
 ghost use Rattle.mv_index.specs.Asking.{AskedAtMost, PassesOn, LooksUp};
 
 use crate::index::Index;
-use crate::keys::{Keys, Lent};
+use crate::keys::{Keys, LentKeys};
+use mv_table::found::Found;
+use mv_table::found_rows::FoundRows;
 use mv_table::key_map::KeyMap;
 use mv_table::scan::Direction;
 use mv_table::span::Span;
 use mv_values::copied::Copied;
+use mv_values::lent::Lent;
 use mv_values::memory::NoMemory;
-use mv_values::pred::Pred;
-use mv_values::rows::{Keyed, Rows};
-use mv_values::value::{Key, Row};
+use mv_values::pred_ref::PredRef;
+use mv_values::value::Key;
 use mv_view::key_set::KeySet;
 use mv_view::view::{Refused, View};
 use std::alloc::Global;
 
 /// Returns the row, if there is one and the predicate matches it.
-fn only_match(pred: &Pred, row: Option<Row>) -> Option<Row>
-    ensures { result ≡ matched pred.now row }
+fn only_match<'s>(pred: &PredRef<'_>, row: Option<Lent<'s>>) -> Option<Lent<'s>>
+    ensures { result ≡ matched pred.now row.entry }
 {
     match row {
-        Some(row) if pred.matches(&row) => Some(row),
+        Some(row) if pred.matches(row.get()) => Some(row),
         _ => None,
     }
 }
 
-/// Returns the row under a key, if the predicate matches it. Asks the view for the row.
-pub(crate) fn match_at<V: View>(
+/// Returns the row under a key of the predicate's table. Asks the view for it.
+fn row_of<'s, V: View<'s>>(
     alloc: Global,
-    pred: &Pred,
+    pred: &PredRef<'_>,
     key: &Key,
     view: &mut V,
-) -> Result<Option<Row>, Refused>
+) -> Result<Option<Lent<'s>>, Refused>
+    ensures found { IfOk result (λ row. row ≡ row_of (rows_at (V.sight view.old).database pred.now.table) key.now) }
+    ensures counts { V.sight view.new ≡ answered result (with_row_call (V.sight view.old)) }
+    ensures stale { MayAnswer (V.sight view.old) (V.sight view.new) result }
+{
+    view.row(alloc, pred.table(), key)
+}
+
+/// Returns the row under a key, if the predicate matches it. Asks the view for the row.
+pub(crate) fn match_at<'s, V: View<'s>>(
+    alloc: Global,
+    pred: &PredRef<'_>,
+    key: &Key,
+    view: &mut V,
+) -> Result<Option<Lent<'s>>, Refused>
     ensures found { IfOk result (λ row. row ≡ matched pred.now (row_of (rows_at (V.sight view.old).database pred.now.table) key.now)) }
     ensures asked { AskedAtMost 0 1 (V.sight view.old) (V.sight view.new) }
     ensures passes_on { PassesOn (V.sight view.old) (V.sight view.new) result }
 {
-    let row = view.row(alloc, pred.table, key)?;
+    let row = row_of(alloc, pred, key, view)?;
     Ok(only_match(pred, row))
 }
 
 /// Appends a row, if there is one, under a copy of its key. The key must then be greater than all others.
-fn add_row(alloc: Global, rows: &mut Rows, key: &Key, row: Option<Row>) -> Result<(), NoMemory>
+fn add_row<'s>(
+    alloc: Global,
+    rows: &mut FoundRows<'s>,
+    key: &Key,
+    row: Option<Lent<'s>>,
+) -> Result<(), NoMemory>
     requires { OnSome row (All (IsBelow key.now) rows.old) }
-    ensures { OnOk result (rows.new ≡ rows.old ++ standing key.now row) }
+    ensures { OnOk result (rows.new ≡ rows.old ++ standing key.now row.entry) }
 {
     let Some(row) = row else {
         return Ok(());
     };
     let key = key.copy(alloc)?;
-    rows.push(Keyed { key, row })
+    rows.push(Found::under(key, row))
 }
 
 /// Returns the row under a key as the only row, if the predicate matches it.
-fn rows_alone<V: View>(alloc: Global, pred: &Pred, key: &Key, view: &mut V) -> Result<Rows, Refused>
+fn rows_alone<'s, V: View<'s>>(
+    alloc: Global,
+    pred: &PredRef<'_>,
+    key: &Key,
+    view: &mut V,
+) -> Result<FoundRows<'s>, Refused>
     requires rising { AreRising (V.sight view.old).database }
     requires only { IsOnlyKey pred.now key.now (rows_at (V.sight view.old).database pred.now.table) }
     ensures found { IfOk result (λ rows. rows ≡ found_by pred.now (V.sight view.old).database) }
@@ -75,19 +102,19 @@ fn rows_alone<V: View>(alloc: Global, pred: &Pred, key: &Key, view: &mut V) -> R
     ensures passes_on { PassesOn (V.sight view.old) (V.sight view.new) result }
 {
     let row = match_at(alloc, pred, key, view)?;
-    let mut rows = Rows::new(alloc);
+    let mut rows = FoundRows::new(alloc);
     add_row(alloc, &mut rows, key, row)?;
     Ok(rows)
 }
 
 /// Returns the rows under the keys of a map that the predicate matches. Asks the view for each row whose key is in the
 /// span that the predicate's tests leave.
-fn rows_among<V: View>(
+fn rows_among<'s, V: View<'s>>(
     alloc: Global,
-    pred: &Pred,
+    pred: &PredRef<'_>,
     keys: &KeyMap<()>,
     view: &mut V,
-) -> Result<Rows, Refused>
+) -> Result<FoundRows<'s>, Refused>
     requires rising { AreRising (V.sight view.old).database }
     requires admitted { Admitted pred.now (rows_at (V.sight view.old).database pred.now.table) }
     requires all { HaveKeys pred.now keys.now (rows_at (V.sight view.old).database pred.now.table) }
@@ -95,8 +122,8 @@ fn rows_among<V: View>(
     ensures asked { AskedAtMost 0 (length keys.now) (V.sight view.old) (V.sight view.new) }
     ensures passes_on { PassesOn (V.sight view.old) (V.sight view.new) result }
 {
-    let span = Span::of(alloc, pred.tests.as_slice())?;
-    let mut rows = Rows::new(alloc);
+    let span = Span::of(alloc, pred.tests())?;
+    let mut rows = FoundRows::new(alloc);
     for (key, _) in keys.range(&span) {
         let row = match_at(alloc, pred, key, view)?;
         add_row(alloc, &mut rows, key, row)?;
@@ -105,12 +132,12 @@ fn rows_among<V: View>(
 }
 
 /// Returns the rows under these keys that the predicate matches. Asks the view for the row of each key at most once.
-fn rows_under<V: View>(
+fn rows_under<'s, V: View<'s>>(
     alloc: Global,
-    pred: &Pred,
+    pred: &PredRef<'_>,
     keys: &Keys,
     view: &mut V,
-) -> Result<Rows, Refused>
+) -> Result<FoundRows<'s>, Refused>
     requires rising { AreRising (V.sight view.old).database }
     requires admitted { Admitted pred.now (rows_at (V.sight view.old).database pred.now.table) }
     requires all { HaveKeys pred.now keys.now (rows_at (V.sight view.old).database pred.now.table) }
@@ -119,20 +146,20 @@ fn rows_under<V: View>(
     ensures passes_on { PassesOn (V.sight view.old) (V.sight view.new) result }
 {
     match keys.lend() {
-        Lent::None => Ok(Rows::new(alloc)),
-        Lent::One(key) => rows_alone(alloc, pred, key, view),
-        Lent::Many(keys) => rows_among(alloc, pred, keys, view),
+        LentKeys::None => Ok(FoundRows::new(alloc)),
+        LentKeys::One(key) => rows_alone(alloc, pred, key, view),
+        LentKeys::Many(keys) => rows_among(alloc, pred, keys, view),
     }
 }
 
 /// Returns the row under a key, if the predicate matches it and the key isn't in `passed`.
-fn foremost_alone<V: View, K: KeySet>(
+fn foremost_alone<'s, V: View<'s>, K: KeySet>(
     alloc: Global,
-    pred: &Pred,
+    pred: &PredRef<'_>,
     key: &Key,
     passed: &K,
     view: &mut V,
-) -> Result<Option<Keyed>, Refused>
+) -> Result<Option<Found<'s>>, Refused>
     requires rising { AreRising (V.sight view.old).database }
     requires only { IsOnlyKey pred.now key.now (rows_at (V.sight view.old).database pred.now.table) }
     ensures found { IfOk result (λ row. (d : Way) → row ≡ foremost d (outside (K.has passed.now) (found_by pred.now (V.sight view.old).database))) }
@@ -146,7 +173,7 @@ fn foremost_alone<V: View, K: KeySet>(
     match row {
         Some(row) => {
             let key = key.copy(alloc)?;
-            Ok(Some(Keyed { key, row }))
+            Ok(Some(Found::under(key, row)))
         }
         None => Ok(None),
     }
@@ -155,14 +182,14 @@ fn foremost_alone<V: View, K: KeySet>(
 /// Returns the first row in this direction that stands under one of the keys of a map, that the predicate matches, and
 /// whose key isn't in `passed`. Of the keys in the span that the predicate's tests leave, it asks the view for the rows up
 /// to that one.
-fn foremost_among<V: View, K: KeySet>(
+fn foremost_among<'s, V: View<'s>, K: KeySet>(
     alloc: Global,
-    pred: &Pred,
+    pred: &PredRef<'_>,
     keys: &KeyMap<()>,
     direction: Direction,
     passed: &K,
     view: &mut V,
-) -> Result<Option<Keyed>, Refused>
+) -> Result<Option<Found<'s>>, Refused>
     requires rising { AreRising (V.sight view.old).database }
     requires admitted { Admitted pred.now (rows_at (V.sight view.old).database pred.now.table) }
     requires all { HaveKeys pred.now keys.now (rows_at (V.sight view.old).database pred.now.table) }
@@ -170,7 +197,7 @@ fn foremost_among<V: View, K: KeySet>(
     ensures asked { AskedAtMost 0 (length keys.now) (V.sight view.old) (V.sight view.new) }
     ensures passes_on { PassesOn (V.sight view.old) (V.sight view.new) result }
 {
-    let span = Span::of(alloc, pred.tests.as_slice())?;
+    let span = Span::of(alloc, pred.tests())?;
     let mut left = keys.range(&span);
     while let Some((key, _)) = direction.take_next(&mut left) {
         if passed.contains(key) {
@@ -178,7 +205,7 @@ fn foremost_among<V: View, K: KeySet>(
         }
         if let Some(row) = match_at(alloc, pred, key, view)? {
             let key = key.copy(alloc)?;
-            return Ok(Some(Keyed { key, row }));
+            return Ok(Some(Found::under(key, row)));
         }
     }
     Ok(None)
@@ -186,14 +213,14 @@ fn foremost_among<V: View, K: KeySet>(
 
 /// Returns the first row in this direction that stands under one of these keys, that the predicate matches, and whose key
 /// isn't in `passed`. Asks the view for the row of each key at most once.
-fn foremost_under<V: View, K: KeySet>(
+fn foremost_under<'s, V: View<'s>, K: KeySet>(
     alloc: Global,
-    pred: &Pred,
+    pred: &PredRef<'_>,
     keys: &Keys,
     direction: Direction,
     passed: &K,
     view: &mut V,
-) -> Result<Option<Keyed>, Refused>
+) -> Result<Option<Found<'s>>, Refused>
     requires rising { AreRising (V.sight view.old).database }
     requires admitted { Admitted pred.now (rows_at (V.sight view.old).database pred.now.table) }
     requires all { HaveKeys pred.now keys.now (rows_at (V.sight view.old).database pred.now.table) }
@@ -202,27 +229,27 @@ fn foremost_under<V: View, K: KeySet>(
     ensures passes_on { PassesOn (V.sight view.old) (V.sight view.new) result }
 {
     match keys.lend() {
-        Lent::None => Ok(None),
-        Lent::One(key) => foremost_alone(alloc, pred, key, passed, view),
-        Lent::Many(keys) => foremost_among(alloc, pred, keys, direction, passed, view),
+        LentKeys::None => Ok(None),
+        LentKeys::One(key) => foremost_alone(alloc, pred, key, passed, view),
+        LentKeys::Many(keys) => foremost_among(alloc, pred, keys, direction, passed, view),
     }
 }
 
 /// Returns the rows that the predicate matches.
-pub(crate) fn find<V: View>(
+pub(crate) fn find<'s, V: View<'s>>(
     alloc: Global,
     index: &Index,
-    pred: &Pred,
+    pred: &PredRef<'_>,
     view: &mut V,
-) -> Result<Rows, Refused>
+) -> Result<FoundRows<'s>, Refused>
     requires covers { Covers index.now (V.sight view.old).database }
     requires rising { AreRising (V.sight view.old).database }
     requires admitted { Admitted pred.now (rows_at (V.sight view.old).database pred.now.table) }
     ensures found { IfOk result (λ rows. rows ≡ found_by pred.now (V.sight view.old).database) }
     ensures looks { LooksUp index.now pred.now (V.sight view.old) (V.sight view.new) result }
 {
-    if !index.has_had_row(pred.table) {
-        return Ok(Rows::new(alloc));
+    if !index.has_had_row_of(pred) {
+        return Ok(FoundRows::new(alloc));
     }
     if let Some(key) = index.whole_key(alloc, pred)? {
         return rows_alone(alloc, pred, &key, view);
@@ -234,21 +261,21 @@ pub(crate) fn find<V: View>(
 }
 
 /// Returns the first row in this direction that the predicate matches and whose key isn't in `passed`.
-pub(crate) fn find_foremost<V: View, K: KeySet>(
+pub(crate) fn find_foremost<'s, V: View<'s>, K: KeySet>(
     alloc: Global,
     index: &Index,
-    pred: &Pred,
+    pred: &PredRef<'_>,
     direction: Direction,
     passed: &K,
     view: &mut V,
-) -> Result<Option<Keyed>, Refused>
+) -> Result<Option<Found<'s>>, Refused>
     requires covers { Covers index.now (V.sight view.old).database }
     requires rising { AreRising (V.sight view.old).database }
     requires admitted { Admitted pred.now (rows_at (V.sight view.old).database pred.now.table) }
     ensures found { IfOk result (λ row. row ≡ foremost direction (outside (K.has passed.now) (found_by pred.now (V.sight view.old).database))) }
     ensures looks { LooksUp index.now pred.now (V.sight view.old) (V.sight view.new) result }
 {
-    if !index.has_had_row(pred.table) {
+    if !index.has_had_row_of(pred) {
         return Ok(None);
     }
     if let Some(key) = index.whole_key(alloc, pred)? {

@@ -14,10 +14,12 @@ ghost use Rattle.mv_index.specs.Asking.{sight_of, AskedAtMost, PassesOn, LooksUp
 
 use crate::index::Index;
 use crate::look::{find, find_foremost, match_at};
+use mv_table::found::Found;
+use mv_table::found_rows::FoundRows;
 use mv_table::scan::Direction;
-use mv_values::pred::Pred;
-use mv_values::rows::{Keyed, Rows};
-use mv_values::value::{Key, Row};
+use mv_values::lent::Lent;
+use mv_values::pred_ref::PredRef;
+use mv_values::value::Key;
 use mv_view::key_set::KeySet;
 use mv_view::view::{Refused, View};
 use std::alloc::Global;
@@ -25,14 +27,14 @@ use std::marker::Model;
 
 /// A view of the database of another view, which it asks for rows by their keys where an index tells these.
 #[derive(Drop)]
-pub struct IndexView<'a, V: View> {
-    index: &'a Index,
+pub struct IndexView<'s, 'a, V: View<'s>> {
+    index: &'s Index,
     inner: &'a mut V,
     rows_calls: u64,
     row_calls: u64,
 }
 
-impl<'a, V: View> Model for IndexView<'a, V> {
+impl<'s, 'a, V: View<'s>> Model for IndexView<'s, 'a, V> {
     ghost use Rattle.mv_record.specs.Writes.{AreRising};
     ghost use Rattle.mv_index.specs.Indexing.{Covers};
     ghost use Rattle.mv_index.specs.Asking.{Indexed};
@@ -44,10 +46,10 @@ impl<'a, V: View> Model for IndexView<'a, V> {
     ghost invariant = { λ v. Covers v.index.now (V.sight v.inner.now).database × AreRising (V.sight v.inner.now).database };
 }
 
-impl<'a, V: View> IndexView<'a, V> {
+impl<'s, 'a, V: View<'s>> IndexView<'s, 'a, V> {
     /// Returns a view of the inner view's database, which the index must cover, with no calls counted. It allocates no
     /// memory.
-    pub fn new(index: &'a Index, inner: &'a mut V) -> IndexView<'a, V>
+    pub fn new(index: &'s Index, inner: &'a mut V) -> IndexView<'s, 'a, V>
         requires covers { Covers index.now (V.sight inner.old).database }
         requires rising { AreRising (V.sight inner.old).database }
         ensures { result ≡ record { index = index.now; inner = V.sight inner.old; rows_calls = 0; row_calls = 0 } }
@@ -61,13 +63,13 @@ impl<'a, V: View> IndexView<'a, V> {
     }
 }
 
-impl<'a, V: View> View for IndexView<'a, V> {
+impl<'s, 'a, V: View<'s>> View<'s> for IndexView<'s, 'a, V> {
     ghost sight = { sight_of };
 
     /// Returns the rows that the predicate matches. Where `=` tests give every key column, it asks the inner view for
     /// one row at most. Else it asks for the row under each key of the test that has the fewest, if there is a test of
     /// an indexed column by `=`. It asks nothing of a table that has had no row.
-    fn rows(&mut self, alloc: Global, pred: &Pred) -> Result<Rows, Refused>
+    fn rows(&mut self, alloc: Global, pred: &PredRef<'_>) -> Result<FoundRows<'s>, Refused>
         requires { Admitted pred.now (rows_at self.old.inner.database pred.now.table) }
         ensures found { IfOk result (λ rows. rows ≡ found_by pred.now self.old.inner.database) }
         ensures counts { sight_of self.new ≡ answered result (with_rows_call (sight_of self.old)) }
@@ -82,10 +84,10 @@ impl<'a, V: View> View for IndexView<'a, V> {
     fn foremost<K: KeySet>(
         &mut self,
         alloc: Global,
-        pred: &Pred,
+        pred: &PredRef<'_>,
         direction: Direction,
         passed: &K,
-    ) -> Result<Option<Keyed>, Refused>
+    ) -> Result<Option<Found<'s>>, Refused>
         requires { Admitted pred.now (rows_at self.old.inner.database pred.now.table) }
         ensures found { IfOk result (λ row. row ≡ foremost direction (outside (K.has passed.now) (found_by pred.now self.old.inner.database))) }
         ensures counts { sight_of self.new ≡ answered result (with_rows_call (sight_of self.old)) }
@@ -97,7 +99,12 @@ impl<'a, V: View> View for IndexView<'a, V> {
         find_foremost(alloc, self.index, pred, direction, passed, &mut *self.inner)
     }
 
-    fn match_under(&mut self, alloc: Global, pred: &Pred, key: &Key) -> Result<Option<Row>, Refused>
+    fn match_under(
+        &mut self,
+        alloc: Global,
+        pred: &PredRef<'_>,
+        key: &Key,
+    ) -> Result<Option<Lent<'s>>, Refused>
         ensures found { IfOk result (λ row. row ≡ matched pred.now (row_of (rows_at self.old.inner.database pred.now.table) key.now)) }
         ensures counts { sight_of self.new ≡ answered result (with_rows_call (sight_of self.old)) }
         ensures stale { MayAnswer (sight_of self.old) (sight_of self.new) result }
@@ -109,7 +116,7 @@ impl<'a, V: View> View for IndexView<'a, V> {
         match_at(alloc, pred, key, &mut *self.inner)
     }
 
-    fn row(&mut self, alloc: Global, table: u8, key: &Key) -> Result<Option<Row>, Refused>
+    fn row(&mut self, alloc: Global, table: u8, key: &Key) -> Result<Option<Lent<'s>>, Refused>
         ensures found { IfOk result (λ row. row ≡ row_of (rows_at self.old.inner.database table) key.now) }
         ensures counts { sight_of self.new ≡ answered result (with_row_call (sight_of self.old)) }
         ensures stale { MayAnswer (sight_of self.old) (sight_of self.new) result }

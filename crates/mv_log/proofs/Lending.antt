@@ -1,5 +1,5 @@
 -- Heads, records and predicates at a place.
-use Rattle.std.proofs.Common.{◌≡◌, ◌<◌, ℕ, zero, suc, List, [], ◌∷◌, Option, Some, length, take, drop, get_or, refl, ap, arith}
+use Rattle.std.proofs.Common.{◌≡◌, ◌<◌, ℕ, zero, suc, List, [], ◌∷◌, Option, Some, ◌++◌, ◌+◌, ◌∙◌, length, take, drop, get_or, refl, sym, ap, arith, length-append}
 use Rattle.std.specs.Prelude.{map, slice_get}
 use Rattle.mv_log.specs.declared.head.Head.{Head}
 use Rattle.mv_log.specs.declared.head.Asked.{Asked}
@@ -22,6 +22,15 @@ pub map_at : {X Y : Type 0} (f : X → Y) (xs : List X) (i : ℕ) (x : X) → sl
 map_at f [] i x e = cc
 map_at f (y ∷ xs) zero x e = ap (λ z. Some (f z)) (some_same y x e)
 map_at f (y ∷ xs) (suc i) x e = map_at f xs i x e
+
+-- the item at the last place is the last one
+pub get_last : {X : Type 0} (xs front : List X) (n : ℕ) (x y : X) → suc n ≡ length xs → slice_get xs n ≡ Some x → xs ≡ front ++ y ∷ [] → x ≡ y
+get_last {X} xs front n x y size at is =
+    some_same x y (sym at ∙ ap (λ l. slice_get l n) is ∙ ap (slice_get (front ++ y ∷ [])) (let len : length xs ≡ length front + 1 = ap length is ∙ length-append front (y ∷ []) in omega (arith, size, len)) ∙ here front)
+  where
+    here : (zs : List X) → slice_get (zs ++ y ∷ []) (length zs) ≡ Some y
+    here [] = refl
+    here (z ∷ zs) = here zs
 
 pub map_take : {X Y : Type 0} (f : X → Y) (n : ℕ) (xs : List X) → take n (map f xs) ≡ map f (take n xs)
 map_take f zero xs = refl

@@ -1,5 +1,6 @@
 -- What contracts see of a log.
-use Rattle.std.specs.Prelude.{ℕ, List, [], None}
+use Rattle.std.specs.Prelude.{◌==◌, ◌++◌, ◌∷◌, ℕ, List, [], None, if◌then◌else◌}
+use Rattle.std.specs.List.{list_any}
 use Rattle.mv_values.specs.declared.pred.Test.{Test}
 use Rattle.mv_record.specs.declared.effect.Effect.{Effect}
 use Rattle.mv_record.specs.declared.record.Read.{Read}
@@ -25,3 +26,7 @@ no_effect = record { preds = []; sets = []; rows = []; writes = []; line = None;
 -- a log without records
 abbrev pub empty : Logged
 empty = record { records = []; past = []; kept = 0; turns = []; reads = []; effect = no_effect; tests = []; columns = [] }
+
+-- the columns with one more, unless it stands there
+abbrev pub once_more : List ℕ → ℕ → List ℕ
+once_more cs c = if list_any (λ d. d == c) cs then cs else cs ++ c ∷ []

@@ -1,11 +1,13 @@
 //! The records of a running call.
 
-ghost use Rattle.std.specs.Prelude.{◌≡◌, ◌<◌, ◌≤◌, ◌+◌, [], ◌∷◌, ◌++◌, Some, None, length, OnOk, OnErr, take, drop, map, slice_get, slice_set};
+ghost use Rattle.std.specs.Prelude.{◌≡◌, ◌==◌, ◌<◌, ◌≤◌, ◌+◌, [], ◌∷◌, ◌++◌, List as Seq, Some, None, length, OnOk, OnErr, take, drop, map, slice_get, slice_set};
+ghost use Rattle.std.specs.List.{list_any};
+ghost use Rattle.mv_values.specs.declared.pred.Pred.{Pred};
 ghost use Rattle.mv_record.specs.declared.record.Record.{Record};
 ghost use Rattle.mv_record.specs.Effects.{record_of};
 ghost use Rattle.mv_log.specs.Fitting.{marks_of, AskedFit};
 ghost use Rattle.mv_log.specs.Heads.{pred_of};
-ghost use Rattle.mv_log.specs.Logged.{no_effect, empty};
+ghost use Rattle.mv_log.specs.Logged.{no_effect, empty, once_more};
 ghost use Rattle.mv_log.specs.Cutting.{head_between};
 
 use crate::flat::Flat;
@@ -19,6 +21,7 @@ use mv_values::calls::End;
 use mv_values::memory::NoMemory;
 use mv_values::patch::Write;
 use mv_values::pred::Test;
+use mv_values::pred_ref::PredRef;
 use mv_values::txt::Txt;
 use mv_values::value::Row;
 use std::alloc::Global;
@@ -123,6 +126,13 @@ fn preds_from(lists: &Lists, from: u32) -> Preds<'_>
     Preds::of(lists.preds.part(range), lists)
 }
 
+/// Whether the column is among these.
+fn is_among(columns: &[u8], column: u8) -> bool
+    ensures { result ≡ list_any (λ d. d == column) columns.now }
+{
+    columns.iter().any(|c| *c == column)
+}
+
 impl Log {
     /// Returns an empty log. It allocates nothing.
     #[tactic(auto, using(crate::proofs::Cutting::empty_whole))]
@@ -189,6 +199,15 @@ impl Log {
         preds_from(&self.lists, self.from.preds)
     }
 
+    /// Lends the last predicate of the open effect.
+    pub fn last_pred(&self) -> PredRef<'_>
+        requires { 0 < length self.now.effect.preds }
+        ensures { (front : Seq Pred) (pred : Pred) → self.now.effect.preds ≡ front ++ pred ∷ [] → result ≡ pred }
+    {
+        let preds = self.preds();
+        preds.get(preds.len() - 1)
+    }
+
     /// Adds an iteration of a FOR around the open statement. On `NoMemory` the log is unchanged.
     #[tactic(auto, using(crate::proofs::Pushing::more_turns, crate::proofs::Pushing::whole_turns))]
     pub fn push_turn(&mut self, turn: u32) -> Result<(), NoMemory>
@@ -223,6 +242,29 @@ impl Log {
         ensures err { OnErr result (self.new ≡ self.old) }
     {
         self.lists.columns.push(column)
+    }
+
+    /// Whether the next predicate selects the column so far.
+    #[tactic(auto, using(crate::proofs::Parts::part_rest))]
+    fn selects(&self, column: u8) -> bool
+        ensures { result ≡ list_any (λ d. d == column) self.now.columns }
+    {
+        let range = Range {
+            from: self.from.columns,
+            to: self.lists.columns.len(),
+        };
+        is_among(self.lists.columns.part(range), column)
+    }
+
+    /// Adds a column that the next predicate selects, unless it has been added. On `NoMemory` the log is unchanged.
+    pub fn push_column_once(&mut self, column: u8) -> Result<(), NoMemory>
+        ensures ok { OnOk result (self.new ≡ (let was = self.old in record was { columns = once_more was.columns column })) }
+        ensures err { OnErr result (self.new ≡ self.old) }
+    {
+        if self.selects(column) {
+            return Ok(());
+        }
+        self.push_column(column)
     }
 
     /// Adds columns that the next predicate selects. On `NoMemory` the log is unchanged.

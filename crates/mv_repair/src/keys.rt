@@ -8,11 +8,11 @@ ghost use Rattle.mv_table.specs.Spans.{is_within, IsForward};
 ghost use Rattle.mv_repair.specs.Keys.{has_key, KeepsKeys};
 
 use crate::paths::item;
-use mv_log::pred_ref::PredRef;
 use mv_table::key_map::KeyMap;
 use mv_table::span::Span;
 use mv_values::list::List;
 use mv_values::memory::NoMemory;
+use mv_values::pred_ref::PredRef;
 use mv_values::value::Key;
 use std::alloc::Global;
 use std::marker::Model;

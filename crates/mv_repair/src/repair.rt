@@ -60,7 +60,7 @@ fn keep(
 }
 
 /// Executes the next record of the new run.
-fn renew<V: View>(
+fn renew<'s, V: View<'s>>(
     alloc: Global,
     graph: &Graph,
     task: &mut Task,
@@ -89,7 +89,7 @@ fn renew<V: View>(
 }
 
 /// Adds the next record of the new run: the old one in its place if that stays, or else one that is executed.
-fn step<V: View>(
+fn step<'s, V: View<'s>>(
     alloc: Global,
     graph: &Graph,
     task: &mut Task,
@@ -137,7 +137,7 @@ fn step<V: View>(
 /// records, a step for each statement around them. A record with a predicate also costs what `validate` does for the
 /// commits. If few earlier records with writes don't stay, it costs a trial of the predicate on each of their writes.
 /// Else it costs a search for their keys, and the trials only if the predicate admits one of the keys.
-pub fn repair<V: View>(
+pub fn repair<'s, V: View<'s>>(
     alloc: Global,
     graph: &Graph,
     task: &mut Task,

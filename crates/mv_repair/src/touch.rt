@@ -8,12 +8,13 @@ ghost use Rattle.mv_history.specs.Hits.{reaches, touches_predicate};
 ghost use Rattle.mv_repair.specs.Walking.{any_touch, any_write, is_touched, writes_of, AreKnown, AreKnownIfMany, HasAddedWrites, HasLearnt};
 
 use crate::keys::Keys;
-use mv_log::pred_ref::{PredRef, Preds};
+use mv_log::pred_ref::Preds;
 use mv_log::record_ref::RecordRef;
 use mv_log::records::Records;
 use mv_values::copied::Copied;
 use mv_values::memory::NoMemory;
 use mv_values::patch::{Assign, Patch, Write};
+use mv_values::pred_ref::PredRef;
 use std::alloc::Global;
 
 /// Whether the predicate selects or tests a column that is set.

@@ -9,7 +9,8 @@ ghost use Rattle.mv_shards.specs.Reads.{Fixes};
 
 use crate::parts::{SHARDS, residue};
 use mv_values::op::Op;
-use mv_values::pred::{Pred, Test};
+use mv_values::pred::Test;
+use mv_values::pred_ref::PredRef;
 use mv_values::value::Value;
 
 /// Whether a test's place in the key is this one.
@@ -51,12 +52,12 @@ fn fixed_int(tests: &[Test]) -> Option<i64>
 }
 
 /// Returns the shard of each key that the predicate admits, if its tests fix one.
-pub fn fixed_shard(pred: &Pred) -> Option<u32>
+pub fn fixed_shard(pred: &PredRef<'_>) -> Option<u32>
     ensures there { IfSome result (λ q. q < 8) }
     ensures fixes { IfSome result (λ q. Fixes q pred.now) }
 {
-    match fixed_int(pred.tests.as_slice()) {
-        Some(n) => Some((u32::from(pred.table) + residue(n)) % SHARDS),
+    match fixed_int(pred.tests()) {
+        Some(n) => Some((u32::from(pred.table()) + residue(n)) % SHARDS),
         None => None,
     }
 }

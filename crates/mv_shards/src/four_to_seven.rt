@@ -14,7 +14,7 @@ use mv_table::table::Table;
 use mv_values::list::List;
 use mv_values::memory::NoMemory;
 use mv_values::patch::Write;
-use mv_values::pred::Pred;
+use mv_values::pred_ref::PredRef;
 use mv_values::rows::{Database, Keyed, Rows};
 use mv_values::tested::Tested;
 use mv_values::value::{Key, Row};
@@ -88,7 +88,7 @@ impl<N: Making + Naming> ShardList<N> for FourToSeven<N> {
         leave: &mut P,
         n: u32,
         shard: u32,
-        pred: &Pred,
+        pred: &PredRef<'_>,
     ) -> Result<Rows, Refused> {
         self.list
             .rows_of(rt, alloc, board, word, pass, leave, n, shard, pred)
@@ -121,7 +121,7 @@ impl<N: Making + Naming> ShardList<N> for FourToSeven<N> {
         leave: &mut P,
         n: u32,
         shard: u32,
-        pred: &Pred,
+        pred: &PredRef<'_>,
         key: &Key,
     ) -> Result<Option<Row>, Refused> {
         self.list
@@ -138,7 +138,7 @@ impl<N: Making + Naming> ShardList<N> for FourToSeven<N> {
         leave: &mut P,
         n: u32,
         shard: u32,
-        pred: &Pred,
+        pred: &PredRef<'_>,
         direction: Direction,
         passed: &K,
     ) -> Result<Option<Keyed>, Refused> {
@@ -156,7 +156,7 @@ impl<N: Making + Naming> ShardList<N> for FourToSeven<N> {
         pass: &mut Pass<N>,
         leave: &mut P,
         n: u32,
-        pred: &Pred,
+        pred: &PredRef<'_>,
         found: &mut Table,
     ) -> Result<(), Refused> {
         self.list

@@ -1,6 +1,7 @@
 //! The rows of a database in eight shards, each in versions behind its own lock.
 #![tactic(auto)]
 
+mod copies;
 pub mod fixing;
 mod found;
 mod four_to_seven;

@@ -23,7 +23,7 @@ use mv_seats::pass::Pass;
 use mv_values::list::List;
 use mv_values::memory::NoMemory;
 use mv_values::patch::Write;
-use mv_values::pred::Pred;
+use mv_values::pred_ref::PredRef;
 use mv_values::rows::{Database, Rows};
 use mv_values::tested::Tested;
 use mv_view::view::Refused;
@@ -99,7 +99,7 @@ impl<N: Making + Naming> PinnedShards<N> {
         board: &Board<N>,
         grace: &Grace<N>,
         start: &mut Pinned<N>,
-        pred: &Pred,
+        pred: &PredRef<'_>,
     ) -> Result<Rows, NoMemory>
         requires admitted { Admitted pred.now (rows_at (tables_at N.script start.old.start.knows.seen start.old.start.number) pred.now.table) }
         ensures found { IfOk result (λ rows. rows ≡ found_by pred.now (tables_at N.script start.old.start.knows.seen start.old.start.number)) }

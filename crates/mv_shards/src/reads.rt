@@ -25,7 +25,7 @@ use mv_seats::board::{Board, Making};
 use mv_seats::pass::Pass;
 use mv_table::scan::Direction;
 use mv_table::table::Table;
-use mv_values::pred::Pred;
+use mv_values::pred_ref::PredRef;
 use mv_values::rows::{Keyed, Rows};
 use mv_values::value::{Key, Row};
 use mv_view::key_set::KeySet;
@@ -43,7 +43,7 @@ fn gathered_rows<N: Making + Naming, L: ShardList<N>, R: Wait, W, P: Leave<N, W>
     pass: &mut Pass<N>,
     leave: &mut P,
     n: u32,
-    pred: &Pred,
+    pred: &PredRef<'_>,
 ) -> Result<Rows, Refused>
     requires all { L.numbers ≡ eight }
     requires may { MayRead N.script eight n pass.old }
@@ -71,7 +71,7 @@ pub(crate) fn rows_over<N: Making + Naming, L: ShardList<N>, R: Wait, W, P: Leav
     pass: &mut Pass<N>,
     leave: &mut P,
     n: u32,
-    pred: &Pred,
+    pred: &PredRef<'_>,
 ) -> Result<Rows, Refused>
     requires all { L.numbers ≡ eight }
     requires may { MayRead N.script eight n pass.old }
@@ -99,7 +99,7 @@ fn foremost_of_all<N: Making + Naming, L: ShardList<N>, R: Wait, K: KeySet, W, P
     pass: &mut Pass<N>,
     leave: &mut P,
     n: u32,
-    pred: &Pred,
+    pred: &PredRef<'_>,
     direction: Direction,
     passed: &K,
 ) -> Result<Option<Keyed>, Refused>
@@ -135,7 +135,7 @@ pub(crate) fn foremost_over<
     pass: &mut Pass<N>,
     leave: &mut P,
     n: u32,
-    pred: &Pred,
+    pred: &PredRef<'_>,
     direction: Direction,
     passed: &K,
 ) -> Result<Option<Keyed>, Refused>
@@ -193,7 +193,7 @@ pub(crate) fn match_over<N: Making + Naming, L: ShardList<N>, R: Wait, W, P: Lea
     pass: &mut Pass<N>,
     leave: &mut P,
     n: u32,
-    pred: &Pred,
+    pred: &PredRef<'_>,
     key: &Key,
 ) -> Result<Option<Row>, Refused>
     requires all { L.numbers ≡ eight }
@@ -204,7 +204,7 @@ pub(crate) fn match_over<N: Making + Naming, L: ShardList<N>, R: Wait, W, P: Lea
     ensures grown { HasGrown pass.old pass.new }
     ensures shown { P.shown leave.new ≡ P.shown leave.old }
 {
-    let shard = shard_of(pred.table, key);
+    let shard = shard_of(pred.table(), key);
     shards.match_of(rt, alloc, board, word, pass, leave, n, shard, pred, key)
 }
 
@@ -217,7 +217,7 @@ pub(crate) fn rows_from<N: Making + Naming, L: ShardList<N>, R: Wait, W, P: Leav
     word: &W,
     start: &mut Start<N>,
     leave: &mut P,
-    pred: &Pred,
+    pred: &PredRef<'_>,
 ) -> Result<Rows, Refused>
     requires all { L.numbers ≡ eight }
     requires admitted { Admitted pred.now (rows_at (tables_at N.script start.old.knows.seen start.old.number) pred.now.table) }

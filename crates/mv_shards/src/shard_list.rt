@@ -31,7 +31,7 @@ use mv_table::table::Table;
 use mv_values::list::List;
 use mv_values::memory::NoMemory;
 use mv_values::patch::Write;
-use mv_values::pred::Pred;
+use mv_values::pred_ref::PredRef;
 use mv_values::rows::{Database, Keyed, Rows};
 use mv_values::tested::Tested;
 use mv_values::value::{Key, Row};
@@ -74,7 +74,7 @@ pub(crate) trait ShardList<N: Making + Naming>: Drop {
         leave: &mut P,
         n: u32,
         shard: u32,
-        pred: &Pred,
+        pred: &PredRef<'_>,
     ) -> Result<Rows, Refused>
         requires may { MayRead N.script numbers n pass.old }
         requires admitted { Admitted pred.now (rows_at (tables_at N.script pass.old.seen n) pred.now.table) }
@@ -117,7 +117,7 @@ pub(crate) trait ShardList<N: Making + Naming>: Drop {
         leave: &mut P,
         n: u32,
         shard: u32,
-        pred: &Pred,
+        pred: &PredRef<'_>,
         key: &Key,
     ) -> Result<Option<Row>, Refused>
         requires may { MayRead N.script numbers n pass.old }
@@ -139,7 +139,7 @@ pub(crate) trait ShardList<N: Making + Naming>: Drop {
         leave: &mut P,
         n: u32,
         shard: u32,
-        pred: &Pred,
+        pred: &PredRef<'_>,
         direction: Direction,
         passed: &K,
     ) -> Result<Option<Keyed>, Refused>
@@ -162,7 +162,7 @@ pub(crate) trait ShardList<N: Making + Naming>: Drop {
         pass: &mut Pass<N>,
         leave: &mut P,
         n: u32,
-        pred: &Pred,
+        pred: &PredRef<'_>,
         found: &mut Table,
     ) -> Result<(), Refused>
         requires may { MayRead N.script numbers n pass.old }
@@ -229,7 +229,7 @@ fn read_shard<N: Making + Naming, const Q: u32, R: Wait, W, P: Leave<N, W>>(
     pass: &mut Pass<N>,
     leave: &mut P,
     n: u32,
-    pred: &Pred,
+    pred: &PredRef<'_>,
 ) -> Result<Rows, Refused>
     requires role { pass.old.role ≡ Plain }
     requires past { n ≤ length pass.old.seen }
@@ -273,7 +273,7 @@ impl<N: Making + Naming> ShardList<N> for ListEnd {
         _leave: &mut P,
         _n: u32,
         _shard: u32,
-        _pred: &Pred,
+        _pred: &PredRef<'_>,
     ) -> Result<Rows, Refused> {
         Ok(Rows::new(alloc))
     }
@@ -304,7 +304,7 @@ impl<N: Making + Naming> ShardList<N> for ListEnd {
         _leave: &mut P,
         _n: u32,
         _shard: u32,
-        _pred: &Pred,
+        _pred: &PredRef<'_>,
         _key: &Key,
     ) -> Result<Option<Row>, Refused> {
         Ok(None)
@@ -320,7 +320,7 @@ impl<N: Making + Naming> ShardList<N> for ListEnd {
         _leave: &mut P,
         _n: u32,
         _shard: u32,
-        _pred: &Pred,
+        _pred: &PredRef<'_>,
         _direction: Direction,
         _passed: &K,
     ) -> Result<Option<Keyed>, Refused> {
@@ -336,7 +336,7 @@ impl<N: Making + Naming> ShardList<N> for ListEnd {
         _pass: &mut Pass<N>,
         _leave: &mut P,
         _n: u32,
-        _pred: &Pred,
+        _pred: &PredRef<'_>,
         _found: &mut Table,
     ) -> Result<(), Refused> {
         Ok(())
@@ -378,7 +378,7 @@ impl<N: Making + Naming, const Q: u32, L: ShardList<N>> ShardList<N> for ShardNo
         leave: &mut P,
         n: u32,
         shard: u32,
-        pred: &Pred,
+        pred: &PredRef<'_>,
     ) -> Result<Rows, Refused> {
         if shard != Q {
             return self
@@ -421,7 +421,7 @@ impl<N: Making + Naming, const Q: u32, L: ShardList<N>> ShardList<N> for ShardNo
         leave: &mut P,
         n: u32,
         shard: u32,
-        pred: &Pred,
+        pred: &PredRef<'_>,
         key: &Key,
     ) -> Result<Option<Row>, Refused> {
         if shard != Q {
@@ -443,7 +443,7 @@ impl<N: Making + Naming, const Q: u32, L: ShardList<N>> ShardList<N> for ShardNo
         leave: &mut P,
         n: u32,
         shard: u32,
-        pred: &Pred,
+        pred: &PredRef<'_>,
         direction: Direction,
         passed: &K,
     ) -> Result<Option<Keyed>, Refused> {
@@ -465,7 +465,7 @@ impl<N: Making + Naming, const Q: u32, L: ShardList<N>> ShardList<N> for ShardNo
         pass: &mut Pass<N>,
         leave: &mut P,
         n: u32,
-        pred: &Pred,
+        pred: &PredRef<'_>,
         found: &mut Table,
     ) -> Result<(), Refused> {
         let rows = read_shard(&self.store, rt, alloc, board, word, pass, leave, n, pred)?;

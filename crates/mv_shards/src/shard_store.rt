@@ -17,6 +17,7 @@ ghost use Rattle.mv_shards.specs.Installing.{MayInstall, HasInstalled, HasNotIns
 ghost use Rattle.mv_shards.specs.Reads.{IsRefusal};
 ghost use Rattle.mv_shards.specs.Leaves.{IsLeave};
 
+use crate::copies::{copied_foremost, copied_match, copied_row, copied_rows};
 use crate::leave::{Leave, copy_of};
 use crate::notes::note;
 use crate::opening::part_of;
@@ -31,7 +32,7 @@ use mv_table::scan::Direction;
 use mv_values::list::List;
 use mv_values::memory::NoMemory;
 use mv_values::patch::Write;
-use mv_values::pred::Pred;
+use mv_values::pred_ref::PredRef;
 use mv_values::rows::{Database, Keyed, Rows};
 use mv_values::tested::Tested;
 use mv_values::value::{Key, Row};
@@ -188,7 +189,7 @@ impl<N: Making + Naming, const Q: u32> ShardStore<N, Q> {
         pass: &mut Pass<N>,
         leave: &mut P,
         n: u32,
-        pred: &Pred,
+        pred: &PredRef<'_>,
     ) -> Result<Rows, Refused>
         requires role { pass.old.role ≡ Plain }
         requires past { n ≤ length pass.old.seen }
@@ -201,7 +202,7 @@ impl<N: Making + Naming, const Q: u32> ShardStore<N, Q> {
         ensures shown { P.shown leave.new ≡ P.shown leave.old }
     {
         self.check_fresh(board, word, pass, leave, n)?;
-        self.store.rows_at(alloc, n, pred)
+        copied_rows(alloc, &self.store, n, pred)
     }
 
     /// Returns a copy of the shard's row under a key after n commits of the history that the pass has seen.
@@ -226,7 +227,7 @@ impl<N: Making + Naming, const Q: u32> ShardStore<N, Q> {
         ensures shown { P.shown leave.new ≡ P.shown leave.old }
     {
         self.check_fresh(board, word, pass, leave, n)?;
-        self.store.row_at(alloc, n, table, key)
+        copied_row(alloc, &self.store, n, table, key)
     }
 
     /// Returns a copy of the shard's row under a key after n commits of the history that the pass has seen, if the
@@ -239,7 +240,7 @@ impl<N: Making + Naming, const Q: u32> ShardStore<N, Q> {
         pass: &mut Pass<N>,
         leave: &mut P,
         n: u32,
-        pred: &Pred,
+        pred: &PredRef<'_>,
         key: &Key,
     ) -> Result<Option<Row>, Refused>
         requires role { pass.old.role ≡ Plain }
@@ -252,7 +253,7 @@ impl<N: Making + Naming, const Q: u32> ShardStore<N, Q> {
         ensures shown { P.shown leave.new ≡ P.shown leave.old }
     {
         self.check_fresh(board, word, pass, leave, n)?;
-        self.store.match_at(alloc, n, pred, key)
+        copied_match(alloc, &self.store, n, pred, key)
     }
 
     /// Returns a copy of the shard's first row in this direction that the predicate matches after n commits of the history
@@ -265,7 +266,7 @@ impl<N: Making + Naming, const Q: u32> ShardStore<N, Q> {
         pass: &mut Pass<N>,
         leave: &mut P,
         n: u32,
-        pred: &Pred,
+        pred: &PredRef<'_>,
         direction: Direction,
         passed: &K,
     ) -> Result<Option<Keyed>, Refused>
@@ -280,7 +281,7 @@ impl<N: Making + Naming, const Q: u32> ShardStore<N, Q> {
         ensures shown { P.shown leave.new ≡ P.shown leave.old }
     {
         self.check_fresh(board, word, pass, leave, n)?;
-        self.store.foremost_at(alloc, n, pred, direction, passed)
+        copied_foremost(alloc, &self.store, n, pred, direction, passed)
     }
 
     /// Appends a call, after the writes of it that are to this shard and the shards of `rest` were put, and then makes

@@ -27,14 +27,17 @@ use mv_grace::grace::{Grace, Naming};
 use mv_grace::note::FloorNote;
 use mv_seats::board::{Board, Making};
 use mv_seats::pass::Pass;
+use mv_table::found::{self, Found};
+use mv_table::found_rows::FoundRows;
 use mv_table::scan::Direction;
+use mv_values::lent::{self, Lent};
 use mv_values::list::List;
 use mv_values::memory::NoMemory;
 use mv_values::patch::Write;
-use mv_values::pred::Pred;
-use mv_values::rows::{Database, Keyed, Rows};
+use mv_values::pred_ref::PredRef;
+use mv_values::rows::{Database, Rows};
 use mv_values::tested::Tested;
-use mv_values::value::{Key, Row};
+use mv_values::value::Key;
 use mv_view::key_set::KeySet;
 use mv_view::view::Refused;
 use std::alloc::Global;
@@ -103,7 +106,7 @@ impl<N: Making + Naming> Shards<N> {
         alloc: Global,
         board: &Board<N>,
         start: &mut Start<N>,
-        pred: &Pred,
+        pred: &PredRef<'_>,
     ) -> Result<Rows, Refused>
         requires admitted { Admitted pred.now (rows_at (tables_at N.script start.old.knows.seen start.old.number) pred.now.table) }
         requires free { NeedPins N.script N.word → ⊥ }
@@ -125,7 +128,7 @@ impl<N: Making + Naming> Shards<N> {
         word: &W,
         start: &mut Start<N>,
         leave: &mut P,
-        pred: &Pred,
+        pred: &PredRef<'_>,
     ) -> Result<Rows, Refused>
         requires admitted { Admitted pred.now (rows_at (tables_at N.script start.old.knows.seen start.old.number) pred.now.table) }
         requires leave { IsLeave N.script N.word (P.shown leave.old) start.old.number }
@@ -140,7 +143,7 @@ impl<N: Making + Naming> Shards<N> {
     }
 
     /// Returns copies of the rows that the predicate matches after n commits of what the pass has seen.
-    pub(crate) fn rows_after<R: Wait, W, P: Leave<N, W>>(
+    pub(crate) fn rows_after<'s, R: Wait, W, P: Leave<N, W>>(
         &self,
         rt: &R,
         alloc: Global,
@@ -149,8 +152,8 @@ impl<N: Making + Naming> Shards<N> {
         pass: &mut Pass<N>,
         leave: &mut P,
         n: u32,
-        pred: &Pred,
-    ) -> Result<Rows, Refused>
+        pred: &PredRef<'_>,
+    ) -> Result<FoundRows<'s>, Refused>
         requires may { MayRead N.script eight n pass.old }
         requires admitted { Admitted pred.now (rows_at (tables_at N.script pass.old.seen n) pred.now.table) }
         requires leave { IsLeave N.script N.word (P.shown leave.old) n }
@@ -159,12 +162,14 @@ impl<N: Making + Naming> Shards<N> {
         ensures grown { HasGrown pass.old pass.new }
         ensures shown { P.shown leave.new ≡ P.shown leave.old }
     {
-        rows_over(&self.list, rt, alloc, board, word, pass, leave, n, pred)
+        let rows = rows_over(&self.list, rt, alloc, board, word, pass, leave, n, pred)?;
+        let rows = FoundRows::made(alloc, rows)?;
+        Ok(rows)
     }
 
     /// Returns a copy of the first row in this direction that the predicate matches after n commits of what the pass has
     /// seen and whose key isn't in `passed`.
-    pub(crate) fn foremost_after<R: Wait, K: KeySet, W, P: Leave<N, W>>(
+    pub(crate) fn foremost_after<'s, R: Wait, K: KeySet, W, P: Leave<N, W>>(
         &self,
         rt: &R,
         alloc: Global,
@@ -173,10 +178,10 @@ impl<N: Making + Naming> Shards<N> {
         pass: &mut Pass<N>,
         leave: &mut P,
         n: u32,
-        pred: &Pred,
+        pred: &PredRef<'_>,
         direction: Direction,
         passed: &K,
-    ) -> Result<Option<Keyed>, Refused>
+    ) -> Result<Option<Found<'s>>, Refused>
         requires may { MayRead N.script eight n pass.old }
         requires admitted { Admitted pred.now (rows_at (tables_at N.script pass.old.seen n) pred.now.table) }
         requires leave { IsLeave N.script N.word (P.shown leave.old) n }
@@ -185,13 +190,14 @@ impl<N: Making + Naming> Shards<N> {
         ensures grown { HasGrown pass.old pass.new }
         ensures shown { P.shown leave.new ≡ P.shown leave.old }
     {
-        foremost_over(
+        let row = foremost_over(
             &self.list, rt, alloc, board, word, pass, leave, n, pred, direction, passed,
-        )
+        )?;
+        Ok(found::made(row))
     }
 
     /// Returns a copy of the row under a key after n commits of what the pass has seen.
-    pub(crate) fn row_after<R: Wait, W, P: Leave<N, W>>(
+    pub(crate) fn row_after<'s, R: Wait, W, P: Leave<N, W>>(
         &self,
         rt: &R,
         alloc: Global,
@@ -202,7 +208,7 @@ impl<N: Making + Naming> Shards<N> {
         n: u32,
         table: u8,
         key: &Key,
-    ) -> Result<Option<Row>, Refused>
+    ) -> Result<Option<Lent<'s>>, Refused>
         requires may { MayRead N.script eight n pass.old }
         requires leave { IsLeave N.script N.word (P.shown leave.old) n }
         ensures found { IfOk result (λ row. row ≡ row_of (rows_at (tables_at N.script pass.old.seen n) table) key.now) }
@@ -210,13 +216,14 @@ impl<N: Making + Naming> Shards<N> {
         ensures grown { HasGrown pass.old pass.new }
         ensures shown { P.shown leave.new ≡ P.shown leave.old }
     {
-        row_over(
+        let row = row_over(
             &self.list, rt, alloc, board, word, pass, leave, n, table, key,
-        )
+        )?;
+        Ok(lent::made(row))
     }
 
     /// Returns a copy of the row under a key after n commits of what the pass has seen, if the predicate matches it.
-    pub(crate) fn match_after<R: Wait, W, P: Leave<N, W>>(
+    pub(crate) fn match_after<'s, R: Wait, W, P: Leave<N, W>>(
         &self,
         rt: &R,
         alloc: Global,
@@ -225,9 +232,9 @@ impl<N: Making + Naming> Shards<N> {
         pass: &mut Pass<N>,
         leave: &mut P,
         n: u32,
-        pred: &Pred,
+        pred: &PredRef<'_>,
         key: &Key,
-    ) -> Result<Option<Row>, Refused>
+    ) -> Result<Option<Lent<'s>>, Refused>
         requires may { MayRead N.script eight n pass.old }
         requires leave { IsLeave N.script N.word (P.shown leave.old) n }
         ensures found { IfOk result (λ row. row ≡ matched pred.now (row_of (rows_at (tables_at N.script pass.old.seen n) pred.now.table) key.now)) }
@@ -235,9 +242,10 @@ impl<N: Making + Naming> Shards<N> {
         ensures grown { HasGrown pass.old pass.new }
         ensures shown { P.shown leave.new ≡ P.shown leave.old }
     {
-        match_over(
+        let row = match_over(
             &self.list, rt, alloc, board, word, pass, leave, n, pred, key,
-        )
+        )?;
+        Ok(lent::made(row))
     }
 
     /// Drops the rows of each shard before commit `low`, or before the shard's last commit less the horizon if that is

@@ -15,10 +15,12 @@ use crate::start::Start;
 use mv_grace::grace::Naming;
 use mv_seats::board::{Board, Making};
 use mv_seats::pass::Pass;
+use mv_table::found::Found;
+use mv_table::found_rows::FoundRows;
 use mv_table::scan::Direction;
-use mv_values::pred::Pred;
-use mv_values::rows::{Keyed, Rows};
-use mv_values::value::{Key, Row};
+use mv_values::lent::Lent;
+use mv_values::pred_ref::PredRef;
+use mv_values::value::Key;
 use mv_view::key_set::KeySet;
 use mv_view::view::{Refused, View};
 use std::alloc::Global;
@@ -176,10 +178,10 @@ fn count(answers: &mut u64, last_low: &mut u32, refused: Refused)
     }
 }
 
-impl<'a, N: Making + Naming, W, P: Leave<N, W>, R: Wait> View for ReaderView<'a, N, W, P, R> {
+impl<'a, N: Making + Naming, W, P: Leave<N, W>, R: Wait> View<'a> for ReaderView<'a, N, W, P, R> {
     ghost sight = { λ v. v.sight };
 
-    fn rows(&mut self, alloc: Global, pred: &Pred) -> Result<Rows, Refused> {
+    fn rows(&mut self, alloc: Global, pred: &PredRef<'_>) -> Result<FoundRows<'a>, Refused> {
         self.rows_calls = self.rows_calls.saturating_add(1);
         match self.shards.rows_after(
             self.rt,
@@ -202,10 +204,10 @@ impl<'a, N: Making + Naming, W, P: Leave<N, W>, R: Wait> View for ReaderView<'a,
     fn foremost<K: KeySet>(
         &mut self,
         alloc: Global,
-        pred: &Pred,
+        pred: &PredRef<'_>,
         direction: Direction,
         passed: &K,
-    ) -> Result<Option<Keyed>, Refused> {
+    ) -> Result<Option<Found<'a>>, Refused> {
         self.rows_calls = self.rows_calls.saturating_add(1);
         match self.shards.foremost_after(
             self.rt,
@@ -230,9 +232,9 @@ impl<'a, N: Making + Naming, W, P: Leave<N, W>, R: Wait> View for ReaderView<'a,
     fn match_under(
         &mut self,
         alloc: Global,
-        pred: &Pred,
+        pred: &PredRef<'_>,
         key: &Key,
-    ) -> Result<Option<Row>, Refused> {
+    ) -> Result<Option<Lent<'a>>, Refused> {
         self.rows_calls = self.rows_calls.saturating_add(1);
         match self.shards.match_after(
             self.rt,
@@ -253,7 +255,7 @@ impl<'a, N: Making + Naming, W, P: Leave<N, W>, R: Wait> View for ReaderView<'a,
         }
     }
 
-    fn row(&mut self, alloc: Global, table: u8, key: &Key) -> Result<Option<Row>, Refused> {
+    fn row(&mut self, alloc: Global, table: u8, key: &Key) -> Result<Option<Lent<'a>>, Refused> {
         self.row_calls = self.row_calls.saturating_add(1);
         match self.shards.row_after(
             self.rt,

@@ -21,15 +21,18 @@ use crate::write::put_write;
 use crate::written_keys::WrittenKeys;
 use mv_chain::chain::Chain;
 use mv_index::view::IndexView;
+use mv_table::found::Found;
+use mv_table::found_rows::FoundRows;
 use mv_table::key_map::KeyMap;
 use mv_table::scan::Direction;
+use mv_values::lent::Lent;
 use mv_values::list::List;
 use mv_values::memory::NoMemory;
 use mv_values::patch::Write;
-use mv_values::pred::Pred;
-use mv_values::rows::{Database, Keyed, Rows};
+use mv_values::pred_ref::PredRef;
+use mv_values::rows::Database;
 use mv_values::tested::Tested;
-use mv_values::value::{Key, Row};
+use mv_values::value::Key;
 use mv_view::key_set::KeySet;
 use mv_view::view::{Refused, View};
 use std::alloc::Global;
@@ -91,11 +94,16 @@ impl Store {
         self.low
     }
 
-    /// Returns copies of the rows that the predicate matches after commit n, in key order. Each such row must be under
+    /// Returns the rows that the predicate matches after commit n, in key order. Each such row must be under
     /// a key that the predicate admits. Fails with `Stale` exactly if n is below the store's low, and with `NoMemory`
     /// if memory runs out. It visits only the keys in the span of the predicate's tests, and copies only the rows that
     /// match.
-    pub fn rows_at(&self, alloc: Global, n: u32, pred: &Pred) -> Result<Rows, Refused>
+    pub fn rows_at(
+        &self,
+        alloc: Global,
+        n: u32,
+        pred: &PredRef<'_>,
+    ) -> Result<FoundRows<'_>, Refused>
         requires { Admitted pred.now (rows_at (database_at self.now n) pred.now.table) }
         ensures found { IfOk result (λ rows. rows ≡ found_by pred.now (database_at self.now n)) }
         ensures stale { n < self.now.low → result ≡ Err (Stale n self.now.low) }
@@ -105,7 +113,7 @@ impl Store {
         self.find(alloc, n, pred)
     }
 
-    /// Returns a copy of the first row in this direction that the predicate matches after commit n and whose key isn't
+    /// Returns the first row in this direction that the predicate matches after commit n and whose key isn't
     /// in `passed`, if there is one. Each row that the predicate matches must be under a key that it admits. Fails with
     /// `Stale` exactly if n is below the store's low, and with `NoMemory` if memory runs out. Of the keys in the span of
     /// the predicate's tests it visits those up to that row.
@@ -113,10 +121,10 @@ impl Store {
         &self,
         alloc: Global,
         n: u32,
-        pred: &Pred,
+        pred: &PredRef<'_>,
         direction: Direction,
         passed: &K,
-    ) -> Result<Option<Keyed>, Refused>
+    ) -> Result<Option<Found<'_>>, Refused>
         requires { Admitted pred.now (rows_at (database_at self.now n) pred.now.table) }
         ensures found { IfOk result (λ row. row ≡ foremost direction (outside (K.has passed.now) (found_by pred.now (database_at self.now n)))) }
         ensures stale { n < self.now.low → result ≡ Err (Stale n self.now.low) }
@@ -126,16 +134,16 @@ impl Store {
         self.find_foremost(alloc, n, pred, direction, passed)
     }
 
-    /// Returns a copy of the row under a key of the predicate's table after commit n, if there is one and the predicate
+    /// Returns the row under a key of the predicate's table after commit n, if there is one and the predicate
     /// matches it. Fails with `Stale` exactly if n is below the store's low, and with `NoMemory` if memory runs out. Takes
     /// as long as `row_at`, and copies only a row that matches.
     pub fn match_at(
         &self,
         alloc: Global,
         n: u32,
-        pred: &Pred,
+        pred: &PredRef<'_>,
         key: &Key,
-    ) -> Result<Option<Row>, Refused>
+    ) -> Result<Option<Lent<'_>>, Refused>
         ensures found { IfOk result (λ row. row ≡ matched pred.now (row_of (rows_at (database_at self.now n) pred.now.table) key.now)) }
         ensures stale { n < self.now.low → result ≡ Err (Stale n self.now.low) }
         ensures fresh { self.now.low ≤ n → IfErr result (λ e. e ≡ Wanting) }
@@ -144,7 +152,7 @@ impl Store {
         self.find_match(alloc, n, pred, key)
     }
 
-    /// Returns a copy of the row under a key of a table after commit n, if there is one. Fails with `Stale` exactly if
+    /// Returns the row under a key of a table after commit n, if there is one. Fails with `Stale` exactly if
     /// n is below the store's low, and with `NoMemory` if memory runs out. Takes time logarithmic in the number of
     /// rows, and linear in the size of the row and of its later patches.
     pub fn row_at(
@@ -153,7 +161,7 @@ impl Store {
         n: u32,
         table: u8,
         key: &Key,
-    ) -> Result<Option<Row>, Refused>
+    ) -> Result<Option<Lent<'_>>, Refused>
         ensures found { IfOk result (λ row. row ≡ row_of (rows_at (database_at self.now n) table) key.now) }
         ensures stale { n < self.now.low → result ≡ Err (Stale n self.now.low) }
         ensures fresh { self.now.low ≤ n → IfErr result (λ e. e ≡ Wanting) }
@@ -186,7 +194,7 @@ impl Store {
         Ok(())
     }
 
-    fn find(&self, alloc: Global, n: u32, pred: &Pred) -> Result<Rows, Refused>
+    fn find(&self, alloc: Global, n: u32, pred: &PredRef<'_>) -> Result<FoundRows<'_>, Refused>
         requires { Admitted pred.now (rows_at (database_at self.now n) pred.now.table) }
         ensures found { IfOk result (λ rows. rows ≡ found_by pred.now (database_at self.now n)) }
         ensures memory { IfErr result (λ e. e ≡ Wanting) }
@@ -200,10 +208,10 @@ impl Store {
         &self,
         alloc: Global,
         n: u32,
-        pred: &Pred,
+        pred: &PredRef<'_>,
         direction: Direction,
         passed: &K,
-    ) -> Result<Option<Keyed>, Refused>
+    ) -> Result<Option<Found<'_>>, Refused>
         requires { Admitted pred.now (rows_at (database_at self.now n) pred.now.table) }
         ensures found { IfOk result (λ row. row ≡ foremost direction (outside (K.has passed.now) (found_by pred.now (database_at self.now n)))) }
         ensures memory { IfErr result (λ e. e ≡ Wanting) }
@@ -217,9 +225,9 @@ impl Store {
         &self,
         alloc: Global,
         n: u32,
-        pred: &Pred,
+        pred: &PredRef<'_>,
         key: &Key,
-    ) -> Result<Option<Row>, Refused>
+    ) -> Result<Option<Lent<'_>>, Refused>
         ensures found { IfOk result (λ row. row ≡ matched pred.now (row_of (rows_at (database_at self.now n) pred.now.table) key.now)) }
         ensures memory { IfErr result (λ e. e ≡ Wanting) }
     {
@@ -227,7 +235,13 @@ impl Store {
         tables.match_under(alloc, pred, key)
     }
 
-    fn find_row(&self, alloc: Global, n: u32, table: u8, key: &Key) -> Result<Option<Row>, Refused>
+    fn find_row(
+        &self,
+        alloc: Global,
+        n: u32,
+        table: u8,
+        key: &Key,
+    ) -> Result<Option<Lent<'_>>, Refused>
         ensures found { IfOk result (λ row. row ≡ row_of (rows_at (database_at self.now n) table) key.now) }
         ensures memory { IfErr result (λ e. e ≡ Wanting) }
     {

@@ -13,12 +13,14 @@ ghost use Rattle.mv_store.specs.Kept.{AllRise};
 
 use crate::find::{find, find_foremost, find_match, find_row};
 use mv_chain::chain::Chain;
+use mv_table::found::Found;
+use mv_table::found_rows::FoundRows;
 use mv_table::key_map::KeyMap;
 use mv_table::scan::Direction;
+use mv_values::lent::Lent;
 use mv_values::memory::NoMemory;
-use mv_values::pred::Pred;
-use mv_values::rows::{Keyed, Rows};
-use mv_values::value::{Key, Row};
+use mv_values::pred_ref::PredRef;
+use mv_values::value::Key;
 use mv_view::key_set::KeySet;
 use mv_view::view::{Refused, View};
 use std::alloc::Global;
@@ -60,42 +62,47 @@ impl<'a> TablesView<'a> {
         }
     }
 
-    fn find(&self, alloc: Global, pred: &Pred) -> Result<Rows, NoMemory>
+    fn find(&self, alloc: Global, pred: &PredRef<'_>) -> Result<FoundRows<'a>, NoMemory>
         requires { Admitted pred.now (rows_at self.now.database pred.now.table) }
         ensures { IfOk result (λ rows. rows ≡ found_by pred.now self.now.database) }
     {
-        match self.tables.get(pred.table as usize) {
+        match self.tables.get(pred.table() as usize) {
             Some(table) => find(alloc, table, self.n, pred),
-            None => Ok(Rows::new(alloc)),
+            None => Ok(FoundRows::new(alloc)),
         }
     }
 
     fn find_foremost<K: KeySet>(
         &self,
         alloc: Global,
-        pred: &Pred,
+        pred: &PredRef<'_>,
         direction: Direction,
         passed: &K,
-    ) -> Result<Option<Keyed>, NoMemory>
+    ) -> Result<Option<Found<'a>>, NoMemory>
         requires { Admitted pred.now (rows_at self.now.database pred.now.table) }
         ensures { IfOk result (λ row. row ≡ foremost direction (outside (K.has passed.now) (found_by pred.now self.now.database))) }
     {
-        match self.tables.get(pred.table as usize) {
+        match self.tables.get(pred.table() as usize) {
             Some(table) => find_foremost(alloc, table, self.n, pred, direction, passed),
             None => Ok(None),
         }
     }
 
-    fn find_match(&self, alloc: Global, pred: &Pred, key: &Key) -> Result<Option<Row>, NoMemory>
+    fn find_match(
+        &self,
+        alloc: Global,
+        pred: &PredRef<'_>,
+        key: &Key,
+    ) -> Result<Option<Lent<'a>>, NoMemory>
         ensures { IfOk result (λ row. row ≡ matched pred.now (row_of (rows_at self.now.database pred.now.table) key.now)) }
     {
-        match self.tables.get(pred.table as usize) {
+        match self.tables.get(pred.table() as usize) {
             Some(table) => find_match(alloc, table, self.n, pred, key),
             None => Ok(None),
         }
     }
 
-    fn find_row(&self, alloc: Global, table: u8, key: &Key) -> Result<Option<Row>, NoMemory>
+    fn find_row(&self, alloc: Global, table: u8, key: &Key) -> Result<Option<Lent<'a>>, NoMemory>
         ensures { IfOk result (λ row. row ≡ row_of (rows_at self.now.database table) key.now) }
     {
         match self.tables.get(table as usize) {
@@ -105,10 +112,10 @@ impl<'a> TablesView<'a> {
     }
 }
 
-impl<'a> View for TablesView<'a> {
+impl<'a> View<'a> for TablesView<'a> {
     ghost sight = { λ v. v };
 
-    fn rows(&mut self, alloc: Global, pred: &Pred) -> Result<Rows, Refused> {
+    fn rows(&mut self, alloc: Global, pred: &PredRef<'_>) -> Result<FoundRows<'a>, Refused> {
         self.rows_calls = self.rows_calls.saturating_add(1);
         match self.find(alloc, pred) {
             Ok(rows) => Ok(rows),
@@ -119,10 +126,10 @@ impl<'a> View for TablesView<'a> {
     fn foremost<K: KeySet>(
         &mut self,
         alloc: Global,
-        pred: &Pred,
+        pred: &PredRef<'_>,
         direction: Direction,
         passed: &K,
-    ) -> Result<Option<Keyed>, Refused> {
+    ) -> Result<Option<Found<'a>>, Refused> {
         self.rows_calls = self.rows_calls.saturating_add(1);
         match self.find_foremost(alloc, pred, direction, passed) {
             Ok(row) => Ok(row),
@@ -133,9 +140,9 @@ impl<'a> View for TablesView<'a> {
     fn match_under(
         &mut self,
         alloc: Global,
-        pred: &Pred,
+        pred: &PredRef<'_>,
         key: &Key,
-    ) -> Result<Option<Row>, Refused> {
+    ) -> Result<Option<Lent<'a>>, Refused> {
         self.rows_calls = self.rows_calls.saturating_add(1);
         match self.find_match(alloc, pred, key) {
             Ok(row) => Ok(row),
@@ -143,7 +150,7 @@ impl<'a> View for TablesView<'a> {
         }
     }
 
-    fn row(&mut self, alloc: Global, table: u8, key: &Key) -> Result<Option<Row>, Refused> {
+    fn row(&mut self, alloc: Global, table: u8, key: &Key) -> Result<Option<Lent<'a>>, Refused> {
         self.row_calls = self.row_calls.saturating_add(1);
         match self.find_row(alloc, table, key) {
             Ok(row) => Ok(row),

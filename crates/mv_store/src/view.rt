@@ -14,10 +14,12 @@ ghost use Rattle.mv_view.specs.Viewing.{Sight, with_rows_call, with_row_call, an
 ghost use Rattle.mv_store.specs.Stored.{database_at};
 
 use crate::store::Store;
+use mv_table::found::Found;
+use mv_table::found_rows::FoundRows;
 use mv_table::scan::Direction;
-use mv_values::pred::Pred;
-use mv_values::rows::{Keyed, Rows};
-use mv_values::value::{Key, Row};
+use mv_values::lent::Lent;
+use mv_values::pred_ref::PredRef;
+use mv_values::value::Key;
 use mv_view::key_set::KeySet;
 use mv_view::view::{Refused, View};
 use std::alloc::Global;
@@ -75,10 +77,10 @@ impl<'a> StoreView<'a> {
     }
 }
 
-impl<'a> View for StoreView<'a> {
+impl<'a> View<'a> for StoreView<'a> {
     ghost sight = { λ v. v };
 
-    fn rows(&mut self, alloc: Global, pred: &Pred) -> Result<Rows, Refused>
+    fn rows(&mut self, alloc: Global, pred: &PredRef<'_>) -> Result<FoundRows<'a>, Refused>
         requires { Admitted pred.now (rows_at self.old.database pred.now.table) }
         ensures found { IfOk result (λ rows. rows ≡ found_by pred.now self.old.database) }
         ensures counts { self.new ≡ answered result (with_rows_call self.old) }
@@ -98,10 +100,10 @@ impl<'a> View for StoreView<'a> {
     fn foremost<K: KeySet>(
         &mut self,
         alloc: Global,
-        pred: &Pred,
+        pred: &PredRef<'_>,
         direction: Direction,
         passed: &K,
-    ) -> Result<Option<Keyed>, Refused>
+    ) -> Result<Option<Found<'a>>, Refused>
         requires { Admitted pred.now (rows_at self.old.database pred.now.table) }
         ensures found { IfOk result (λ row. row ≡ foremost direction (outside (K.has passed.now) (found_by pred.now self.old.database))) }
         ensures counts { self.new ≡ answered result (with_rows_call self.old) }
@@ -121,7 +123,12 @@ impl<'a> View for StoreView<'a> {
         }
     }
 
-    fn match_under(&mut self, alloc: Global, pred: &Pred, key: &Key) -> Result<Option<Row>, Refused>
+    fn match_under(
+        &mut self,
+        alloc: Global,
+        pred: &PredRef<'_>,
+        key: &Key,
+    ) -> Result<Option<Lent<'a>>, Refused>
         ensures found { IfOk result (λ row. row ≡ matched pred.now (row_of (rows_at self.old.database pred.now.table) key.now)) }
         ensures counts { self.new ≡ answered result (with_rows_call self.old) }
         ensures stale { MayAnswer self.old self.new result }
@@ -137,7 +144,7 @@ impl<'a> View for StoreView<'a> {
         }
     }
 
-    fn row(&mut self, alloc: Global, table: u8, key: &Key) -> Result<Option<Row>, Refused>
+    fn row(&mut self, alloc: Global, table: u8, key: &Key) -> Result<Option<Lent<'a>>, Refused>
         ensures found { IfOk result (λ row. row ≡ row_of (rows_at self.old.database table) key.now) }
         ensures counts { self.new ≡ answered result (with_row_call self.old) }
         ensures stale { MayAnswer self.old self.new result }

@@ -2,3 +2,5 @@ pub mod Spans
 pub mod Entries
 pub mod Lending
 pub mod Scans
+pub mod Finding
+pub mod FoundRows

@@ -10,7 +10,7 @@ use crate::links::{Link, is_sought};
 use crate::lookup::write_at;
 use crate::owned::Owned;
 use mv_table::scan::Direction;
-use mv_values::pred::Pred;
+use mv_values::pred_ref::PredRef;
 use mv_values::value::Key;
 use std::marker::Model;
 
@@ -21,7 +21,7 @@ fn first_sought<'a>(
     links: &[Link],
     places: &'a [usize],
     number: usize,
-    pred: &Pred,
+    pred: &PredRef<'_>,
     direction: Direction,
 ) -> Option<(&'a Key, &'a [usize])>
     requires linked { IsLinked items.now links.now }
@@ -47,7 +47,7 @@ pub struct SoughtKeys<'a> {
     links: &'a [Link],
     places: &'a [usize],
     number: usize,
-    pred: &'a Pred,
+    pred: &'a PredRef<'a>,
 }
 
 impl<'a> Model for SoughtKeys<'a> {
@@ -71,7 +71,7 @@ impl<'a> SoughtKeys<'a> {
         links: &'a [Link],
         places: &'a [usize],
         number: usize,
-        pred: &'a Pred,
+        pred: &'a PredRef<'a>,
     ) -> SoughtKeys<'a>
         requires linked { IsLinked items.now links.now }
         requires numbers { IsInOrder items.now }

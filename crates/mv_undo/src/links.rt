@@ -8,7 +8,7 @@ ghost use Rattle.mv_undo.specs.Taking.{is_sought_at};
 
 use crate::lookup::write_at;
 use crate::owned::Owned;
-use mv_values::pred::Pred;
+use mv_values::pred_ref::PredRef;
 
 /// Where the earlier writes to the key of a write are.
 #[derive(Clone, Copy)]
@@ -123,7 +123,7 @@ pub(crate) fn is_sought(
     links: &[Link],
     place: usize,
     number: usize,
-    pred: &Pred,
+    pred: &PredRef<'_>,
 ) -> bool
     requires linked { IsLinked items.now links.now }
     requires numbers { IsInOrder items.now }
@@ -131,7 +131,8 @@ pub(crate) fn is_sought(
     ensures { result ≡ is_sought_at pred.now number items.now place }
 {
     let write = &write_at(items, place).write;
-    if write.table != pred.table {
+    let table = pred.table();
+    if write.table != table {
         return false;
     }
     if last_before(items, links, Some(place), number).is_none() {

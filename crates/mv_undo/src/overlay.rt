@@ -11,13 +11,13 @@ use crate::merge::Merge;
 use crate::undo::Undo;
 use mv_record::applying::find_row;
 use mv_values::memory::NoMemory;
-use mv_values::pred::Pred;
+use mv_values::pred_ref::PredRef;
 use mv_values::rows::Rows;
 use mv_values::value::{Key, Row};
 use std::alloc::Global;
 
 /// Returns the row if the predicate matches it.
-fn matched(pred: &Pred, row: Option<Row>) -> Option<Row>
+fn matched(pred: &PredRef<'_>, row: Option<Row>) -> Option<Row>
     ensures { result ≡ matched pred.now row }
 {
     match row {
@@ -34,7 +34,7 @@ impl Undo {
         &self,
         alloc: Global,
         number: usize,
-        pred: &Pred,
+        pred: &PredRef<'_>,
         keys: &[Key],
         rows: Rows,
         own: Rows,
@@ -44,7 +44,7 @@ impl Undo {
     {
         let mut merge = Merge::of(alloc, rows);
         for key in keys {
-            let row = self.row_behind(alloc, number, pred.table, key, find_row(&own, key))?;
+            let row = self.row_behind(alloc, number, pred.table(), key, find_row(&own, key))?;
             merge.put(alloc, key, matched(pred, row))?;
         }
         merge.into_rows()

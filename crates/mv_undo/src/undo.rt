@@ -19,7 +19,7 @@ use mv_values::copied::Copied;
 use mv_values::list::List;
 use mv_values::memory::NoMemory;
 use mv_values::patch::{Patch, Write};
-use mv_values::pred::Pred;
+use mv_values::pred_ref::PredRef;
 use mv_values::value::{Key, Row};
 use std::alloc::Global;
 use std::marker::Model;
@@ -152,7 +152,12 @@ impl Undo {
     /// Returns the keys of the predicate's table that records below `number` wrote and that the predicate admits, each
     /// once, in order. Fails if memory runs out. Costs a step for each written key in the span that the predicate's
     /// tests leave, and the logarithm of the number of writes to it.
-    pub fn keys(&self, alloc: Global, number: usize, pred: &Pred) -> Result<List<Key>, NoMemory>
+    pub fn keys(
+        &self,
+        alloc: Global,
+        number: usize,
+        pred: &PredRef<'_>,
+    ) -> Result<List<Key>, NoMemory>
         ensures { IfOk result (λ keys. AreSought pred.now (earlier number self.now) keys) }
     {
         let mut sought = self.sought_keys(alloc, number, pred)?;
@@ -169,13 +174,13 @@ impl Undo {
         &'a self,
         alloc: Global,
         number: usize,
-        pred: &'a Pred,
+        pred: &'a PredRef<'a>,
     ) -> Result<SoughtKeys<'a>, NoMemory>
         ensures { IfOk result (λ keys. AreSought pred.now (earlier number self.now) keys) }
     {
-        let span = Span::of(alloc, pred.tests.as_slice())?;
+        let span = Span::of(alloc, pred.tests())?;
         let items = self.items.as_slice();
-        let places = places_in(items, self.order.as_slice(), pred.table, &span);
+        let places = places_in(items, self.order.as_slice(), pred.table(), &span);
         let links = self.links.as_slice();
         Ok(SoughtKeys::new(items, links, places, number, pred))
     }

@@ -151,7 +151,7 @@ fn reads(alloc: Global, chain: &Chain, n: u32, want: Plain) -> Result<bool, NoMe
     let row = chain.row_at(alloc, n)?;
     match (row, want) {
         (Some(row), Some(numbers)) => {
-            Ok(has_numbers(&row, numbers) && chain.exists_at(n) && lends(chain, n, &row))
+            Ok(has_numbers(row.get(), numbers) && chain.exists_at(n) && lends(chain, n, row.get()))
         }
         (None, None) => Ok(!chain.exists_at(n)),
         _ => Ok(false),

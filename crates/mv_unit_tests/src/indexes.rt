@@ -14,13 +14,17 @@ use mv_index::cover::cover;
 use mv_index::index::Index;
 use mv_index::view::IndexView;
 use mv_record::applying::put_row;
+use mv_table::found::Found;
+use mv_table::found_rows::FoundRows;
 use mv_table::scan::Direction;
 use mv_values::copied::Copied;
+use mv_values::lent::Lent;
 use mv_values::list::List;
 use mv_values::memory::NoMemory;
 use mv_values::op::Op;
 use mv_values::pred::{Pred, Test};
-use mv_values::rows::{Database, Keyed, Rows};
+use mv_values::pred_ref::PredRef;
+use mv_values::rows::{Database, Rows};
 use mv_values::tested::Tested;
 use mv_values::value::{Key, Row, Value};
 use mv_view::key_set::KeySet;
@@ -87,10 +91,10 @@ struct Counted<'a> {
     row_calls: u32,
 }
 
-impl<'a> View for Counted<'a> {
+impl<'a> View<'a> for Counted<'a> {
     ghost sight = { λ c. c.plain };
 
-    fn rows(&mut self, alloc: Global, pred: &Pred) -> Result<Rows, Refused> {
+    fn rows(&mut self, alloc: Global, pred: &PredRef<'_>) -> Result<FoundRows<'a>, Refused> {
         self.rows_calls = self.rows_calls.saturating_add(1);
         self.plain.rows(alloc, pred)
     }
@@ -98,10 +102,10 @@ impl<'a> View for Counted<'a> {
     fn foremost<K: KeySet>(
         &mut self,
         alloc: Global,
-        pred: &Pred,
+        pred: &PredRef<'_>,
         direction: Direction,
         passed: &K,
-    ) -> Result<Option<Keyed>, Refused> {
+    ) -> Result<Option<Found<'a>>, Refused> {
         self.rows_calls = self.rows_calls.saturating_add(1);
         self.plain.foremost(alloc, pred, direction, passed)
     }
@@ -109,14 +113,14 @@ impl<'a> View for Counted<'a> {
     fn match_under(
         &mut self,
         alloc: Global,
-        pred: &Pred,
+        pred: &PredRef<'_>,
         key: &Key,
-    ) -> Result<Option<Row>, Refused> {
+    ) -> Result<Option<Lent<'a>>, Refused> {
         self.rows_calls = self.rows_calls.saturating_add(1);
         self.plain.match_under(alloc, pred, key)
     }
 
-    fn row(&mut self, alloc: Global, table: u8, key: &Key) -> Result<Option<Row>, Refused> {
+    fn row(&mut self, alloc: Global, table: u8, key: &Key) -> Result<Option<Lent<'a>>, Refused> {
         self.row_calls = self.row_calls.saturating_add(1);
         self.plain.row(alloc, table, key)
     }
@@ -161,12 +165,12 @@ const ASKED: &[Asked] = &[
 ];
 
 /// Returns the rows that a view finds through an index.
-fn counted_rows(
+fn counted_rows<'a>(
     alloc: Global,
-    index: &Index,
-    inner: &mut Counted,
-    pred: &Pred,
-) -> Result<Rows, Refused>
+    index: &'a Index,
+    inner: &mut Counted<'a>,
+    pred: &PredRef<'_>,
+) -> Result<FoundRows<'a>, Refused>
     requires covers { Covers index.now inner.old.plain.database }
     requires rising { AreRising inner.old.plain.database }
     requires admitted { Admitted pred.now (rows_at inner.old.plain.database pred.now.table) }
@@ -181,6 +185,7 @@ fn asks(alloc: Global, index: &Index, tables: &Database, case: &Asked) -> Result
 {
     let (tests, found, counts) = *case;
     let pred = pred(alloc, 1, tests)?;
+    let pred = PredRef::of(&pred);
     if !has_admitted(&pred, tables) {
         return Err("a row that the predicate doesn't admit".into());
     }
@@ -433,7 +438,7 @@ fn add_others(alloc: Global, index: &mut Index, random: &mut SplitMix64) -> Resu
 }
 
 /// Whether a view finds the same rows with an index as without one.
-fn finds_rows(alloc: Global, index: &Index, tables: &Database, pred: &Pred) -> bool
+fn finds_rows(alloc: Global, index: &Index, tables: &Database, pred: &PredRef<'_>) -> bool
     requires covers { Covers index.now tables.now }
     requires rising { AreRising tables.now }
     requires admitted { Admitted pred.now (rows_at tables.now pred.now.table) }
@@ -447,7 +452,7 @@ fn finds_rows(alloc: Global, index: &Index, tables: &Database, pred: &Pred) -> b
     }
 }
 
-fn is_same_end(found: &Option<Keyed>, want: &Option<Keyed>) -> bool {
+fn is_same_end(found: &Option<Found<'_>>, want: &Option<Found<'_>>) -> bool {
     match (found, want) {
         (Some(item), Some(other)) => is_same(item, other),
         (None, None) => true,
@@ -460,9 +465,9 @@ fn finds_end(
     alloc: Global,
     index: &Index,
     tables: &Database,
-    pred: &Pred,
+    pred: &PredRef<'_>,
     direction: Direction,
-    passed: &Pred,
+    passed: &PredRef<'_>,
 ) -> bool
     requires covers { Covers index.now tables.now }
     requires rising { AreRising tables.now }
@@ -485,8 +490,10 @@ fn finds_all(alloc: Global, index: &Index, tables: &Database) -> Result<bool, Fa
     requires rising { AreRising tables.now }
 {
     let passed = pred(alloc, 2, &[(1, Op::Ge, 2)])?;
+    let passed = PredRef::of(&passed);
     for tests in TESTS {
         let pred = pred(alloc, 2, tests)?;
+        let pred = PredRef::of(&pred);
         if !has_admitted(&pred, tables) {
             return Err("a row that the predicate doesn't admit".into());
         }

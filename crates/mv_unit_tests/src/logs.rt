@@ -3,7 +3,7 @@
 use crate::cases::ensure_at;
 use crate::values::{key, row};
 use mv_log::log::Log;
-use mv_log::pred_ref::{PredRef, Preds};
+use mv_log::pred_ref::Preds;
 use mv_log::record_ref::RecordRef;
 use mv_log::records::Records;
 use mv_log::var_read::VarRead;
@@ -12,6 +12,7 @@ use mv_values::calls::End;
 use mv_values::op::Op;
 use mv_values::patch::{Patch, Write};
 use mv_values::pred::Test;
+use mv_values::pred_ref::PredRef;
 use mv_values::txt::Txt;
 use mv_values::value::{Row, Value};
 use std::alloc::Global;

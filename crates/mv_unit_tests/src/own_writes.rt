@@ -5,13 +5,15 @@ ghost use Rattle.std.specs.Prelude.{◌↔◌, ◌≤◌, IsTrue, All};
 use crate::cases::ensure_at;
 use crate::values::{key, row};
 use mv_record::applying::put_row;
+use mv_table::table::Stored;
 use mv_undo::owned::Owned;
 use mv_undo::undo::Undo;
 use mv_values::list::List;
 use mv_values::memory::NoMemory;
 use mv_values::patch::{Assign, Patch, Write};
 use mv_values::pred::Pred;
-use mv_values::rows::{Keyed, Rows};
+use mv_values::pred_ref::PredRef;
+use mv_values::rows::Rows;
 use mv_values::value::{Value, are_same};
 use std::alloc::Global;
 use std::test::Fail;
@@ -224,12 +226,12 @@ fn rows_of(alloc: Global, numbers: Numbers, own: Option<(&Undo, usize)>) -> Resu
     Ok(rows)
 }
 
-pub(crate) fn is_same(item: &Keyed, other: &Keyed) -> bool {
-    item.key == other.key && are_same(item.row.as_slice(), other.row.as_slice())
+pub(crate) fn is_same<S: Stored>(item: &S, other: &S) -> bool {
+    item.key() == other.key() && are_same(item.row().as_slice(), other.row().as_slice())
 }
 
 /// Whether two lists have equal rows.
-pub(crate) fn are_equal(rows: &[Keyed], want: &[Keyed]) -> bool {
+pub(crate) fn are_equal<S: Stored>(rows: &[S], want: &[S]) -> bool {
     rows.len() == want.len()
         && rows
             .iter()
@@ -246,8 +248,15 @@ fn sees(alloc: Global, undo: &Undo, number: usize, want: Numbers) -> Result<bool
     };
     let rows = rows_of(alloc, BEFORE, None)?;
     let own = rows_of(alloc, BEFORE, Some((undo, number)))?;
-    let keys = undo.keys(alloc, number, &pred)?;
-    let seen = undo.overlay(alloc, number, &pred, keys.as_slice(), rows, own)?;
+    let keys = undo.keys(alloc, number, &PredRef::of(&pred))?;
+    let seen = undo.overlay(
+        alloc,
+        number,
+        &PredRef::of(&pred),
+        keys.as_slice(),
+        rows,
+        own,
+    )?;
     let want = rows_of(alloc, want, None)?;
     Ok(are_equal(seen.as_slice(), want.as_slice()))
 }

@@ -13,13 +13,17 @@ use crate::values::{key, row};
 use mv_record::applying::apply;
 use mv_store::store::Store;
 use mv_store::view::StoreView;
+use mv_table::found::Found;
 use mv_table::scan::Direction;
+use mv_table::table::Stored;
 use mv_values::copied::Copied;
+use mv_values::lent;
 use mv_values::list::List;
 use mv_values::memory::NoMemory;
 use mv_values::op::Op;
 use mv_values::patch::{Assign, Patch, Write};
 use mv_values::pred::{Pred, Test};
+use mv_values::pred_ref::PredRef;
 use mv_values::rows::{Database, Keyed, Rows};
 use mv_values::tested::Tested;
 use mv_values::value::{Key, Row, Value, are_same};
@@ -61,7 +65,9 @@ pub(crate) fn look_up(
     ensures { IfOk result (λ row. row ≡ row_of (rows_at (database_at store.now n) table) key.now) }
 {
     let mut view = StoreView::new(store, n);
-    view.row(alloc, table, key)
+    let row = view.row(alloc, table, key)?;
+    let row = lent::own(alloc, row)?;
+    Ok(row)
 }
 
 /// A store, the tables after each commit, and the writes of calls that have not committed.
@@ -196,12 +202,17 @@ fn same(a: &Keyed, b: &Keyed) -> bool {
     a.key == b.key && are_same(a.row.as_slice(), b.row.as_slice())
 }
 
+/// Whether the row that was found is this one.
+fn is_same(found: &Found<'_>, want: &Keyed) -> bool {
+    found.key() == &want.key && are_same(found.row().as_slice(), want.row.as_slice())
+}
+
 /// Whether the rows found are those of the table that the predicate matches, in their order.
-fn are_matching(found: &[Keyed], pred: &Pred, rows: &[Keyed]) -> bool {
+fn are_matching(found: &[Found<'_>], pred: &PredRef<'_>, rows: &[Keyed]) -> bool {
     let mut wanted = rows.iter().filter(|item| pred.matches(&item.row));
     for item in found {
         match wanted.next() {
-            Some(want) if same(item, want) => {}
+            Some(want) if is_same(item, want) => {}
             _ => return false,
         }
     }
@@ -254,13 +265,13 @@ pub(crate) fn columns(alloc: Global) -> Result<List<Tested>, NoMemory> {
     Ok(columns)
 }
 
-fn admits_match(pred: &Pred, item: &Keyed) -> bool
+fn admits_match(pred: &PredRef<'_>, item: &Keyed) -> bool
     ensures { IsTrue result ↔ (IsTrue (matches pred.now item.now.row) → IsTrue (admits pred.now item.now.key)) }
 {
     !pred.matches(&item.row) || pred.admits(&item.key)
 }
 
-fn admits_matches(pred: &Pred, rows: &[Keyed]) -> bool
+fn admits_matches(pred: &PredRef<'_>, rows: &[Keyed]) -> bool
     ensures { IsTrue result ↔ Admitted pred.now rows.now }
 {
     rows.iter().all(|item| admits_match(pred, item))
@@ -270,25 +281,22 @@ fn admits_matches(pred: &Pred, rows: &[Keyed]) -> bool
 fn all_rows(alloc: Global, store: &Store, n: u32, table: u8) -> Result<Rows, Refused>
     ensures { IfOk result (λ rows. rows ≡ rows_at (database_at store.now n) table) }
 {
-    let pred = Pred {
-        table,
-        tests: List::new(alloc),
-        columns: List::new(alloc),
-    };
-    store.rows_at(alloc, n, &pred)
+    let pred = PredRef::new(table, &[], &[]);
+    let found = store.rows_at(alloc, n, &pred)?;
+    Ok(found.into_rows(alloc)?)
 }
 
 /// Whether this was found: a row, or none.
-fn is_found(found: Result<Option<Keyed>, Refused>, want: Option<&Keyed>) -> bool {
+fn is_found(found: Result<Option<Found<'_>>, Refused>, want: Option<&Keyed>) -> bool {
     match (found, want) {
-        (Ok(Some(found)), Some(want)) => same(&found, want),
+        (Ok(Some(found)), Some(want)) => is_same(&found, want),
         (Ok(None), None) => true,
         _ => false,
     }
 }
 
 /// Whether the first and the last row that a predicate finds after n commits are those of the plain tables.
-fn finds_ends(alloc: Global, store: &Store, n: u32, pred: &Pred, rows: &[Keyed]) -> bool
+fn finds_ends(alloc: Global, store: &Store, n: u32, pred: &PredRef<'_>, rows: &[Keyed]) -> bool
     requires { Admitted pred.now (rows_at (database_at store.now n) pred.now.table) }
 {
     let first = rows.iter().find(|item| pred.matches(&item.row));
@@ -303,8 +311,8 @@ fn finds_ends(alloc: Global, store: &Store, n: u32, pred: &Pred, rows: &[Keyed])
 }
 
 /// Whether the rows that a predicate finds after n commits are those of the plain tables.
-fn finds(alloc: Global, store: &Store, n: u32, pred: &Pred, rows: &[Keyed]) -> bool {
-    let Ok(all) = all_rows(alloc, store, n, pred.table) else {
+fn finds(alloc: Global, store: &Store, n: u32, pred: &PredRef<'_>, rows: &[Keyed]) -> bool {
+    let Ok(all) = all_rows(alloc, store, n, pred.table()) else {
         return false;
     };
     if !admits_matches(pred, all.as_slice()) {
@@ -326,7 +334,13 @@ fn finds_all(
     rows: &[Keyed],
 ) -> Result<bool, NoMemory> {
     for tests in TESTS {
-        if !finds(alloc, store, n, &pred(alloc, table, tests)?, rows) {
+        if !finds(
+            alloc,
+            store,
+            n,
+            &PredRef::of(&pred(alloc, table, tests)?),
+            rows,
+        ) {
             return Ok(false);
         }
     }

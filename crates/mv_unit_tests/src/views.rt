@@ -12,11 +12,14 @@ use mv_cases::ensure::ensure;
 use mv_record::applying::put_row;
 use mv_store::store::Store;
 use mv_store::view::StoreView;
+use mv_table::found;
 use mv_table::scan::Direction;
+use mv_table::table::Stored;
 use mv_values::list::List;
 use mv_values::memory::NoMemory;
 use mv_values::op::Op;
 use mv_values::pred::{Pred, Test};
+use mv_values::pred_ref::PredRef;
 use mv_values::rows::{Database, Keyed, Rows};
 use mv_values::txt::Txt;
 use mv_values::value::{Key, Row, Value};
@@ -64,23 +67,23 @@ fn where_is(alloc: Global, column: u8, op: Op, value: i64) -> Result<Pred, NoMem
     })
 }
 
-fn admits_match(pred: &Pred, item: &Keyed) -> bool
+fn admits_match(pred: &PredRef<'_>, item: &Keyed) -> bool
     ensures { IsTrue result ↔ (IsTrue (matches pred.now item.now.row) → IsTrue (admits pred.now item.now.key)) }
 {
     !pred.matches(&item.row) || pred.admits(&item.key)
 }
 
-fn admits_matches(pred: &Pred, rows: &[Keyed]) -> bool
+fn admits_matches(pred: &PredRef<'_>, rows: &[Keyed]) -> bool
     ensures { IsTrue result ↔ Admitted pred.now rows.now }
 {
     rows.iter().all(|item| admits_match(pred, item))
 }
 
 /// Whether the predicate admits the keys of the rows that it matches.
-pub(crate) fn has_admitted(pred: &Pred, tables: &Database) -> bool
+pub(crate) fn has_admitted(pred: &PredRef<'_>, tables: &Database) -> bool
     ensures { IsTrue result → Admitted pred.now (rows_at tables.now pred.now.table) }
 {
-    match tables.as_slice().get(pred.table as usize) {
+    match tables.as_slice().get(pred.table() as usize) {
         Some(rows) => admits_matches(pred, rows.as_slice()),
         None => true,
     }
@@ -95,9 +98,9 @@ pub(crate) fn number(row: &Row, column: usize) -> Option<i64> {
 }
 
 /// Returns how many rows there are, and the number of the last.
-fn last(rows: &[Keyed]) -> (usize, Option<i64>) {
+fn last(rows: &[found::Found<'_>]) -> (usize, Option<i64>) {
     match rows.last() {
-        Some(item) => (rows.len(), number(&item.row, 0)),
+        Some(item) => (rows.len(), number(item.row(), 0)),
         None => (0, None),
     }
 }
@@ -118,6 +121,7 @@ const FOUND: &[Found] = &[
 fn finds(alloc: Global, tables: &Database, case: &Found) -> Result<bool, Fail> {
     let (column, op, value, want) = *case;
     let pred = where_is(alloc, column, op, value)?;
+    let pred = PredRef::of(&pred);
     if !has_admitted(&pred, tables) {
         return Err("a row that the predicate doesn't admit".into());
     }
@@ -144,7 +148,7 @@ fn rows_are_found_by_their_tests(rt: HostRuntime) -> Result<(), Fail> {
 /// The keys that a predicate admits.
 #[derive(Drop)]
 pub(crate) struct AdmittedKeys<'a> {
-    pub(crate) pred: &'a Pred,
+    pub(crate) pred: &'a PredRef<'a>,
 }
 
 impl<'a> KeySet for AdmittedKeys<'a> {
@@ -176,17 +180,17 @@ const ENDS: &[Ends] = &[
 ];
 
 /// Returns the number of the first row in this direction outside the keys that are passed over.
-fn end<V: View>(
+fn end<'s, V: View<'s>>(
     alloc: Global,
-    pred: &Pred,
+    pred: &PredRef<'_>,
     direction: Direction,
-    passed: &Pred,
+    passed: &PredRef<'_>,
     view: &mut V,
 ) -> Result<Option<i64>, Fail>
     requires { Admitted pred.now (rows_at (V.sight view.old).database pred.now.table) }
 {
     match view.foremost(alloc, pred, direction, &AdmittedKeys { pred: passed }) {
-        Ok(Some(item)) => Ok(number(&item.row, 0)),
+        Ok(Some(item)) => Ok(number(item.row(), 0)),
         Ok(None) => Ok(None),
         Err(_) => Err("no answer".into()),
     }
@@ -196,9 +200,9 @@ fn end<V: View>(
 fn ends_found(
     alloc: Global,
     tables: &Database,
-    pred: &Pred,
+    pred: &PredRef<'_>,
     direction: Direction,
-    passed: &Pred,
+    passed: &PredRef<'_>,
 ) -> Result<(Option<i64>, Option<i64>), Fail>
     requires { Admitted pred.now (rows_at tables.now pred.now.table) }
 {
@@ -217,7 +221,9 @@ fn ends_found(
 fn has_ends(alloc: Global, tables: &Database, case: &Ends) -> Result<bool, Fail> {
     let (column, op, value, (key_op, key), first, last) = *case;
     let pred = where_is(alloc, column, op, value)?;
+    let pred = PredRef::of(&pred);
     let passed = where_is(alloc, 0, key_op, key)?;
+    let passed = PredRef::of(&passed);
     if !has_admitted(&pred, tables) {
         return Err("a row that the predicate doesn't admit".into());
     }
@@ -251,14 +257,14 @@ const MATCHED: &[Matched] = &[
 ];
 
 /// Returns the number of the row under the key, if it passes.
-fn match_of<V: View>(
+fn match_of<'s, V: View<'s>>(
     alloc: Global,
-    pred: &Pred,
+    pred: &PredRef<'_>,
     key: &Key,
     view: &mut V,
 ) -> Result<Option<i64>, Fail> {
     match view.match_under(alloc, pred, key) {
-        Ok(Some(row)) => Ok(number(&row, 0)),
+        Ok(Some(row)) => Ok(number(row.get(), 0)),
         Ok(None) => Ok(None),
         Err(_) => Err("no answer".into()),
     }
@@ -267,6 +273,7 @@ fn match_of<V: View>(
 fn has_match(alloc: Global, tables: &Database, case: &Matched) -> Result<bool, Fail> {
     let (id, column, op, value, want) = *case;
     let pred = where_is(alloc, column, op, value)?;
+    let pred = PredRef::of(&pred);
     let key = key(alloc, &[id])?;
     let store = Store::new(alloc, tables, &List::new(alloc))?;
     let in_memory = match_of(alloc, &pred, &key, &mut Plain::new(tables))?;
@@ -293,7 +300,7 @@ fn shows(alloc: Global, view: &mut Plain, table: u8, id: i64, want: Option<i64>)
 {
     let key = key(alloc, &[id])?;
     match view.row(alloc, table, &key) {
-        Ok(Some(row)) => ensure(alloc, number(&row, 1) == want, "another row"),
+        Ok(Some(row)) => ensure(alloc, number(row.get(), 1) == want, "another row"),
         Ok(None) => ensure(alloc, want == None, "no row"),
         Err(_) => Err("no answer".into()),
     }

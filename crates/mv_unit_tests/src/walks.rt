@@ -52,7 +52,7 @@ fn adopt_next(alloc: Global, graph: &Graph, call: &Call, task: &mut Task) -> Res
 }
 
 /// Adopts the next record of the run before the repair, or executes the next statement.
-fn step<V: View>(
+fn step<'s, V: View<'s>>(
     alloc: Global,
     graph: &Graph,
     call: &Call,
@@ -83,7 +83,7 @@ fn step<V: View>(
 
 /// Walks a call to its end by `adopt` and `next` in turns. The records that it adopts are those of the run before the
 /// repair, which was one on the view's database. They aren't checked.
-fn walk<V: View>(
+fn walk<'s, V: View<'s>>(
     alloc: Global,
     graph: &Graph,
     call: &Call,

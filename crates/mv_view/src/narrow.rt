@@ -12,12 +12,12 @@ use mv_table::scan::Direction;
 use mv_table::span::Span;
 use mv_values::copied::Copied;
 use mv_values::memory::NoMemory;
-use mv_values::pred::Pred;
+use mv_values::pred_ref::PredRef;
 use mv_values::rows::{Keyed, Rows};
 use std::alloc::Global;
 
 /// Returns copies of the rows that the predicate matches.
-fn copy_matches(alloc: Global, pred: &Pred, rows: &[Keyed]) -> Result<Rows, NoMemory>
+fn copy_matches(alloc: Global, pred: &PredRef<'_>, rows: &[Keyed]) -> Result<Rows, NoMemory>
     requires { IsRising rows.now }
     ensures { IfOk result (λ found. found ≡ matching pred.now rows.now) }
 {
@@ -32,18 +32,18 @@ fn copy_matches(alloc: Global, pred: &Pred, rows: &[Keyed]) -> Result<Rows, NoMe
 
 /// Returns copies of the rows of a table that the predicate matches. Scans the rows in the span of keys that the
 /// predicate's tests leave. Finding the span costs the logarithm of the number of rows.
-pub(crate) fn find(alloc: Global, pred: &Pred, rows: &[Keyed]) -> Result<Rows, NoMemory>
+pub(crate) fn find(alloc: Global, pred: &PredRef<'_>, rows: &[Keyed]) -> Result<Rows, NoMemory>
     requires rising { IsRising rows.now }
     requires admitted { Admitted pred.now rows.now }
     ensures { IfOk result (λ found. found ≡ matching pred.now rows.now) }
 {
-    let span = Span::of(alloc, pred.tests.as_slice())?;
+    let span = Span::of(alloc, pred.tests())?;
     copy_matches(alloc, pred, span.part(rows))
 }
 
 /// Borrows the first row in this direction that the predicate matches and whose key isn't in `passed`.
 fn foremost_match<'a, K: KeySet>(
-    pred: &Pred,
+    pred: &PredRef<'_>,
     rows: &'a [Keyed],
     direction: Direction,
     passed: &K,
@@ -65,7 +65,7 @@ fn foremost_match<'a, K: KeySet>(
 /// the logarithm of the number of rows.
 pub(crate) fn find_foremost<K: KeySet>(
     alloc: Global,
-    pred: &Pred,
+    pred: &PredRef<'_>,
     rows: &[Keyed],
     direction: Direction,
     passed: &K,
@@ -74,7 +74,7 @@ pub(crate) fn find_foremost<K: KeySet>(
     requires admitted { Admitted pred.now rows.now }
     ensures { IfOk result (λ row. row ≡ foremost direction (outside (K.has passed.now) (matching pred.now rows.now))) }
 {
-    let span = Span::of(alloc, pred.tests.as_slice())?;
+    let span = Span::of(alloc, pred.tests())?;
     match foremost_match(pred, span.part(rows), direction, passed) {
         Some(item) => Ok(Some(item.copy(alloc)?)),
         None => Ok(None),

@@ -11,11 +11,14 @@ use crate::key_set::KeySet;
 use crate::narrow::{find, find_foremost};
 use crate::view::{Refused, View};
 use mv_record::applying::find_row;
+use mv_table::found::{self, Found};
+use mv_table::found_rows::FoundRows;
 use mv_table::scan::Direction;
 use mv_values::copied::Copied;
+use mv_values::lent::{self, Lent};
 use mv_values::memory::NoMemory;
-use mv_values::pred::Pred;
-use mv_values::rows::{Database, Keyed, Rows};
+use mv_values::pred_ref::PredRef;
+use mv_values::rows::{Database, Keyed};
 use mv_values::value::{Key, Row};
 use std::alloc::Global;
 use std::marker::Model;
@@ -78,12 +81,12 @@ fn copy_row(alloc: Global, tables: &Database, table: u8, key: &Key) -> Result<Op
 fn copy_match(
     alloc: Global,
     tables: &Database,
-    pred: &Pred,
+    pred: &PredRef<'_>,
     key: &Key,
 ) -> Result<Option<Row>, NoMemory>
     ensures { IfOk result (λ row. row ≡ matched pred.now (row_of (rows_at tables.now pred.now.table) key.now)) }
 {
-    let Some(rows) = tables.as_slice().get(pred.table as usize) else {
+    let Some(rows) = tables.as_slice().get(pred.table() as usize) else {
         return Ok(None);
     };
     match find_row(rows, key) {
@@ -92,42 +95,42 @@ fn copy_match(
     }
 }
 
-impl<'a> View for Plain<'a> {
+impl<'a> View<'a> for Plain<'a> {
     ghost sight = { λ p. p };
 
-    fn rows(&mut self, alloc: Global, pred: &Pred) -> Result<Rows, Refused> {
+    fn rows(&mut self, alloc: Global, pred: &PredRef<'_>) -> Result<FoundRows<'a>, Refused> {
         self.rows_calls = self.rows_calls.saturating_add(1);
-        let found = find(alloc, pred, rows_in(self.tables, pred.table))?;
-        Ok(found)
+        let found = find(alloc, pred, rows_in(self.tables, pred.table()))?;
+        Ok(FoundRows::made(alloc, found)?)
     }
 
     fn foremost<K: KeySet>(
         &mut self,
         alloc: Global,
-        pred: &Pred,
+        pred: &PredRef<'_>,
         direction: Direction,
         passed: &K,
-    ) -> Result<Option<Keyed>, Refused> {
+    ) -> Result<Option<Found<'a>>, Refused> {
         self.rows_calls = self.rows_calls.saturating_add(1);
-        let rows = rows_in(self.tables, pred.table);
+        let rows = rows_in(self.tables, pred.table());
         let row = find_foremost(alloc, pred, rows, direction, passed)?;
-        Ok(row)
+        Ok(found::made(row))
     }
 
     fn match_under(
         &mut self,
         alloc: Global,
-        pred: &Pred,
+        pred: &PredRef<'_>,
         key: &Key,
-    ) -> Result<Option<Row>, Refused> {
+    ) -> Result<Option<Lent<'a>>, Refused> {
         self.rows_calls = self.rows_calls.saturating_add(1);
         let row = copy_match(alloc, self.tables, pred, key)?;
-        Ok(row)
+        Ok(lent::made(row))
     }
 
-    fn row(&mut self, alloc: Global, table: u8, key: &Key) -> Result<Option<Row>, Refused> {
+    fn row(&mut self, alloc: Global, table: u8, key: &Key) -> Result<Option<Lent<'a>>, Refused> {
         self.row_calls = self.row_calls.saturating_add(1);
         let row = copy_row(alloc, self.tables, table, key)?;
-        Ok(row)
+        Ok(lent::made(row))
     }
 }

@@ -10,11 +10,13 @@ ghost use Rattle.mv_view.specs.Narrowing.{outside};
 ghost use Rattle.mv_view.specs.Viewing.{Sight, with_rows_call, with_row_call, answered, MayAnswer};
 
 use crate::key_set::KeySet;
+use mv_table::found::Found;
+use mv_table::found_rows::FoundRows;
 use mv_table::scan::Direction;
+use mv_values::lent::Lent;
 use mv_values::memory::NoMemory;
-use mv_values::pred::Pred;
-use mv_values::rows::{Keyed, Rows};
-use mv_values::value::{Key, Row};
+use mv_values::pred_ref::PredRef;
+use mv_values::value::Key;
 use std::alloc::Global;
 
 /// Why a view returns no rows.
@@ -38,46 +40,52 @@ impl From<NoMemory> for Refused {
 }
 
 /// A snapshot of a database, taken after some number of commits. A view may lose its snapshot: once only rows as of a
-/// later commit are kept, it returns `Stale`.
-pub trait View {
+/// later commit are kept, it returns `Stale`. What it finds may be lent by what is behind the view, and isn't bound to the
+/// view.
+pub trait View<'s> {
     /// Its database and start, whether it may return `Stale`, and its counts of `Stale` results and of calls. A count
     /// stops at `u64::MAX`.
     ghost sight: { Self → Sight };
 
-    /// Returns copies of the rows that the predicate matches, in key order. The predicate must admit the key of each
+    /// Returns the rows that the predicate matches, in key order. The predicate must admit the key of each
     /// such row. Fails if memory runs out, or with `Stale` if the snapshot may be gone.
-    fn rows(&mut self, alloc: Global, pred: &Pred) -> Result<Rows, Refused>
+    fn rows(&mut self, alloc: Global, pred: &PredRef<'_>) -> Result<FoundRows<'s>, Refused>
         requires { Admitted pred.now (rows_at (sight self.old).database pred.now.table) }
         ensures found { IfOk result (λ rows. rows ≡ found_by pred.now (sight self.old).database) }
         ensures counts { sight self.new ≡ answered result (with_rows_call (sight self.old)) }
         ensures stale { MayAnswer (sight self.old) (sight self.new) result };
 
-    /// Returns a copy of the first row in this direction that the predicate matches and whose key isn't in `passed`, or
+    /// Returns the first row in this direction that the predicate matches and whose key isn't in `passed`, or
     /// `None` if there is no such row. The predicate must admit the key of each row that it matches. It counts as a call
     /// of `rows`. Fails if memory runs out, or with `Stale` if the snapshot may be gone.
     fn foremost<K: KeySet>(
         &mut self,
         alloc: Global,
-        pred: &Pred,
+        pred: &PredRef<'_>,
         direction: Direction,
         passed: &K,
-    ) -> Result<Option<Keyed>, Refused>
+    ) -> Result<Option<Found<'s>>, Refused>
         requires { Admitted pred.now (rows_at (sight self.old).database pred.now.table) }
         ensures found { IfOk result (λ row. row ≡ foremost direction (outside (K.has passed.now) (found_by pred.now (sight self.old).database))) }
         ensures counts { sight self.new ≡ answered result (with_rows_call (sight self.old)) }
         ensures stale { MayAnswer (sight self.old) (sight self.new) result };
 
-    /// Returns a copy of the row with the key if the predicate matches it, or `None` if there is no such row. It is enough
+    /// Returns the row with the key if the predicate matches it, or `None` if there is no such row. It is enough
     /// where no other row matches. It counts as a call of `rows`. Fails if memory runs out, or with `Stale` if the
     /// snapshot may be gone.
-    fn match_under(&mut self, alloc: Global, pred: &Pred, key: &Key) -> Result<Option<Row>, Refused>
+    fn match_under(
+        &mut self,
+        alloc: Global,
+        pred: &PredRef<'_>,
+        key: &Key,
+    ) -> Result<Option<Lent<'s>>, Refused>
         ensures found { IfOk result (λ row. row ≡ matched pred.now (row_of (rows_at (sight self.old).database pred.now.table) key.now)) }
         ensures counts { sight self.new ≡ answered result (with_rows_call (sight self.old)) }
         ensures stale { MayAnswer (sight self.old) (sight self.new) result };
 
-    /// Returns a copy of the row with the key, or `None` if there is none. Fails if memory runs out, or with `Stale` if
+    /// Returns the row with the key, or `None` if there is none. Fails if memory runs out, or with `Stale` if
     /// the snapshot may be gone.
-    fn row(&mut self, alloc: Global, table: u8, key: &Key) -> Result<Option<Row>, Refused>
+    fn row(&mut self, alloc: Global, table: u8, key: &Key) -> Result<Option<Lent<'s>>, Refused>
         ensures found { IfOk result (λ row. row ≡ row_of (rows_at (sight self.old).database table) key.now) }
         ensures counts { sight self.new ≡ answered result (with_row_call (sight self.old)) }
         ensures stale { MayAnswer (sight self.old) (sight self.new) result };

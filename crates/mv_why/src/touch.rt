@@ -11,11 +11,12 @@ ghost use Rattle.mv_why.specs.Walking.{any_touch, any_write, earlier_of, first_o
 use crate::cause::Reason;
 use crate::paths::{Path, is_earlier, item};
 use crate::run::Run;
-use mv_log::pred_ref::{PredRef, Preds};
+use mv_log::pred_ref::Preds;
 use mv_log::record_ref::RecordRef;
 use mv_log::records::Records;
 use mv_values::memory::NoMemory;
 use mv_values::patch::{Assign, Patch, Write};
+use mv_values::pred_ref::PredRef;
 use std::alloc::Global;
 
 /// Whether the predicate selects or tests a column that is set.

@@ -1,8 +1,9 @@
+use Rattle.std.proofs.Common.{refl, rules}
 use Rattle.mv_core.proofs.Stored.{shows_last, fresh_last, only_memory}
 use Rattle.mv_core.proofs.commits.repair_last.Goals as goal
 
-pub repair_task-requires-clause-shows : goal.repair_task-requires-clause-shows
-repair_task-requires-clause-shows c = shows_last c.args.book.now c.args.store.now c.commits.result c.new-view.result c.requires.stored c.commits.ensures c.new-view.ensures
+pub repair_task-requires : goal.repair_task-requires
+repair_task-requires c = λ k. ((refl, tt), (search rules, ((shows_last c.args.book.now c.args.store.now c.commits.result c.new-view.result c.requires.stored c.commits.ensures c.new-view.ensures), (search rules, (search rules, search rules)))))
 
 pub no_memory-requires : goal.no_memory-requires
 no_memory-requires c = only_memory c.new-view.result c.repair_task.new.view c.in-Err.why (fresh_last c.args.book.now c.args.store.now c.commits.result c.new-view.result c.requires.stored c.commits.ensures c.new-view.ensures) c.in-Err.ensures.view.may_refuse

@@ -1,15 +1,12 @@
-use Rattle.std.proofs.Common.{sym, ap, ◌∙◌}
+use Rattle.std.proofs.Common.{refl, sym, ap, ◌∙◌}
 use Rattle.std.proofs.lemmas.Result.{on_ok_weaker}
 use Rattle.mv_record.specs.Runs.{Run}
 use Rattle.mv_core.proofs.Stored.{run_is}
 use Rattle.mv_core.proofs.Taking.{runs_on, task_for}
 use Rattle.mv_core.proofs.running.repair_over.Goals as goal
 
-pub repair-requires-clause-sound : goal.repair-requires-clause-sound
-repair-requires-clause-sound g c = (c.requires.script.1.runs c.args.number c.find_call-at.result.call.now c.find_call-at.result.graph.now c.find_call-at.ensures).sound
-
-pub repair-requires-clause-leads : goal.repair-requires-clause-leads
-repair-requires-clause-leads g c = c.requires.leads c.find_call-at.result.call.now c.find_call-at.result.graph.now c.find_call-at.ensures
+pub repair-requires : goal.repair-requires
+repair-requires g c = λ k. ((refl, tt), (((c.requires.script.1.runs c.args.number c.find_call-at.result.call.now c.find_call-at.result.graph.now c.find_call-at.ensures).sound), (c.requires.leads c.find_call-at.result.call.now c.find_call-at.result.graph.now c.find_call-at.ensures)))
 
 pub returns-clause-call : goal.returns-clause-call
 returns-clause-call g c =

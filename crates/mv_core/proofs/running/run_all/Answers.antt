@@ -1,4 +1,4 @@
-use Rattle.std.proofs.Common.{arith, List, length, length-append, sym, ap, ◌∙◌}
+use Rattle.std.proofs.Common.{refl, arith, List, length, length-append, sym, ap, ◌∙◌}
 use Rattle.std.proofs.lemmas.Result.{on_ok_weaker}
 use Rattle.mv_record.specs.declared.record.Record.{Record}
 use Rattle.mv_record.specs.Runs.{Run}
@@ -6,14 +6,8 @@ use Rattle.mv_core.proofs.Stored.{run_is}
 use Rattle.mv_core.proofs.Taking.{runs_on}
 use Rattle.mv_core.proofs.running.run_all.Goals as goal
 
-pub finish-requires-clause-sound : goal.finish-requires-clause-sound
-finish-requires-clause-sound g c = (c.requires.script.1.runs c.args.number c.find_call-at.result.call.now c.find_call-at.result.graph.now c.find_call-at.ensures).sound
-
-pub finish-requires-clause-database : goal.finish-requires-clause-database
-finish-requires-clause-database g c = c.requires.database c.find_call-at.result.call.now c.find_call-at.result.graph.now c.find_call-at.ensures
-
-pub finish-requires-clause-running : goal.finish-requires-clause-running
-finish-requires-clause-running g c = (c.find_call-at.result.call.now, c.requires.runs c.find_call-at.result.call.now c.find_call-at.result.graph.now c.find_call-at.ensures)
+pub finish-requires : goal.finish-requires
+finish-requires g c = λ k. ((refl, tt), (((c.requires.script.1.runs c.args.number c.find_call-at.result.call.now c.find_call-at.result.graph.now c.find_call-at.ensures).sound), ((c.requires.database c.find_call-at.result.call.now c.find_call-at.result.graph.now c.find_call-at.ensures), ((c.find_call-at.result.call.now, c.requires.runs c.find_call-at.result.call.now c.find_call-at.result.graph.now c.find_call-at.ensures)))))
 
 pub returns-clause-runs : goal.returns-clause-runs
 returns-clause-runs g c =

@@ -1,17 +1,11 @@
-use Rattle.std.proofs.Common.{◌∷◌, [], List, length, length-append, ap, ◌∙◌}
+use Rattle.std.proofs.Common.{refl, ◌∷◌, [], List, length, length-append, ap, ◌∙◌}
 use Rattle.std.proofs.lemmas.Result.{on_ok_weaker}
 use Rattle.mv_record.specs.declared.record.Record.{Record}
 use Rattle.mv_core.proofs.Taking.{runs_on}
 use Rattle.mv_core.proofs.running.run_next.Goals as goal
 
-pub next-requires-clause-sound : goal.next-requires-clause-sound
-next-requires-clause-sound g c = (c.requires.script.1.runs c.args.number c.find_call-at.result.call.now c.find_call-at.result.graph.now c.find_call-at.ensures).sound
-
-pub next-requires-clause-database : goal.next-requires-clause-database
-next-requires-clause-database g c = c.requires.database c.find_call-at.result.call.now c.find_call-at.result.graph.now c.find_call-at.ensures
-
-pub next-requires-clause-running : goal.next-requires-clause-running
-next-requires-clause-running g c = (c.find_call-at.result.call.now, c.requires.runs c.find_call-at.result.call.now c.find_call-at.result.graph.now c.find_call-at.ensures)
+pub next-requires : goal.next-requires
+next-requires g c = λ k. ((refl, tt), (((c.requires.script.1.runs c.args.number c.find_call-at.result.call.now c.find_call-at.result.graph.now c.find_call-at.ensures).sound), ((c.requires.database c.find_call-at.result.call.now c.find_call-at.result.graph.now c.find_call-at.ensures), ((c.find_call-at.result.call.now, c.requires.runs c.find_call-at.result.call.now c.find_call-at.result.graph.now c.find_call-at.ensures)))))
 
 pub returns-clause-runs : goal.returns-clause-runs
 returns-clause-runs g c =

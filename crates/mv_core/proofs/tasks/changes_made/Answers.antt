@@ -1,4 +1,4 @@
-use Rattle.std.proofs.Common.{◌≡◌, length, subst, ◌∙◌}
+use Rattle.std.proofs.Common.{refl, ◌≡◌, length, subst, ◌∙◌}
 use Rattle.mv_values.specs.Patching.{applied}
 use Rattle.mv_history.specs.Changes.{changes_between}
 use Rattle.mv_core.specs.Told.{writes_told}
@@ -6,12 +6,8 @@ use Rattle.mv_core.proofs.Given.{ok_then}
 use Rattle.mv_core.proofs.Stored.{rising_shown, size_shown, last_made}
 use Rattle.mv_core.proofs.tasks.changes_made.Goals as goal
 
-pub changes_told-requires-clause-tables : goal.changes_told-requires-clause-tables
-changes_told-requires-clause-tables g c =
-    c.len.ensures ∙ size_shown c.args.book.now (length c.args.book.now.course.order) c.script.result.now (g.V.View.sight c.args.view.now) c.requires.script c.script.ensures c.requires.shows
-
-pub changes_told-requires-clause-rising : goal.changes_told-requires-clause-rising
-changes_told-requires-clause-rising g c = rising_shown c.args.book.now (length c.args.book.now.course.order) (g.V.View.sight c.args.view.now) c.requires.script c.requires.shows
+pub changes_told-requires : goal.changes_told-requires
+changes_told-requires g c = λ k. ((refl, tt), ((c.len.ensures ∙ size_shown c.args.book.now (length c.args.book.now.course.order) c.script.result.now (g.V.View.sight c.args.view.now) c.requires.script c.script.ensures c.requires.shows), (rising_shown c.args.book.now (length c.args.book.now.course.order) (g.V.View.sight c.args.view.now) c.requires.script c.requires.shows)))
 
 pub returns-clause-made : goal.returns-clause-made
 returns-clause-made g c call lt whole =

@@ -1,18 +1,25 @@
-use Rattle.std.proofs.Common.{refl}
+use Rattle.std.proofs.Common.{rules, refl}
 use Rattle.std.proofs.lemmas.Result.{on_ok_weaker}
 use Rattle.mv_core.proofs.Stored.{database_shown}
 use Rattle.mv_core.proofs.Taking.{runs_shown, runs_back, records_back, task_kept}
 use Rattle.mv_core.proofs.tasks.finish_task.Goals as goal
 
-pub run_all-requires-clause-database : goal.run_all-requires-clause-database
-run_all-requires-clause-database g c =
-    let live = c.requires.call.live in
-    database_shown c.args.book.now c.args.call live.0.start c.script.result.now (g.V.View.sight c.args.view.now) c.requires.call.script c.script.ensures (c.requires.shows live.0 live.1)
-
-pub run_all-requires-clause-runs : goal.run_all-requires-clause-runs
-run_all-requires-clause-runs g c =
-    let live = c.requires.call.live in
-    runs_shown c.args.book.now c.args.call live.0.start c.script.result.now (g.V.View.sight c.args.view.now) c.args.running.now.task c.script.ensures (c.requires.shows live.0 live.1) (c.requires.call.task live.0 live.1).runs
+pub run_all-requires : goal.run_all-requires
+run_all-requires g c = λ k. (
+  (refl, tt),
+  (
+    search rules,
+    (
+      search rules,
+      (
+        (let live = c.requires.call.live in
+            database_shown c.args.book.now c.args.call live.0.start c.script.result.now (g.V.View.sight c.args.view.now) c.requires.call.script c.script.ensures (c.requires.shows live.0 live.1)),
+        (let live = c.requires.call.live in
+            runs_shown c.args.book.now c.args.call live.0.start c.script.result.now (g.V.View.sight c.args.view.now) c.args.running.now.task c.script.ensures (c.requires.shows live.0 live.1) (c.requires.call.task live.0 live.1).runs),
+      ),
+    ),
+  ),
+)
 
 pub returns-clause-ok : goal.returns-clause-ok
 returns-clause-ok g c = on_ok_weaker c.run_all.result

@@ -1,4 +1,4 @@
-use Rattle.std.proofs.Common.{arith, Some, length, refl, ap, sym, ◌∙◌}
+use Rattle.std.proofs.Common.{rules, arith, Some, length, refl, ap, sym, ◌∙◌}
 use Rattle.mv_journal.specs.declared.event.Event.TheVariants.{M}
 use Rattle.mv_journal.specs.declared.outcome.Mark.TheVariants.{Moved}
 use Rattle.mv_lawful.specs.Lawful.{Course, again}
@@ -8,8 +8,8 @@ use Rattle.mv_core.proofs.Moving.{live_moved, due_moved}
 use Rattle.mv_core.proofs.Changed.{live_now, made_after, made_before, due_made, room_less}
 use Rattle.mv_core.proofs.tasks.move_task.Goals as goal
 
-pub whole_task-requires-clause-database : goal.whole_task-requires-clause-database
-whole_task-requires-clause-database g c = database_shown c.args.book.now c.args.call (length c.args.book.now.course.order) c.script.result.now (g.V.View.sight c.args.view.now) c.requires.script c.script.ensures c.requires.shows
+pub whole_task-requires : goal.whole_task-requires
+whole_task-requires g c = λ k. ((refl, tt), (search rules, (search rules, (database_shown c.args.book.now c.args.call (length c.args.book.now.course.order) c.script.result.now (g.V.View.sight c.args.view.now) c.requires.script c.script.ensures c.requires.shows))))
 
 pub restart-requires-clause-room : goal.restart-requires-clause-room
 restart-requires-clause-room g c = room_less c.reserve.new.self c.args.call 2 1 (omega arith) c.in_ok-reserve.ensures.room

@@ -1,4 +1,4 @@
-use Rattle.std.proofs.Common.{sym, subst}
+use Rattle.std.proofs.Common.{refl, rules, sym, subst}
 use Rattle.mv_changes.specs.Commits.{changes_in}
 use Rattle.mv_repair.specs.Repairing.{changes_since}
 use Rattle.mv_script.specs.declared.script.Script.{Script}
@@ -7,17 +7,24 @@ use Rattle.mv_core.proofs.Stored.{can_repair}
 use Rattle.mv_core.proofs.Taking.{task_runs, task_back, task_spent, task_repaired}
 use Rattle.mv_core.proofs.tasks.repair_task.Goals as goal
 
-pub repair_over-requires-clause-call : goal.repair_over-requires-clause-call
-repair_over-requires-clause-call g c =
-    subst (λ (s : Script). IsTaskFor s c.args.call c.args.running.now.task) (sym c.script.ensures)
-    (task_runs c.args.book.now.script c.args.call _ c.args.running.now.task (c.requires.call.task c.requires.call.live.0 c.requires.call.live.1).runs)
-
-pub repair_over-requires-clause-leads : goal.repair_over-requires-clause-leads
-repair_over-requires-clause-leads g c =
-    let live = c.requires.call.live in
-    subst (λ (s : Script). CanRepair s c.args.call c.args.running.now.task (changes_since c.since-since.result.now) (g.V.View.sight c.args.view.now).database) (sym c.script.ensures)
-    (can_repair c.args.book.now.script c.args.book.now.course.order c.args.call live.0.start c.args.running.now.task (changes_in c.since-since.result.now) (g.V.View.sight c.args.view.now).database c.requires.call.script
-    (c.requires.call.task live.0 live.1).runs c.requires.ended (c.since-since.ensures.changes live.0 live.1) c.requires.shows)
+pub repair_over-requires : goal.repair_over-requires
+repair_over-requires g c = λ k. (
+  (refl, tt),
+  (
+    search rules,
+    (
+      search rules,
+      (
+        (subst (λ (s : Script). IsTaskFor s c.args.call c.args.running.now.task) (sym c.script.ensures)
+            (task_runs c.args.book.now.script c.args.call _ c.args.running.now.task (c.requires.call.task c.requires.call.live.0 c.requires.call.live.1).runs)),
+        (let live = c.requires.call.live in
+            subst (λ (s : Script). CanRepair s c.args.call c.args.running.now.task (changes_since c.since-since.result.now) (g.V.View.sight c.args.view.now).database) (sym c.script.ensures)
+            (can_repair c.args.book.now.script c.args.book.now.course.order c.args.call live.0.start c.args.running.now.task (changes_in c.since-since.result.now) (g.V.View.sight c.args.view.now).database c.requires.call.script
+            (c.requires.call.task live.0 live.1).runs c.requires.ended (c.since-since.ensures.changes live.0 live.1) c.requires.shows)),
+      ),
+    ),
+  ),
+)
 
 pub returns-in-Err-clause-err : goal.returns-in-Err-clause-err
 returns-in-Err-clause-err g c l live =

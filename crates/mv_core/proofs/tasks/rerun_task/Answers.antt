@@ -1,4 +1,4 @@
-use Rattle.std.proofs.Common.{arith, rules, ◌≡◌, length, Some, ap, sym, ◌∙◌}
+use Rattle.std.proofs.Common.{refl, arith, rules, ◌≡◌, length, Some, ap, sym, ◌∙◌}
 use Rattle.std.specs.Prelude.{◌≢◌, false}
 use Rattle.mv_values.proofs.Deciding.{always_err}
 use Rattle.mv_journal.specs.declared.event.Event.TheVariants.{A}
@@ -24,20 +24,8 @@ returns-in_err-reserve-clause-same g c = always_err _ _ (same_both c.args.book.n
 pub returns-in_err-reserve-clause-task : goal.returns-in_err-reserve-clause-task
 returns-in_err-reserve-clause-task g c = always_err _ _ c.requires.call.task
 
-pub repair_task-requires-clause-call : goal.repair_task-requires-clause-call
-repair_task-requires-clause-call g c =
-    running_same c.args.book.now c.reserve.new.self c.args.call c.args.running.now (same_both c.args.book.now c.settle.new.self c.reserve.new.self c.settle.ensures.same c.reserve.ensures.same) c.requires.call
-
-pub repair_task-requires-clause-shows : goal.repair_task-requires-clause-shows
-repair_task-requires-clause-shows g c =
-    on_new (λ s x. (g.V.View.sight c.args.view.now).database ≡ table_at (work_of s) x.order (length x.order)) c.args.book.now c.reserve.new.self (same_both c.args.book.now c.settle.new.self c.reserve.new.self c.settle.ensures.same c.reserve.ensures.same) c.requires.shows
-
-pub repair_task-requires-clause-fresh : goal.repair_task-requires-clause-fresh
-repair_task-requires-clause-fresh g c = on_new (λ s x. (l : Live) → IsLive x c.args.call l → is_stale x l ≡ false) c.args.book.now c.reserve.new.self (same_both c.args.book.now c.settle.new.self c.reserve.new.self c.settle.ensures.same c.reserve.ensures.same) c.requires.fresh
-
-pub repair_task-requires-clause-whole : goal.repair_task-requires-clause-whole
-repair_task-requires-clause-whole g c =
-    on_new (λ s x. (l : Live) → IsLive x c.args.call l → c.args.running.now.task.log.records ≡ records_at (work_of s) x.order l.start c.args.call) c.args.book.now c.reserve.new.self (same_both c.args.book.now c.settle.new.self c.reserve.new.self c.settle.ensures.same c.reserve.ensures.same) c.requires.whole
+pub repair_task-requires : goal.repair_task-requires
+repair_task-requires g c = λ k. ((refl, tt), ((running_same c.args.book.now c.reserve.new.self c.args.call c.args.running.now (same_both c.args.book.now c.settle.new.self c.reserve.new.self c.settle.ensures.same c.reserve.ensures.same) c.requires.call), ((on_new (λ s x. (g.V.View.sight c.args.view.now).database ≡ table_at (work_of s) x.order (length x.order)) c.args.book.now c.reserve.new.self (same_both c.args.book.now c.settle.new.self c.reserve.new.self c.settle.ensures.same c.reserve.ensures.same) c.requires.shows), ((on_new (λ s x. (l : Live) → IsLive x c.args.call l → is_stale x l ≡ false) c.args.book.now c.reserve.new.self (same_both c.args.book.now c.settle.new.self c.reserve.new.self c.settle.ensures.same c.reserve.ensures.same) c.requires.fresh), ((on_new (λ s x. (l : Live) → IsLive x c.args.call l → c.args.running.now.task.log.records ≡ records_at (work_of s) x.order l.start c.args.call) c.args.book.now c.reserve.new.self (same_both c.args.book.now c.settle.new.self c.reserve.new.self c.settle.ensures.same c.reserve.ensures.same) c.requires.whole), search rules)))))
 
 pub returns-in_err-repair_task-clause-same : goal.returns-in_err-repair_task-clause-same
 returns-in_err-repair_task-clause-same g c = always_err _ _ (same_both c.args.book.now c.settle.new.self c.reserve.new.self c.settle.ensures.same c.reserve.ensures.same)

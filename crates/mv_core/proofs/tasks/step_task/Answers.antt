@@ -1,18 +1,25 @@
-use Rattle.std.proofs.Common.{arith, ◌+◌, length, refl, ap, ◌∙◌}
+use Rattle.std.proofs.Common.{rules, arith, ◌+◌, length, refl, ap, ◌∙◌}
 use Rattle.mv_values.proofs.Deciding.{always_err}
 use Rattle.mv_core.proofs.Stored.{database_shown}
 use Rattle.mv_core.proofs.Taking.{runs_shown, runs_back, counts_same, counts_one, task_kept, task_ran, task_named, ran_one}
 use Rattle.mv_core.proofs.tasks.step_task.Goals as goal
 
-pub run_next-requires-clause-database : goal.run_next-requires-clause-database
-run_next-requires-clause-database g c =
-    let live = c.requires.call.live in
-    database_shown c.args.book.now c.args.call live.0.start c.script.result.now (g.V.View.sight c.args.view.now) c.requires.call.script c.script.ensures (c.requires.shows live.0 live.1)
-
-pub run_next-requires-clause-runs : goal.run_next-requires-clause-runs
-run_next-requires-clause-runs g c =
-    let live = c.requires.call.live in
-    runs_shown c.args.book.now c.args.call live.0.start c.script.result.now (g.V.View.sight c.args.view.now) c.args.running.now.task c.script.ensures (c.requires.shows live.0 live.1) (c.requires.call.task live.0 live.1).runs
+pub run_next-requires : goal.run_next-requires
+run_next-requires g c = λ k. (
+  (refl, tt),
+  (
+    search rules,
+    (
+      search rules,
+      (
+        (let live = c.requires.call.live in
+            database_shown c.args.book.now c.args.call live.0.start c.script.result.now (g.V.View.sight c.args.view.now) c.requires.call.script c.script.ensures (c.requires.shows live.0 live.1)),
+        (let live = c.requires.call.live in
+            runs_shown c.args.book.now c.args.call live.0.start c.script.result.now (g.V.View.sight c.args.view.now) c.args.running.now.task c.script.ensures (c.requires.shows live.0 live.1) (c.requires.call.task live.0 live.1).runs),
+      ),
+    ),
+  ),
+)
 
 pub returns-in_err-run_next-clause-task : goal.returns-in_err-run_next-clause-task
 returns-in_err-run_next-clause-task g c l live =

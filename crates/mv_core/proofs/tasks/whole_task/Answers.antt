@@ -1,8 +1,8 @@
-use Rattle.std.proofs.Common.{arith, length, ap}
+use Rattle.std.proofs.Common.{refl, rules, arith, length, ap}
 use Rattle.mv_core.proofs.tasks.whole_task.Goals as goal
 
-pub run_all-requires-clause-runs : goal.run_all-requires-clause-runs
-run_all-requires-clause-runs g c = c.in_ok-task.ensures.runs (g.V.View.sight c.args.view.now).database
+pub run_all-requires : goal.run_all-requires
+run_all-requires g c = λ k. ((refl, tt), (search rules, (search rules, (search rules, (c.in_ok-task.ensures.runs (g.V.View.sight c.args.view.now).database)))))
 
 pub returns-clause-executed : goal.returns-clause-executed
 returns-clause-executed g c =

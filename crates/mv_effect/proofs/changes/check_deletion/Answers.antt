@@ -1,4 +1,4 @@
-use Rattle.std.proofs.Common.{◌≡◌, ◌++◌, List, OnOk, length, sym, ap, subst, ◌∙◌, rules}
+use Rattle.std.proofs.Common.{◌≡◌, ◌++◌, List, OnOk, length, sym, ap, subst, ◌∙◌, rules, refl}
 use Rattle.std.specs.Prelude.{IfOk}
 use Rattle.mv_values.specs.Keys.{keys}
 use Rattle.mv_values.specs.Patching.{applied}
@@ -14,12 +14,17 @@ use Rattle.mv_effect.proofs.Asked.{none_asked}
 use Rattle.mv_effect.proofs.Checking.{none_added, none_fault}
 use Rattle.mv_effect.proofs.changes.check_deletion.Goals as goal
 
-pub run_checks-requires-clause-may_ask : goal.run_checks-requires-clause-may_ask
-run_checks-requires-clause-may_ask g c =
+pub run_checks-requires : goal.run_checks-requires
+run_checks-requires g c =
     let is =
     deletion_is c.args.context.now.tables.now c.args.table c.args.rows.now c.in_ok-children.children c.as_slice-children.result.now c.in_ok-children.ensures c.as_slice-children.ensures c.in_ok-own.own c.as_slice-own.result.now c.in_ok-checks.checks c.as_slice-checks.result.now
-    (c.in_ok-own.ensures ∙ ap keys c.as_slice.ensures.items) c.as_slice-own.ensures c.as_slice-checks.ensures c.in_ok-checks.ensures in
-    subst (Each (MayAsk c.args.context.now.tables.now)) (sym is) (delete_may c.args.context.now.tables.now c.requires.stands.parents c.args.table c.args.rows.now)
+    (c.in_ok-own.ensures ∙ ap keys c.as_slice.ensures.items) c.as_slice-own.ensures c.as_slice-checks.ensures c.in_ok-checks.ensures in λ k. (
+      (refl, tt),
+      (
+        c.requires.stands,
+        (subst (Each (MayAsk c.args.context.now.tables.now)) (sym is) (delete_may c.args.context.now.tables.now c.requires.stands.parents c.args.table c.args.rows.now), c.requires.begins),
+      ),
+    )
 
 pub returns-clause-fault : goal.returns-clause-fault
 returns-clause-fault g c =

@@ -1,4 +1,4 @@
-use Rattle.std.proofs.Common.{◌≡◌, [], ◌++◌, List, OnOk, map, sym, ap, subst, ◌∙◌}
+use Rattle.std.proofs.Common.{◌≡◌, [], ◌++◌, List, OnOk, map, sym, ap, subst, ◌∙◌, refl}
 use Rattle.std.specs.Prelude.{IfOk}
 use Rattle.mv_values.specs.Patching.{applied}
 use Rattle.mv_log.specs.Logged.{Logged}
@@ -12,8 +12,14 @@ use Rattle.mv_effect.proofs.Asked.{none_asked}
 use Rattle.mv_checks.proofs.Referring.{update_may}
 use Rattle.mv_effect.proofs.changes.check_update.Goals as goal
 
-pub run_checks-requires-clause-may_ask : goal.run_checks-requires-clause-may_ask
-run_checks-requires-clause-may_ask g c = subst (Each (MayAsk c.args.context.now.tables.now)) (sym (ap (map (meant [])) c.as_slice-2.ensures ∙ (c.in_ok-checks.ensures ∙ ap (update_checks c.args.context.now.tables.now c.args.update.now.table c.args.update.now.items.now c.args.context.now.env.now) c.as_slice.ensures.items))) (update_may c.args.context.now.tables.now c.requires.stands.parents c.args.update.now.table c.args.update.now.items.now c.args.context.now.env.now c.args.rows.now)
+pub run_checks-requires : goal.run_checks-requires
+run_checks-requires g c = λ k. (
+  (refl, tt),
+  (
+    c.requires.stands,
+    (subst (Each (MayAsk c.args.context.now.tables.now)) (sym (ap (map (meant [])) c.as_slice-2.ensures ∙ (c.in_ok-checks.ensures ∙ ap (update_checks c.args.context.now.tables.now c.args.update.now.table c.args.update.now.items.now c.args.context.now.env.now) c.as_slice.ensures.items))) (update_may c.args.context.now.tables.now c.requires.stands.parents c.args.update.now.table c.args.update.now.items.now c.args.context.now.env.now c.args.rows.now), c.requires.begins),
+  ),
+)
 
 pub returns-clause-fault : goal.returns-clause-fault
 returns-clause-fault g c =

@@ -1,4 +1,4 @@
-use Rattle.std.proofs.Common.{◌≡◌, ◌∷◌, [], ℕ, List, Ok, OnOk, map, refl, sym, ap, subst, ◌∙◌}
+use Rattle.std.proofs.Common.{◌≡◌, ◌∷◌, [], ℕ, List, Ok, OnOk, map, refl, ap, subst, ◌∙◌}
 use Rattle.std.proofs.lemmas.Result.{on_ok_weaker}
 use Rattle.mv_values.specs.declared.pred.Pred.{Pred}
 use Rattle.mv_values.specs.declared.rows.Keyed.{Keyed}
@@ -20,10 +20,11 @@ use Rattle.mv_recorded.specs.Effects.{asks, effect_unless}
 use Rattle.mv_recorded.proofs.Told.{delete_done}
 use Rattle.mv_undo.specs.Owning.{earlier}
 use Rattle.mv_view.specs.Viewing.{Sight}
-use Rattle.mv_effect.specs.Looking.{AreSoundTables, AskedBy, AskedFor}
+use Rattle.mv_effect.specs.Looking.{AskedBy, AskedFor}
 use Rattle.mv_effect.proofs.Asked.{asked_all, asked_first, none_asked_by}
 use Rattle.mv_effect.proofs.Checking.{asked_unless}
-use Rattle.mv_effect.proofs.Ends.{effect_alone}
+use Rattle.mv_effect.specs.Asking.{asked}
+use Rattle.mv_effect.proofs.OnePred.{effect_alone_then, ended_rest, err_then}
 use Rattle.mv_effect.proofs.changes.delete.Goals as goal
 
 -- what is asked of rows that were found
@@ -34,27 +35,24 @@ asked_delete tables t conds env ws pred rows before after rises is found asked =
     let cs : List Check = delete_checks tables t rows in
     asked_unless tables (Delete t conds) env ws before after (first_fault cs db) (pred ∷ preds_up_to cs db) (is_some_row rows) (map (λ (item : Keyed). write t item.key patch.Delete) rows) (delete_done tables t conds env db pred rows rises is found) asked
 
-pub delete_rows-requires-clause-stands : goal.delete_rows-requires-clause-stands
-delete_rows-requires-clause-stands g c = subst (λ (d : List (List Keyed)). AreSoundTables c.args.context.now.tables.now (earlier c.args.context.now.number c.args.context.now.undo.now) d) (sym c.in_ok-rows.ensures.view.same.database) c.requires.stands
-
 pub returns-clause-effect : goal.returns-clause-effect
 returns-clause-effect g c =
     let tables = c.args.context.now.tables.now in
     let env = c.args.context.now.env.now in
     let ws = earlier c.args.context.now.number c.args.context.now.undo.now in
     let before = g.V.View.sight c.args.view.now in
-    let mid = g.V.View.sight c.visible_rows.new.view in
+    let mid = g.V.View.sight c.rows_asked.new.view in
     let t = c.args.table in
     let rows = c.in_ok-rows.rows in
-    let made = λ (rows : List Keyed) (db : List (List Keyed)). effect_unless (first_fault (delete_checks tables t rows) db) (c.in-Ok.pred ∷ preds_up_to (delete_checks tables t rows) db) (is_some_row rows) (map (λ (item : Keyed). write t item.key patch.Delete) rows) env in
+    let made = λ (rows : List Keyed) (db : List (List Keyed)). effect_unless (first_fault (delete_checks tables t rows) db) ((asked c.ask_where.new.log) ∷ preds_up_to (delete_checks tables t rows) db) (is_some_row rows) (map (λ (item : Keyed). write t item.key patch.Delete) rows) env in
     let rises = rising_applied ws before.database c.requires.stands.database.rising t in
-    let log : Logged = c.args.log.now in
+    let log : Logged = c.ask_where.new.log in
     let ok = subst (λ (d : List (List Keyed)). OnOk c.delete_rows.result (c.delete_rows.new.log ≡ record log { effect = made rows (applied ws d) })) c.in_ok-rows.ensures.view.same.database c.delete_rows.ensures.ok in
     on_ok_weaker c.delete_rows.result
-    (λ is lines. ap (λ (l : Logged). l.effect) is ∙ delete_done tables t c.args.conds.now env (applied ws before.database) c.in-Ok.pred rows rises c.in-Ok.ensures.asks c.in_ok-rows.ensures.found lines) ok
+    (λ is lines. ap (λ (l : Logged). l.effect) is ∙ delete_done tables t c.args.conds.now env (applied ws before.database) (asked c.ask_where.new.log) rows rises c.in-Ok.ensures.asks c.in_ok-rows.ensures.found lines) ok
 
 pub returns-clause-rest : goal.returns-clause-rest
-returns-clause-rest g c = on_ok_weaker c.delete_rows.result (λ is. effect_alone c.args.log.now c.delete_rows.new.log _ is) c.delete_rows.ensures.ok
+returns-clause-rest g c = on_ok_weaker c.delete_rows.result (λ is. effect_alone_then c.args.log.now c.ask_where.new.log c.delete_rows.new.log _ c.in-Ok.ensures.rest is) c.delete_rows.ensures.ok
 
 pub returns-clause-looks : goal.returns-clause-looks
 returns-clause-looks g c =
@@ -62,14 +60,14 @@ returns-clause-looks g c =
     let env = c.args.context.now.env.now in
     let ws = earlier c.args.context.now.number c.args.context.now.undo.now in
     let before = g.V.View.sight c.args.view.now in
-    let mid = g.V.View.sight c.visible_rows.new.view in
+    let mid = g.V.View.sight c.rows_asked.new.view in
     let t = c.args.table in
     let rises = rising_applied ws before.database c.requires.stands.database.rising t in
     let after = g.V.View.sight c.delete_rows.new.view in
     let rows = c.in_ok-rows.rows in
     let ps = preds_up_to (delete_checks tables t rows) (applied ws before.database) in
     let later = subst (λ (d : List (List Keyed)). AskedFor (preds_up_to (delete_checks tables t rows) (applied ws d)) ws mid after) c.in_ok-rows.ensures.view.same.database c.delete_rows.ensures.looks in
-    asked_delete tables t c.args.conds.now env ws c.in-Ok.pred rows before after rises c.in-Ok.ensures.asks c.in_ok-rows.ensures.found (asked_all c.in-Ok.pred ps ws before mid after c.in_ok-rows.ensures.looks later)
+    asked_delete tables t c.args.conds.now env ws (asked c.ask_where.new.log) rows before after rises c.in-Ok.ensures.asks c.in_ok-rows.ensures.found (asked_all (asked c.ask_where.new.log) ps ws before mid after c.in_ok-rows.ensures.looks later)
 
 pub returns-in_err-rows-clause-looks : goal.returns-in_err-rows-clause-looks
 returns-in_err-rows-clause-looks g c =
@@ -77,15 +75,21 @@ returns-in_err-rows-clause-looks g c =
     let env = c.args.context.now.env.now in
     let ws = earlier c.args.context.now.number c.args.context.now.undo.now in
     let before = g.V.View.sight c.args.view.now in
-    let mid = g.V.View.sight c.visible_rows.new.view in
+    let mid = g.V.View.sight c.rows_asked.new.view in
     let t = c.args.table in
     let rises = rising_applied ws before.database c.requires.stands.database.rising t in
-    let rows = found_by c.in-Ok.pred (applied ws before.database) in
+    let rows = found_by (asked c.ask_where.new.log) (applied ws before.database) in
     let ps = preds_up_to (delete_checks tables t rows) (applied ws before.database) in
-    asked_delete tables t c.args.conds.now env ws c.in-Ok.pred rows before mid rises c.in-Ok.ensures.asks refl (asked_first c.in-Ok.pred ps ws before mid c.visible_rows.ensures.looks)
+    asked_delete tables t c.args.conds.now env ws (asked c.ask_where.new.log) rows before mid rises c.in-Ok.ensures.asks refl (asked_first (asked c.ask_where.new.log) ps ws before mid c.rows_asked.ensures.looks)
 
 pub returns-in-Err-clause-looks : goal.returns-in-Err-clause-looks
 returns-in-Err-clause-looks g c = none_asked_by c.args.context.now.tables.now (Delete c.args.table c.args.conds.now) c.args.context.now.env.now (earlier c.args.context.now.number c.args.context.now.undo.now) (g.V.View.sight c.args.view.now)
 
 pub returns-in-Err-clause-view : goal.returns-in-Err-clause-view
-returns-in-Err-clause-view g c = c.stop_unasked.ensures.view (g.V.View.sight c.args.view.now)
+returns-in-Err-clause-view g c = c.stop_after.ensures.view (g.V.View.sight c.args.view.now)
+
+pub returns-in-Err-clause-rest : goal.returns-in-Err-clause-rest
+returns-in-Err-clause-rest g c = on_ok_weaker c.stop_after.result (λ ends. ended_rest c.in-Err.reason c.args.log.now c.ask_where.new.log c.stop_after.new.log c.requires.blank c.in-Err.ensures.err ends) c.stop_after.ensures.ended
+
+pub returns-in-Err-clause-err : goal.returns-in-Err-clause-err
+returns-in-Err-clause-err g c = err_then c.stop_after.result c.args.log.now c.ask_where.new.log c.stop_after.new.log c.stop_after.ensures.err c.in-Err.ensures.err

@@ -5,7 +5,6 @@ use Rattle.mv_values.specs.declared.rows.Keyed.{Keyed}
 use Rattle.mv_values.specs.declared.patch.Patch.TheVariants as patch
 use Rattle.mv_values.specs.declared.calls.End.{End}
 use Rattle.mv_values.specs.Patching.{applied}
-use Rattle.mv_values.specs.Tables.{key_columns}
 use Rattle.mv_catalog.specs.declared.resolved.RStmt.TheOpen.{Insert}
 use Rattle.mv_alone.specs.Changes.{new_row, keyed}
 use Rattle.mv_log.specs.Logged.{Logged}

@@ -1,16 +1,11 @@
-use Rattle.std.proofs.Common.{◌∷◌, [], ◌<◌, map, true, sym, ap, ◌∙◌, arith}
+use Rattle.std.proofs.Common.{◌∷◌, [], true, sym, ◌∙◌, arith}
 use Rattle.mv_values.specs.Patching.{applied}
-use Rattle.mv_log.specs.Logged.{Logged}
 use Rattle.mv_undo.specs.Owning.{earlier}
 use Rattle.mv_values.specs.declared.patch.Patch.TheVariants as patch
 use Rattle.mv_recorded.specs.Doing.{write}
 use Rattle.mv_checks.specs.Checking.{row_checks}
-use Rattle.mv_effect.proofs.Asked.{none_asked}
 use Rattle.mv_effect.proofs.Checking.{asks_nothing, checked_ends, checked_passes, no_sets, no_writes}
 use Rattle.mv_effect.proofs.changes.insert_row.Goals as goal
-
-pub check_row-requires-clause-begins : goal.check_row-requires-clause-begins
-check_row-requires-clause-begins g c = record { tests = c.requires.blank.tests; columns = c.requires.blank.columns }
 
 pub returns-in-Some-clause-ok : goal.returns-in-Some-clause-ok
 returns-in-Some-clause-ok g c =

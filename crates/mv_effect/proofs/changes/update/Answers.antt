@@ -19,12 +19,14 @@ use Rattle.mv_recorded.proofs.Checked.{update_plain}
 use Rattle.mv_recorded.proofs.Told.{update_done}
 use Rattle.mv_undo.specs.Owning.{earlier}
 use Rattle.mv_view.specs.Viewing.{Sight}
-use Rattle.mv_effect.specs.Looking.{AreSoundTables, AskedBy, AskedFor}
+use Rattle.mv_effect.specs.Looking.{AskedBy, AskedFor}
 use Rattle.mv_effect.proofs.Asked.{asked_all, asked_first, none_asked_by}
 use Rattle.mv_effect.proofs.Checking.{asked_unless}
-use Rattle.mv_effect.proofs.Ends.{effect_alone, plain_after}
+use Rattle.mv_effect.proofs.Ends.{plain_after}
 use Rattle.mv_effect.proofs.Few.{bytes_of}
 use Rattle.mv_checks.proofs.Referring.{none_set}
+use Rattle.mv_effect.specs.Asking.{asked}
+use Rattle.mv_effect.proofs.OnePred.{effect_alone_then, ended_rest, err_then}
 use Rattle.mv_effect.proofs.changes.update.Goals as goal
 
 -- what is asked of rows that were found
@@ -40,12 +42,6 @@ asked_update tables t items conds env ws pred rows before after stand is found a
 pub set_rows-requires-clause-columns : goal.set_rows-requires-clause-columns
 set_rows-requires-clause-columns g c = bytes_of (λ (i : RSetItem). i.column) c.args.context.now.tables.now c.args.update.now.table c.args.update.now.items.now c.requires.stands.each c.requires.sets.columns
 
-pub update_rows-requires-clause-columns : goal.update_rows-requires-clause-columns
-update_rows-requires-clause-columns g c = bytes_of (λ (i : RSetItem). i.column) c.args.context.now.tables.now c.args.update.now.table c.args.update.now.items.now c.requires.stands.each c.requires.sets.columns
-
-pub update_rows-requires-clause-stands : goal.update_rows-requires-clause-stands
-update_rows-requires-clause-stands g c = subst (λ (d : List (List Keyed)). AreSoundTables c.args.context.now.tables.now (earlier c.args.context.now.number c.args.context.now.undo.now) d) (sym c.in_ok-rows.ensures.view.same.database) c.requires.stands
-
 -- a column with REFERENCES is set
 
 pub returns-then-sets_reference-clause-effect : goal.returns-then-sets_reference-clause-effect
@@ -54,19 +50,19 @@ returns-then-sets_reference-clause-effect g c =
     let env = c.args.context.now.env.now in
     let ws = earlier c.args.context.now.number c.args.context.now.undo.now in
     let before = g.V.View.sight c.args.view.now in
-    let mid = g.V.View.sight c.visible_rows.new.view in
+    let mid = g.V.View.sight c.rows_asked.new.view in
     let t = c.args.update.now.table in
     let items = c.args.update.now.items.now in
     let db = applied ws before.database in
     let rows = c.in_ok-rows.rows in
     let made =
-    λ (db : List (List Keyed)). effect_unless (first_fault (update_checks tables t items env rows) db) (c.in-Ok.pred ∷ preds_up_to (update_checks tables t items env rows) db) (is_some_row rows) (on (changes t items (new_of tables t env items) rows) (λ vs. vs)) env in
-    let log : Logged = c.args.log.now in
+    λ (db : List (List Keyed)). effect_unless (first_fault (update_checks tables t items env rows) db) ((asked c.ask_update.new.log) ∷ preds_up_to (update_checks tables t items env rows) db) (is_some_row rows) (on (changes t items (new_of tables t env items) rows) (λ vs. vs)) env in
+    let log : Logged = c.ask_update.new.log in
     let ok = subst (λ (d : List (List Keyed)). OnOk c.update_rows.result (c.update_rows.new.log ≡ record log { effect = made (applied ws d) })) c.in_ok-rows.ensures.view.same.database c.update_rows.ensures.ok in
-    on_ok_weaker c.update_rows.result (λ is lines. ap (λ (l : Logged). l.effect) is ∙ update_done tables t items c.args.update.now.conds.now env db c.in-Ok.pred rows c.requires.stands.behind c.in-Ok.ensures.asks c.in_ok-rows.ensures.found lines) ok
+    on_ok_weaker c.update_rows.result (λ is lines. ap (λ (l : Logged). l.effect) is ∙ update_done tables t items c.args.update.now.conds.now env db (asked c.ask_update.new.log) rows c.requires.stands.behind c.in-Ok.ensures.asks c.in_ok-rows.ensures.found lines) ok
 
 pub returns-then-sets_reference-clause-rest : goal.returns-then-sets_reference-clause-rest
-returns-then-sets_reference-clause-rest g c = on_ok_weaker c.update_rows.result (λ is. effect_alone c.args.log.now c.update_rows.new.log _ is) c.update_rows.ensures.ok
+returns-then-sets_reference-clause-rest g c = on_ok_weaker c.update_rows.result (λ is. effect_alone_then c.args.log.now c.ask_update.new.log c.update_rows.new.log _ c.in-Ok.ensures.rest is) c.update_rows.ensures.ok
 
 pub returns-then-sets_reference-clause-looks : goal.returns-then-sets_reference-clause-looks
 returns-then-sets_reference-clause-looks g c =
@@ -74,14 +70,14 @@ returns-then-sets_reference-clause-looks g c =
     let env = c.args.context.now.env.now in
     let ws = earlier c.args.context.now.number c.args.context.now.undo.now in
     let before = g.V.View.sight c.args.view.now in
-    let mid = g.V.View.sight c.visible_rows.new.view in
+    let mid = g.V.View.sight c.rows_asked.new.view in
     let t = c.args.update.now.table in
     let items = c.args.update.now.items.now in
     let after = g.V.View.sight c.update_rows.new.view in
     let rows = c.in_ok-rows.rows in
     let ps = preds_up_to (update_checks tables t items env rows) (applied ws before.database) in
     let later = subst (λ (d : List (List Keyed)). AskedFor (preds_up_to (update_checks tables t items env rows) (applied ws d)) ws mid after) c.in_ok-rows.ensures.view.same.database c.update_rows.ensures.looks in
-    asked_update tables t items c.args.update.now.conds.now env ws c.in-Ok.pred rows before after c.requires.stands.behind c.in-Ok.ensures.asks c.in_ok-rows.ensures.found (asked_all c.in-Ok.pred ps ws before mid after c.in_ok-rows.ensures.looks later)
+    asked_update tables t items c.args.update.now.conds.now env ws (asked c.ask_update.new.log) rows before after c.requires.stands.behind c.in-Ok.ensures.asks c.in_ok-rows.ensures.found (asked_all (asked c.ask_update.new.log) ps ws before mid after c.in_ok-rows.ensures.looks later)
 
 -- none is set
 
@@ -91,17 +87,17 @@ returns-clause-effect g c = λ lines.
     let env = c.args.context.now.env.now in
     let ws = earlier c.args.context.now.number c.args.context.now.undo.now in
     let before = g.V.View.sight c.args.view.now in
-    let mid = g.V.View.sight c.visible_rows.new.view in
+    let mid = g.V.View.sight c.rows_asked.new.view in
     let t = c.args.update.now.table in
     let items = c.args.update.now.items.now in
     let db = applied ws before.database in
     let rows = c.in_ok-rows.rows in
     let made =
-    λ (db : List (List Keyed)). effect_unless (first_fault (update_checks tables t items env rows) db) (c.in-Ok.pred ∷ preds_up_to (update_checks tables t items env rows) db) (is_some_row rows) (on (changes t items (new_of tables t env items) rows) (λ vs. vs)) env in
+    λ (db : List (List Keyed)). effect_unless (first_fault (update_checks tables t items env rows) db) ((asked c.ask_update.new.log) ∷ preds_up_to (update_checks tables t items env rows) db) (is_some_row rows) (on (changes t items (new_of tables t env items) rows) (λ vs. vs)) env in
     let plain = update_plain tables t db env items rows (none_set tables t items (sym c.sets_reference.ensures ∙ c.if-sets_reference.false)) in
     ap (λ (l : Logged). l.effect) c.in_ok-set_rows.ensures.ok
-    ∙ (plain_after c.in-Ok.pred (changes t items (new_of tables t env items) rows) (first_fault (update_checks tables t items env rows) db) (preds_up_to (update_checks tables t items env rows) db) (is_some_row rows) env plain.0 plain.1
-    ∙ update_done tables t items c.args.update.now.conds.now env db c.in-Ok.pred rows c.requires.stands.behind c.in-Ok.ensures.asks c.in_ok-rows.ensures.found lines)
+    ∙ (plain_after (asked c.ask_update.new.log) (changes t items (new_of tables t env items) rows) (first_fault (update_checks tables t items env rows) db) (preds_up_to (update_checks tables t items env rows) db) (is_some_row rows) env plain.0 plain.1
+    ∙ update_done tables t items c.args.update.now.conds.now env db (asked c.ask_update.new.log) rows c.requires.stands.behind c.in-Ok.ensures.asks c.in_ok-rows.ensures.found lines)
 
 pub returns-clause-looks : goal.returns-clause-looks
 returns-clause-looks g c =
@@ -109,12 +105,12 @@ returns-clause-looks g c =
     let env = c.args.context.now.env.now in
     let ws = earlier c.args.context.now.number c.args.context.now.undo.now in
     let before = g.V.View.sight c.args.view.now in
-    let mid = g.V.View.sight c.visible_rows.new.view in
+    let mid = g.V.View.sight c.rows_asked.new.view in
     let t = c.args.update.now.table in
     let items = c.args.update.now.items.now in
     let rows = c.in_ok-rows.rows in
     let ps = preds_up_to (update_checks tables t items env rows) (applied ws before.database) in
-    asked_update tables t items c.args.update.now.conds.now env ws c.in-Ok.pred rows before mid c.requires.stands.behind c.in-Ok.ensures.asks c.in_ok-rows.ensures.found (asked_first c.in-Ok.pred ps ws before mid c.in_ok-rows.ensures.looks)
+    asked_update tables t items c.args.update.now.conds.now env ws (asked c.ask_update.new.log) rows before mid c.requires.stands.behind c.in-Ok.ensures.asks c.in_ok-rows.ensures.found (asked_first (asked c.ask_update.new.log) ps ws before mid c.in_ok-rows.ensures.looks)
 
 pub returns-in_err-set_rows-clause-looks : goal.returns-in_err-set_rows-clause-looks
 returns-in_err-set_rows-clause-looks g c =
@@ -122,12 +118,12 @@ returns-in_err-set_rows-clause-looks g c =
     let env = c.args.context.now.env.now in
     let ws = earlier c.args.context.now.number c.args.context.now.undo.now in
     let before = g.V.View.sight c.args.view.now in
-    let mid = g.V.View.sight c.visible_rows.new.view in
+    let mid = g.V.View.sight c.rows_asked.new.view in
     let t = c.args.update.now.table in
     let items = c.args.update.now.items.now in
     let rows = c.in_ok-rows.rows in
     let ps = preds_up_to (update_checks tables t items env rows) (applied ws before.database) in
-    asked_update tables t items c.args.update.now.conds.now env ws c.in-Ok.pred rows before mid c.requires.stands.behind c.in-Ok.ensures.asks c.in_ok-rows.ensures.found (asked_first c.in-Ok.pred ps ws before mid c.in_ok-rows.ensures.looks)
+    asked_update tables t items c.args.update.now.conds.now env ws (asked c.ask_update.new.log) rows before mid c.requires.stands.behind c.in-Ok.ensures.asks c.in_ok-rows.ensures.found (asked_first (asked c.ask_update.new.log) ps ws before mid c.in_ok-rows.ensures.looks)
 
 -- the rows weren't found
 
@@ -137,15 +133,21 @@ returns-in_err-rows-clause-looks g c =
     let env = c.args.context.now.env.now in
     let ws = earlier c.args.context.now.number c.args.context.now.undo.now in
     let before = g.V.View.sight c.args.view.now in
-    let mid = g.V.View.sight c.visible_rows.new.view in
+    let mid = g.V.View.sight c.rows_asked.new.view in
     let t = c.args.update.now.table in
     let items = c.args.update.now.items.now in
-    let rows = found_by c.in-Ok.pred (applied ws before.database) in
+    let rows = found_by (asked c.ask_update.new.log) (applied ws before.database) in
     let ps = preds_up_to (update_checks tables t items env rows) (applied ws before.database) in
-    asked_update tables t items c.args.update.now.conds.now env ws c.in-Ok.pred rows before mid c.requires.stands.behind c.in-Ok.ensures.asks refl (asked_first c.in-Ok.pred ps ws before mid c.visible_rows.ensures.looks)
+    asked_update tables t items c.args.update.now.conds.now env ws (asked c.ask_update.new.log) rows before mid c.requires.stands.behind c.in-Ok.ensures.asks refl (asked_first (asked c.ask_update.new.log) ps ws before mid c.rows_asked.ensures.looks)
 
 pub returns-in-Err-clause-looks : goal.returns-in-Err-clause-looks
 returns-in-Err-clause-looks g c = none_asked_by c.args.context.now.tables.now (Update c.args.update.now.table c.args.update.now.items.now c.args.update.now.conds.now) c.args.context.now.env.now (earlier c.args.context.now.number c.args.context.now.undo.now) (g.V.View.sight c.args.view.now)
 
 pub returns-in-Err-clause-view : goal.returns-in-Err-clause-view
-returns-in-Err-clause-view g c = c.stop_unasked.ensures.view (g.V.View.sight c.args.view.now)
+returns-in-Err-clause-view g c = c.stop_after.ensures.view (g.V.View.sight c.args.view.now)
+
+pub returns-in-Err-clause-rest : goal.returns-in-Err-clause-rest
+returns-in-Err-clause-rest g c = on_ok_weaker c.stop_after.result (λ ends. ended_rest c.in-Err.reason c.args.log.now c.ask_update.new.log c.stop_after.new.log c.requires.blank c.in-Err.ensures.err ends) c.stop_after.ensures.ended
+
+pub returns-in-Err-clause-err : goal.returns-in-Err-clause-err
+returns-in-Err-clause-err g c = err_then c.stop_after.result c.args.log.now c.ask_update.new.log c.stop_after.new.log c.stop_after.ensures.err c.in-Err.ensures.err

@@ -1,4 +1,4 @@
-use Rattle.std.proofs.Common.{◌≡◌, ◌+◌, [], ◌∷◌, List, Some, None, map, drop, sym, ap, subst, ◌∙◌}
+use Rattle.std.proofs.Common.{◌≡◌, ◌+◌, List, map, drop, sym, ap, subst, ◌∙◌, refl}
 use Rattle.mv_values.specs.declared.rows.Keyed.{Keyed}
 use Rattle.mv_values.specs.Patching.{applied}
 use Rattle.mv_values.proofs.Deciding.{always_err}
@@ -17,22 +17,20 @@ loop-check-init g c =
     let ws = earlier c.args.context.now.number c.args.context.now.undo.now in
     none_passed (map (meant c.args.own.now) c.args.checks.now) (applied ws (g.V.View.sight c.args.view.now).database) ws c.args.log.now (g.V.View.sight c.args.view.now)
 
-pub run_one-requires-clause-stands : goal.run_one-requires-clause-stands
-run_one-requires-clause-stands g c =
-    subst (λ (d : List (List Keyed)). AreSoundTables c.args.context.now.tables.now (earlier c.args.context.now.number c.args.context.now.undo.now) d) (sym c.loop-check.invariant.same.database) c.requires.stands
-
-pub run_one-requires-clause-may_ask : goal.run_one-requires-clause-may_ask
-run_one-requires-clause-may_ask g c =
+pub run_one-requires : goal.run_one-requires
+run_one-requires g c =
+    let may = MayAsk c.args.context.now.tables.now in
     let found = c.args.own.now in
-    let i = c.loop-check.check-index in
-    each_from (MayAsk c.args.context.now.tables.now) found c.args.checks.now i c.check-item.result c.loop-check-test.true c.check-item.is (each_at (MayAsk c.args.context.now.tables.now) found c.args.checks.now i c.requires.may_ask)
-
-pub run_one-requires-clause-begins : goal.run_one-requires-clause-begins
-run_one-requires-clause-begins g c =
-    record {
-      tests = ap (λ (l : Logged). l.tests) c.loop-check.invariant.log ∙ c.requires.begins.tests;
-      columns = ap (λ (l : Logged). l.columns) c.loop-check.invariant.log ∙ c.requires.begins.columns;
-    }
+    let i = c.loop-check.check-index in λ k. (
+      (refl, tt),
+      (
+        subst (λ (d : List (List Keyed)). AreSoundTables c.args.context.now.tables.now (earlier c.args.context.now.number c.args.context.now.undo.now) d) (sym c.loop-check.invariant.same.database) c.requires.stands,
+        (
+          each_from may found c.args.checks.now i c.check-item.result c.loop-check-test.true c.check-item.is (each_at may found c.args.checks.now i c.requires.may_ask),
+          record { tests = ap (λ (l : Logged). l.tests) c.loop-check.invariant.log ∙ c.requires.begins.tests; columns = ap (λ (l : Logged). l.columns) c.loop-check.invariant.log ∙ c.requires.begins.columns },
+        ),
+      ),
+    )
 
 pub loop-check-preserved : goal.loop-check-preserved
 loop-check-preserved g c =

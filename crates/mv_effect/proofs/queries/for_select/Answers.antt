@@ -1,10 +1,13 @@
 use Rattle.std.proofs.Common.{ap, refl, ◌∙◌}
+use Rattle.std.proofs.lemmas.Result.{on_ok_weaker}
 use Rattle.mv_values.specs.Patching.{applied, found_by}
 use Rattle.mv_catalog.specs.declared.resolved.RStmt.TheOpen.{ForSelect}
 use Rattle.mv_log.specs.Logged.{Logged}
 use Rattle.mv_undo.specs.Owning.{earlier}
 use Rattle.mv_effect.proofs.Asked.{asked_by_one, none_asked_by}
 use Rattle.mv_recorded.proofs.Chosen.{for_goes}
+use Rattle.mv_effect.specs.Asking.{asked}
+use Rattle.mv_effect.proofs.OnePred.{ended_rest, err_then}
 use Rattle.mv_effect.proofs.queries.for_select.Goals as goal
 
 pub returns-clause-effect : goal.returns-clause-effect
@@ -14,7 +17,7 @@ returns-clause-effect g c = λ row body lines.
     let db = applied (earlier c.args.context.now.number c.args.context.now.undo.now) (g.V.View.sight c.args.view.now).database in
     let found = c.as_slice.ensures.items ∙ c.in_ok-rows.ensures.found in
     ap (λ (l : Logged). l.effect) c.in_ok-loop_rows.ensures.ok
-    ∙ for_goes tables row c.args.once c.args.query.now.columns.now c.args.query.now.table c.args.query.now.conds.now c.args.query.now.sorts.now body env db c.in-Ok.pred c.as_slice.result.now c.in-Ok.ensures.asks found lines
+    ∙ for_goes tables row c.args.once c.args.query.now.columns.now c.args.query.now.table c.args.query.now.conds.now c.args.query.now.sorts.now body env db (asked c.ask_select.new.log) c.as_slice.result.now c.in-Ok.ensures.asks found lines
 
 pub returns-clause-looks : goal.returns-clause-looks
 returns-clause-looks g c = λ row body.
@@ -23,7 +26,7 @@ returns-clause-looks g c = λ row body.
     let ws = earlier c.args.context.now.number c.args.context.now.undo.now in
     let before = g.V.View.sight c.args.view.now in
     let db = applied ws before.database in
-    asked_by_one tables (ForSelect row c.args.once c.args.query.now.columns.now c.args.query.now.table c.args.query.now.conds.now c.args.query.now.sorts.now body) env ws before (g.V.View.sight c.visible_rows.new.view) _ c.in-Ok.pred (for_goes tables row c.args.once c.args.query.now.columns.now c.args.query.now.table c.args.query.now.conds.now c.args.query.now.sorts.now body env db c.in-Ok.pred (found_by c.in-Ok.pred db) c.in-Ok.ensures.asks refl) refl c.in_ok-rows.ensures.looks
+    asked_by_one tables (ForSelect row c.args.once c.args.query.now.columns.now c.args.query.now.table c.args.query.now.conds.now c.args.query.now.sorts.now body) env ws before (g.V.View.sight c.rows_asked.new.view) _ (asked c.ask_select.new.log) (for_goes tables row c.args.once c.args.query.now.columns.now c.args.query.now.table c.args.query.now.conds.now c.args.query.now.sorts.now body env db (asked c.ask_select.new.log) (found_by (asked c.ask_select.new.log) db) c.in-Ok.ensures.asks refl) refl c.in_ok-rows.ensures.looks
 
 pub returns-in_err-loop_rows-clause-looks : goal.returns-in_err-loop_rows-clause-looks
 returns-in_err-loop_rows-clause-looks g c = λ row body.
@@ -32,7 +35,7 @@ returns-in_err-loop_rows-clause-looks g c = λ row body.
     let ws = earlier c.args.context.now.number c.args.context.now.undo.now in
     let before = g.V.View.sight c.args.view.now in
     let db = applied ws before.database in
-    asked_by_one tables (ForSelect row c.args.once c.args.query.now.columns.now c.args.query.now.table c.args.query.now.conds.now c.args.query.now.sorts.now body) env ws before (g.V.View.sight c.visible_rows.new.view) _ c.in-Ok.pred (for_goes tables row c.args.once c.args.query.now.columns.now c.args.query.now.table c.args.query.now.conds.now c.args.query.now.sorts.now body env db c.in-Ok.pred (found_by c.in-Ok.pred db) c.in-Ok.ensures.asks refl) refl c.in_ok-rows.ensures.looks
+    asked_by_one tables (ForSelect row c.args.once c.args.query.now.columns.now c.args.query.now.table c.args.query.now.conds.now c.args.query.now.sorts.now body) env ws before (g.V.View.sight c.rows_asked.new.view) _ (asked c.ask_select.new.log) (for_goes tables row c.args.once c.args.query.now.columns.now c.args.query.now.table c.args.query.now.conds.now c.args.query.now.sorts.now body env db (asked c.ask_select.new.log) (found_by (asked c.ask_select.new.log) db) c.in-Ok.ensures.asks refl) refl c.in_ok-rows.ensures.looks
 
 pub returns-in_err-rows-clause-looks : goal.returns-in_err-rows-clause-looks
 returns-in_err-rows-clause-looks g c = λ row body.
@@ -41,10 +44,16 @@ returns-in_err-rows-clause-looks g c = λ row body.
     let ws = earlier c.args.context.now.number c.args.context.now.undo.now in
     let before = g.V.View.sight c.args.view.now in
     let db = applied ws before.database in
-    asked_by_one tables (ForSelect row c.args.once c.args.query.now.columns.now c.args.query.now.table c.args.query.now.conds.now c.args.query.now.sorts.now body) env ws before (g.V.View.sight c.visible_rows.new.view) _ c.in-Ok.pred (for_goes tables row c.args.once c.args.query.now.columns.now c.args.query.now.table c.args.query.now.conds.now c.args.query.now.sorts.now body env db c.in-Ok.pred (found_by c.in-Ok.pred db) c.in-Ok.ensures.asks refl) refl c.visible_rows.ensures.looks
+    asked_by_one tables (ForSelect row c.args.once c.args.query.now.columns.now c.args.query.now.table c.args.query.now.conds.now c.args.query.now.sorts.now body) env ws before (g.V.View.sight c.rows_asked.new.view) _ (asked c.ask_select.new.log) (for_goes tables row c.args.once c.args.query.now.columns.now c.args.query.now.table c.args.query.now.conds.now c.args.query.now.sorts.now body env db (asked c.ask_select.new.log) (found_by (asked c.ask_select.new.log) db) c.in-Ok.ensures.asks refl) refl c.rows_asked.ensures.looks
 
 pub returns-in-Err-clause-looks : goal.returns-in-Err-clause-looks
 returns-in-Err-clause-looks g c = λ row body. none_asked_by c.args.context.now.tables.now (ForSelect row c.args.once c.args.query.now.columns.now c.args.query.now.table c.args.query.now.conds.now c.args.query.now.sorts.now body) c.args.context.now.env.now (earlier c.args.context.now.number c.args.context.now.undo.now) (g.V.View.sight c.args.view.now)
 
 pub returns-in-Err-clause-view : goal.returns-in-Err-clause-view
-returns-in-Err-clause-view g c = c.stop_unasked.ensures.view (g.V.View.sight c.args.view.now)
+returns-in-Err-clause-view g c = c.stop_after.ensures.view (g.V.View.sight c.args.view.now)
+
+pub returns-in-Err-clause-rest : goal.returns-in-Err-clause-rest
+returns-in-Err-clause-rest g c = on_ok_weaker c.stop_after.result (λ ends. ended_rest c.in-Err.reason c.args.log.now c.ask_select.new.log c.stop_after.new.log c.requires.blank c.in-Err.ensures.err ends) c.stop_after.ensures.ended
+
+pub returns-in-Err-clause-err : goal.returns-in-Err-clause-err
+returns-in-Err-clause-err g c = err_then c.stop_after.result c.args.log.now c.ask_select.new.log c.stop_after.new.log c.stop_after.ensures.err c.in-Err.ensures.err

@@ -8,6 +8,7 @@ use Rattle.mv_values.specs.Keys.{IsRising}
 use Rattle.mv_alone.specs.Rows.{item_at, matching, ordered}
 use Rattle.mv_log.specs.Logged.{Logged}
 use Rattle.mv_recorded.specs.Effects.{effect_of_select}
+use Rattle.mv_effect.specs.Asking.{asked}
 use Rattle.mv_effect.proofs.AllRows.{all_rows}
 use Rattle.mv_effect.proofs.queries.select_at.Goals as goal
 
@@ -17,8 +18,8 @@ chosen_row-requires c = subst IsRising (sym (map-id c.args.rows.now)) c.requires
 pub returns-clause-ok : goal.returns-clause-ok
 returns-clause-ok c =
     let log : Logged = c.args.log.now in
-    let at : to_z w64 (of_z w64 c.args.asked.1) ≡ c.args.asked.1 = search rules in
+    let at : to_z w64 (of_z w64 c.args.at) ≡ c.args.at = search rules in
     let is =
     sym (option_map_id (option_copied c.in_ok-item.item))
-    ∙ (c.in_ok-item.ensures ∙ (ap (λ rows. item_at (ordered c.args.query.now.sorts.now rows) (to_z w64 (of_z w64 c.args.asked.1))) (all_rows c.args.rows.now) ∙ ap (item_at (ordered c.args.query.now.sorts.now (matching [] c.args.rows.now))) at)) in
-    subst (λ (o : Option Keyed). OnOk c.select_row.result (c.select_row.new.log ≡ record log { effect = effect_of_select c.args.asked.0 c.args.query.now.columns.now c.args.to.now o c.args.env.now })) is c.select_row.ensures.ok
+    ∙ (c.in_ok-item.ensures ∙ (ap (λ rows. item_at (ordered c.args.query.now.sorts.now rows) (to_z w64 (of_z w64 c.args.at))) (all_rows c.args.rows.now) ∙ ap (item_at (ordered c.args.query.now.sorts.now (matching [] c.args.rows.now))) at)) in
+    subst (λ (o : Option Keyed). OnOk c.select_row.result (c.select_row.new.log ≡ record log { effect = effect_of_select (asked log) c.args.query.now.columns.now c.args.to.now o c.args.env.now })) is c.select_row.ensures.ok

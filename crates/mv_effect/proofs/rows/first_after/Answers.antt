@@ -15,4 +15,4 @@ returns-clause-found g c =
     let first =
     subst (λ db. IsFirstOf d (is_sought pred ws) (found_by pred (applied ws db)) other own) (ap (λ s. s.database) c.in_ok-other.ensures.counts)
     (subst (λ o. IsFirstOf d (is_sought pred ws) (found_by pred (applied ws (g.V.View.sight c.foremost.new.self).database)) o own) c.as_ref.ensures.value c.in_ok-own.ensures.found) in
-    c.or.ensures ∙ nearer_first d pred ws (g.V.View.sight c.args.view.now).database c.requires.rising c.requires.table c.requires.behind other own c.in_ok-other.ensures.found first
+    c.or.ensures ∙ nearer_first d pred ws (g.V.View.sight c.args.view.now).database c.requires.rising c.requires.table c.requires.behind other own (rw c.table-table.ensures at c.in_ok-other.ensures.found) first

@@ -1,7 +1,6 @@
-use Rattle.std.proofs.Common.{rules, ◌≡◌, ◌<◌, ◌-◌, Some, inr, length, sym, ap, subst, ◌∙◌, arith}
+use Rattle.std.proofs.Common.{rules, ◌≡◌, ◌-◌, Some, inr, length, sym, ap, subst, ◌∙◌, arith}
 use Rattle.std.specs.Option.{option_copied}
 use Rattle.mv_values.specs.Patching.{row_of, applied, found_by}
-use Rattle.mv_record.specs.Writes.{AreRising}
 use Rattle.mv_undo.specs.Owning.{earlier, is_sought}
 use Rattle.mv_effect.specs.Firsts.{IsFirstOf}
 use Rattle.mv_effect.specs.Looking.{different}
@@ -26,12 +25,6 @@ loop-key-init g c =
       asked = asked_nothing (different ws - length c.in_ok-keys.keys) (g.V.View.sight c.args.view.now);
     }
 
-pub own_row-requires-clause-rising : goal.own_row-requires-clause-rising
-own_row-requires-clause-rising g c = subst AreRising (sym c.loop-key.invariant.asked.same.database) c.requires.rising
-
-pub own_row-requires-clause-table : goal.own_row-requires-clause-table
-own_row-requires-clause-table g c = subst (λ db. c.args.pred.now.table < length db) (sym c.loop-key.invariant.asked.same.database) c.requires.table
-
 pub returns-then-not-is_met_before-clause-found : goal.returns-then-not-is_met_before-clause-found
 returns-then-not-is_met_before-clause-found g c =
     let ws = earlier c.args.number c.args.undo.now in
@@ -48,7 +41,7 @@ returns-in-Some-2-clause-found g c =
     let key = c.in-Some.key.now in
     let row = c.in-Some-2.row in
     let found : c.in_ok-row.field-0 ≡ row_of rows key = c.in_ok-row.ensures.found ∙ ap (λ db. row_of (found_by pred (applied ws db)) key) c.loop-key.invariant.asked.same.database in
-    subst (λ k. IsFirstOf d (is_sought pred ws) rows other (Some (record { key = k; row = row }))) (sym c.in_ok-key.ensures)
+    subst (λ item. IsFirstOf d (is_sought pred ws) rows other (Some item)) (sym (c.under.ensures ∙ ap (λ k. record { key = k; row = row }) c.in_ok-key.ensures))
     (first_with_row d (is_sought pred ws) rows key c.loop-key.keys c.take_next.new.self c.in-Some.ensures c.loop-key.invariant.rising c.loop-key.invariant.each other row (sym c.if-not-is_met_before.ensures) (sym found ∙ c.in-Some-2.is))
 
 pub loop-key-preserved : goal.loop-key-preserved

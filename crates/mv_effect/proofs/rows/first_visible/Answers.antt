@@ -1,4 +1,4 @@
-use Rattle.std.proofs.Common.{◌<◌, subst, sym, ap, ◌∙◌}
+use Rattle.std.proofs.Common.{◌<◌, subst, sym, ap, ◌∙◌, refl}
 use Rattle.std.proofs.lemmas.Result.{IfOk-weaker}
 use Rattle.mv_undo.specs.Owning.{earlier}
 use Rattle.mv_values.specs.Patching.{applied}
@@ -7,19 +7,20 @@ use Rattle.mv_alone.proofs.Spanning.{foremost_of_one}
 use Rattle.mv_recorded.proofs.Matching.{admitted}
 use Rattle.mv_effect.proofs.rows.first_visible.Goals as goal
 
-pub first_after-requires-clause-table : goal.first_after-requires-clause-table
-first_after-requires-clause-table g c = subst (λ n. c.args.pred.now.table < n) (sym c.requires.stands.database.size) c.requires.knows.table
-
-pub first_after-requires-clause-before : goal.first_after-requires-clause-before
-first_after-requires-clause-before g c =
-    admitted c.args.context.now.tables.now c.args.pred.now (g.V.View.sight c.args.view.now).database c.requires.knows c.requires.stands.database.keys
-
-pub first_after-requires-clause-behind : goal.first_after-requires-clause-behind
-first_after-requires-clause-behind g c =
-    admitted c.args.context.now.tables.now c.args.pred.now (applied (earlier c.args.context.now.number c.args.context.now.undo.now) (g.V.View.sight c.args.view.now).database) c.requires.knows c.requires.stands.behind
-
-pub first_after-requires-clause-rising : goal.first_after-requires-clause-rising
-first_after-requires-clause-rising g c = c.requires.stands.database.rising
+pub first_after-requires : goal.first_after-requires
+first_after-requires g c = λ k. (
+  (refl, tt),
+  (
+    c.requires.stands.database.rising,
+    (
+      subst (λ n. c.args.pred.now.table < n) (sym c.requires.stands.database.size) c.requires.knows.table,
+      (
+        admitted c.args.context.now.tables.now c.args.pred.now (g.V.View.sight c.args.view.now).database c.requires.knows c.requires.stands.database.keys,
+        admitted c.args.context.now.tables.now c.args.pred.now (applied (earlier c.args.context.now.number c.args.context.now.undo.now) (g.V.View.sight c.args.view.now).database) c.requires.knows c.requires.stands.behind,
+      ),
+    ),
+  ),
+)
 
 pub returns-in-None-clause-found : goal.returns-in-None-clause-found
 returns-in-None-clause-found g c = c.first_after.ensures.found
@@ -38,6 +39,3 @@ returns-in-Some-clause-view g c = c.only_row.ensures.view
 
 pub returns-in-Some-clause-looks : goal.returns-in-Some-clause-looks
 returns-in-Some-clause-looks g c = c.only_row.ensures.looks
-
-pub only_row-requires-clause-only : goal.only_row-requires-clause-only
-only_row-requires-clause-only g c = rw c.in-Some.is at c.in_ok-key.ensures

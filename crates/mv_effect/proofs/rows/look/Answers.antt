@@ -14,8 +14,8 @@ returns-then-is_empty-clause-found g c =
     none_written c.args.pred.now (earlier c.args.number c.args.undo.now) c.in_ok-rows.rows c.in_ok-keys.keys (g.V.View.sight c.args.view.now).database c.in_ok-keys.ensures none c.requires.rising
     c.requires.table c.in_ok-rows.ensures.found c.requires.before c.requires.behind
 
-pub overlay-requires : goal.overlay-requires
-overlay-requires g c = subst (AreSought c.args.pred.now (earlier c.args.number c.args.undo.now)) (sym c.as_slice-keys.ensures) c.in_ok-keys.ensures
+pub overlaid-requires : goal.overlaid-requires
+overlaid-requires g c = subst (AreSought c.args.pred.now (earlier c.args.number c.args.undo.now)) (sym c.as_slice-keys.ensures) c.in_ok-keys.ensures
 
 pub returns-clause-found : goal.returns-clause-found
 returns-clause-found g c =
@@ -24,7 +24,7 @@ returns-clause-found g c =
       table = c.requires.table;
       found = c.in_ok-rows.ensures.found;
       old = λ key so unfixed.
-          c.in_ok-own.ensures.found key (ap (λ ks. is_among ks key) c.as_slice-keys.ensures ∙ (c.in_ok-keys.ensures.are key ∙ so)) unfixed
+          (rw c.table.ensures at c.in_ok-own.ensures.found) key (ap (λ ks. is_among ks key) c.as_slice-keys.ensures ∙ (c.in_ok-keys.ensures.are key ∙ so)) unfixed
           ∙ ap (λ db. row_of (rows_at db c.args.pred.now.table) key) (ap (λ s. s.database) c.in_ok-rows.ensures.counts);
       before = c.requires.before;
       behind = c.requires.behind;

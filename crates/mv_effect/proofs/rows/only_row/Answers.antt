@@ -1,15 +1,9 @@
-use Rattle.std.proofs.Common.{◌<◌, subst, sym, ap, ◌∙◌}
+use Rattle.std.proofs.Common.{ap, ◌∙◌}
 use Rattle.mv_values.specs.Patching.{standing, applied}
 use Rattle.mv_record.proofs.Patching.{rising_applied}
 use Rattle.mv_undo.specs.Owning.{earlier}
 use Rattle.mv_effect.proofs.Whole.{found_whole}
 use Rattle.mv_effect.proofs.rows.only_row.Goals as goal
-
-pub row_under-requires-clause-rising : goal.row_under-requires-clause-rising
-row_under-requires-clause-rising g c = c.requires.stands.database.rising
-
-pub row_under-requires-clause-table : goal.row_under-requires-clause-table
-row_under-requires-clause-table g c = subst (λ n. c.args.pred.now.table < n) (sym c.requires.stands.database.size) c.requires.knows.table
 
 pub returns-clause-found : goal.returns-clause-found
 returns-clause-found g c =

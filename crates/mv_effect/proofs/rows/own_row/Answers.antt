@@ -13,6 +13,8 @@ returns-clause-found g c =
     let pred = c.args.pred.now in
     let ws = earlier c.args.number c.args.undo.now in
     let db = (g.V.View.sight c.args.view.now).database in
-    c.matched.ensures
-    ∙ (ap (matched pred) (c.in_ok-row.ensures ∙ fixed_or_same (writes_on pred.table c.args.key.now ws) _ (row_of (rows_at db pred.table) c.args.key.now) (λ unfixed. c.as_ref.ensures.value ∙ c.in_ok-was.ensures.found unfixed))
-    ∙ sym (row_after pred ws db c.requires.rising c.requires.table c.args.key.now))
+    let was = rw c.table-table.ensures at c.in_ok-was.ensures.found in
+    c.made.ensures
+    ∙ (c.matched.ensures
+    ∙ (ap (matched pred) ((rw c.table-table.ensures at c.in_ok-row.ensures) ∙ fixed_or_same (writes_on pred.table c.args.key.now ws) _ (row_of (rows_at db pred.table) c.args.key.now) (λ unfixed. c.borrowed.ensures ∙ was unfixed))
+    ∙ sym (row_after pred ws db c.requires.rising c.requires.table c.args.key.now)))

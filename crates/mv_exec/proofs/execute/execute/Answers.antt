@@ -1,4 +1,4 @@
-use Rattle.std.proofs.Common.{arith, ◌∙◌, List, length, refl, sym, ap, subst}
+use Rattle.std.proofs.Common.{rules, arith, ◌∙◌, List, length, refl, sym, ap, subst}
 use Rattle.std.proofs.lemmas.List.{length_push}
 use Rattle.mv_values.specs.declared.schema.TableInfo.{TableInfo}
 use Rattle.mv_values.specs.Patching.{applied}
@@ -19,23 +19,28 @@ use Rattle.mv_exec.proofs.Wellness.{well_at, columns_at}
 use Rattle.mv_exec.proofs.Writing.{keys_before}
 use Rattle.mv_exec.proofs.execute.execute.Goals as goal
 
-pub effect-requires-clause-executable : goal.effect-requires-clause-executable
-effect-requires-clause-executable g c =
-    let well = well_at c.args.graph.now.tables c.args.graph.now.procedure c.requires.at.at.0 c.args.position.place c.requires.at.s c.requires.sound.procedure c.requires.at.at.1.stands in
-    subst (λ (e : Env). IsExecutable c.as_slice.result.now c.args.position.step.now.statement e (earlier c.len-number.result c.args.task.now.undo) (g.V.View.sight c.args.view.now).database) (sym c.env.ensures)
-    (subst (λ (ts : List TableInfo). IsExecutable ts c.args.position.step.now.statement c.args.task.now.variables.env (earlier c.len-number.result c.args.task.now.undo) (g.V.View.sight c.args.view.now).database) (sym c.as_slice.ensures)
-    (subst (λ n. IsExecutable c.args.graph.now.tables c.args.position.step.now.statement c.args.task.now.variables.env (earlier n c.args.task.now.undo) (g.V.View.sight c.args.view.now).database) (sym c.len-number.ensures)
-    (record {
-      stands = record {
-        few = c.requires.sound.few;
-        each = c.requires.sound.tables;
-        parents = c.requires.sound.parents;
-        database = c.requires.database;
-        behind = keys_before c.args.graph.now.procedure c.args.graph.now.tables c.args.task.now (g.V.View.sight c.args.view.now).database c.requires.task c.requires.keys;
-      };
-      names = names_told c.args.graph.now.tables c.args.graph.now.procedure c.requires.at.s c.args.position.step.now c.requires.at.tells (well_named c.args.graph.now.tables c.requires.at.s well.0 well.1);
-      found = c.requires.found;
-    })))
+pub effect-requires : goal.effect-requires
+effect-requires g c = λ k. (
+  (refl, tt),
+  (
+    (let well = well_at c.args.graph.now.tables c.args.graph.now.procedure c.requires.at.at.0 c.args.position.place c.requires.at.s c.requires.sound.procedure c.requires.at.at.1.stands in
+        subst (λ (e : Env). IsExecutable c.as_slice.result.now c.args.position.step.now.statement e (earlier c.len-number.result c.args.task.now.undo) (g.V.View.sight c.args.view.now).database) (sym c.env.ensures)
+        (subst (λ (ts : List TableInfo). IsExecutable ts c.args.position.step.now.statement c.args.task.now.variables.env (earlier c.len-number.result c.args.task.now.undo) (g.V.View.sight c.args.view.now).database) (sym c.as_slice.ensures)
+        (subst (λ n. IsExecutable c.args.graph.now.tables c.args.position.step.now.statement c.args.task.now.variables.env (earlier n c.args.task.now.undo) (g.V.View.sight c.args.view.now).database) (sym c.len-number.ensures)
+        (record {
+          stands = record {
+            few = c.requires.sound.few;
+            each = c.requires.sound.tables;
+            parents = c.requires.sound.parents;
+            database = c.requires.database;
+            behind = keys_before c.args.graph.now.procedure c.args.graph.now.tables c.args.task.now (g.V.View.sight c.args.view.now).database c.requires.task c.requires.keys;
+          };
+          names = names_told c.args.graph.now.tables c.args.graph.now.procedure c.requires.at.s c.args.position.step.now c.requires.at.tells (well_named c.args.graph.now.tables c.requires.at.s well.0 well.1);
+          found = c.requires.found;
+        })))),
+    search rules,
+  ),
+)
 
 pub add-requires-clause-task : goal.add-requires-clause-task
 add-requires-clause-task g c = logged_task c.args.graph.now.procedure c.args.task.now c.effect.new.log (ap (λ (l : Logged). l.records) c.in_ok-holds.ensures.rest) c.requires.task

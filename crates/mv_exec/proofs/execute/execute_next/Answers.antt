@@ -1,4 +1,4 @@
-use Rattle.std.proofs.Common.{◌≡◌, ◌<◌, ◌^◌, ◌+◌, List, refl, sym, ap, subst, ◌∙◌}
+use Rattle.std.proofs.Common.{rules, ◌≡◌, ◌<◌, ◌^◌, ◌+◌, List, refl, sym, ap, subst, ◌∙◌}
 use Rattle.std.proofs.lemmas.Result.{err_from_is_err_and}
 use Rattle.mv_values.specs.Patching.{applied}
 use Rattle.mv_values.specs.Tables.{KeysStand}
@@ -15,15 +15,8 @@ use Rattle.mv_exec.proofs.Logs.{before_both, opened_blank}
 use Rattle.mv_exec.proofs.execute.execute_next.Goals as goal
 use Rattle.mv_exec.proofs.execute.execute_next.Goals.{After-execute, After-from_residual}
 
-pub execute-requires-clause-blank : goal.execute-requires-clause-blank
-execute-requires-clause-blank g c = opened_blank c.args.task.now.log c.come_to.new.task.log c.come_to.ensures.log c.requires.rest.blank
-
-pub execute-requires-clause-found : goal.execute-requires-clause-found
-execute-requires-clause-found g c = subst (λ n. n < 2 ^ 16) (sym c.come_to.ensures.found) c.requires.found
-
-pub execute-requires-clause-keys : goal.execute-requires-clause-keys
-execute-requires-clause-keys g c =
-    subst (λ (rs : List Record). KeysStand c.args.graph.now.tables (applied (writes_in rs) (g.V.View.sight c.args.view.now).database)) (sym c.come_to.ensures.same.records) c.requires.keys
+pub execute-requires : goal.execute-requires
+execute-requires g c = λ k. ((refl, tt), (search rules, (search rules, (search rules, ((opened_blank c.args.task.now.log c.come_to.new.task.log c.come_to.ensures.log c.requires.rest.blank), (search rules, (search rules, ((subst (λ n. n < 2 ^ 16) (sym c.come_to.ensures.found) c.requires.found), (search rules, (subst (λ (rs : List Record). KeysStand c.args.graph.now.tables (applied (writes_in rs) (g.V.View.sight c.args.view.now).database)) (sym c.come_to.ensures.same.records) c.requires.keys))))))))))
 
 pub returns-clause-executed : goal.returns-clause-executed
 returns-clause-executed g c =

@@ -1,4 +1,4 @@
-use Rattle.std.proofs.Common.{ap, ◌∙◌}
+use Rattle.std.proofs.Common.{refl, rules, ap, ◌∙◌}
 use Rattle.mv_log.specs.Logged.{Logged}
 use Rattle.mv_exec.specs.Running.{IsSameCall, IsSameCallOn}
 use Rattle.mv_exec.proofs.Fronts.{asked_after, stays, stays_on, grows, unchanged, executed_on, running_on, has_run, small_found, params_of}
@@ -6,20 +6,8 @@ use Rattle.mv_exec.proofs.Logs.{IsCleaned, cleaned}
 use Rattle.mv_exec.proofs.running.next.Goals as goal
 use Rattle.mv_exec.proofs.running.next.Goals.{In-Ok, After-truncate}
 
-pub execute_next-requires-clause-task : goal.execute_next-requires-clause-task
-execute_next-requires-clause-task g c = c.requires.running.1.is.whole
-
-pub execute_next-requires-clause-params : goal.execute_next-requires-clause-params
-execute_next-requires-clause-params g c = params_of c.args.graph.now c.requires.running.0 c.args.task.now c.requires.running.1.is
-
-pub execute_next-requires-clause-rest : goal.execute_next-requires-clause-rest
-execute_next-requires-clause-rest g c = c.requires.running.1.is.rest
-
-pub execute_next-requires-clause-found : goal.execute_next-requires-clause-found
-execute_next-requires-clause-found g c = small_found c.args.graph.now c.requires.running.0 c.args.task.now c.requires.sound c.requires.running.1.is
-
-pub execute_next-requires-clause-keys : goal.execute_next-requires-clause-keys
-execute_next-requires-clause-keys g c = c.requires.running.1.is.keys (g.V.View.sight c.args.view.now).database c.requires.running.1.rest c.requires.database c.requires.running.1.leaves
+pub execute_next-requires : goal.execute_next-requires
+execute_next-requires g c = λ k. ((refl, tt), (search rules, ((c.requires.running.1.is.whole), ((params_of c.args.graph.now c.requires.running.0 c.args.task.now c.requires.running.1.is), (search rules, ((c.requires.running.1.is.rest), ((small_found c.args.graph.now c.requires.running.0 c.args.task.now c.requires.sound c.requires.running.1.is), (search rules, (c.requires.running.1.is.keys (g.V.View.sight c.args.view.now).database c.requires.running.1.rest c.requires.database c.requires.running.1.leaves)))))))))
 
 -- Where a record was added
 

@@ -17,15 +17,16 @@ use Rattle.mv_shards.specs.Leaves.{start_shown}
 use Rattle.mv_gate.proofs.Pins.{leave_shown}
 use Rattle.mv_gate.proofs.installing.changes_last.Goals as goal
 
-pub changes_of_commit-requires-clause-tables : goal.changes_of_commit-requires-clause-tables
-changes_of_commit-requires-clause-tables g c =
-    size_shown g.N.Making.script c.args.ledger.now.knows.seen c.args.ledger.now.commits c.args.beside.now.script.now c.view-view.result.sight.database c.len-tables.result c.commits-commits.ensures.kept.script c.args.beside.now.named c.len-tables.ensures
-    (ap (λ (s : Sight). s.database) c.view-view.ensures.sight)
-
-pub changes_of_commit-requires-clause-rising : goal.changes_of_commit-requires-clause-rising
-changes_of_commit-requires-clause-rising g c =
-    let s = g.N.Making.script in
-    subst AreRising (sym (ap (λ (x : Sight). x.database) c.view-view.ensures.sight)) (tables_rise (script_in s) c.args.ledger.now.knows.seen c.args.ledger.now.commits c.commits-commits.ensures.kept.script)
+pub changes_of_commit-requires : goal.changes_of_commit-requires
+changes_of_commit-requires g c = λ k. (
+  (refl, tt),
+  (
+    (size_shown g.N.Making.script c.args.ledger.now.knows.seen c.args.ledger.now.commits c.args.beside.now.script.now c.view-view.result.sight.database c.len-tables.result c.commits-commits.ensures.kept.script c.args.beside.now.named c.len-tables.ensures
+        (ap (λ (s : Sight). s.database) c.view-view.ensures.sight)),
+    (let s = g.N.Making.script in
+        subst AreRising (sym (ap (λ (x : Sight). x.database) c.view-view.ensures.sight)) (tables_rise (script_in s) c.args.ledger.now.knows.seen c.args.ledger.now.commits c.commits-commits.ensures.kept.script)),
+  ),
+)
 
 pub last_error-requires-clause-low : goal.last_error-requires-clause-low
 last_error-requires-clause-low g c =

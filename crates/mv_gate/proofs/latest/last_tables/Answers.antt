@@ -5,15 +5,16 @@ use Rattle.mv_shards.specs.Ledgers.{Entered}
 use Rattle.mv_gate.proofs.Seeing.{asked_late, told_low, size_shown, few_shown}
 use Rattle.mv_gate.proofs.latest.last_tables.Goals as goal
 
-pub tables_shown-requires-clause-count : goal.tables_shown-requires-clause-count
-tables_shown-requires-clause-count g c =
-    size_shown g.N.Making.script c.args.ledger.now.knows.seen c.args.ledger.now.commits c.args.beside.now.script.now c.view-view.result.sight.database c.len-count.result c.commits-commits.ensures.kept.script c.args.beside.now.named c.len-count.ensures
-    (ap (λ (s : Sight). s.database) c.view-view.ensures.sight)
-
-pub tables_shown-requires-clause-few : goal.tables_shown-requires-clause-few
-tables_shown-requires-clause-few g c =
-    few_shown g.N.Making.script c.args.ledger.now.knows.seen c.args.ledger.now.commits c.view-view.result.sight.database c.commits-commits.ensures.kept.script
-    (λ none. c.if-len-eq0.false (c.len.ensures ∙ (ap (λ (s : Script). length s.calls) c.args.beside.now.named ∙ none))) (ap (λ (s : Sight). s.database) c.view-view.ensures.sight)
+pub tables_shown-requires : goal.tables_shown-requires
+tables_shown-requires g c = λ k. (
+  (refl, tt),
+  (
+    (size_shown g.N.Making.script c.args.ledger.now.knows.seen c.args.ledger.now.commits c.args.beside.now.script.now c.view-view.result.sight.database c.len-count.result c.commits-commits.ensures.kept.script c.args.beside.now.named c.len-count.ensures
+        (ap (λ (s : Sight). s.database) c.view-view.ensures.sight)),
+    (few_shown g.N.Making.script c.args.ledger.now.knows.seen c.args.ledger.now.commits c.view-view.result.sight.database c.commits-commits.ensures.kept.script
+        (λ none. c.if-len-eq0.false (c.len.ensures ∙ (ap (λ (s : Script). length s.calls) c.args.beside.now.named ∙ none))) (ap (λ (s : Sight). s.database) c.view-view.ensures.sight)),
+  ),
+)
 
 pub last_error-requires-clause-low : goal.last_error-requires-clause-low
 last_error-requires-clause-low g c =

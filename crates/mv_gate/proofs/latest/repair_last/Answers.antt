@@ -17,25 +17,26 @@ use Rattle.mv_gate.proofs.latest.repair_last.Goals as goal
 pub since-since-requires-clause-live : goal.since-since-requires-clause-live
 since-since-requires-clause-live g c = c.requires.whole.live
 
-pub repair_over-requires-clause-script : goal.repair_over-requires-clause-script
-repair_over-requires-clause-script g c = subst IsScript (sym c.args.beside.now.named) c.commits-commits.ensures.kept.script
-
-pub repair_over-requires-clause-number : goal.repair_over-requires-clause-number
-repair_over-requires-clause-number g c = subst (λ (s : Script). c.args.call < length s.calls) (sym (c.args.beside.now.named ∙ sym c.requires.script)) c.requires.whole.there
-
-pub repair_over-requires-clause-call : goal.repair_over-requires-clause-call
-repair_over-requires-clause-call g c =
-    subst (λ (s : Script). IsTaskFor s c.args.call c.args.task.now) (sym (c.args.beside.now.named ∙ sym c.requires.script))
-    (task_runs c.args.book.now.script c.args.call _ c.args.task.now (c.requires.whole.runs c.requires.whole.live.0 c.requires.whole.live.1))
-
-pub repair_over-requires-clause-leads : goal.repair_over-requires-clause-leads
-repair_over-requires-clause-leads g c =
-    let live = c.requires.whole.live in
-    subst (λ (s : Script). CanRepair s c.args.call c.args.task.now (changes_since c.since-since.result.now) c.view-view.result.sight.database) (sym (c.args.beside.now.named ∙ sym c.requires.script))
-    (can_repair c.args.book.now.script c.args.book.now.course.order c.args.call (live.0).start c.args.task.now (changes_in c.since-since.result.now) c.view-view.result.sight.database
-    (subst IsScript (sym c.requires.script) c.commits-commits.ensures.kept.script) (c.requires.whole.runs live.0 live.1) c.requires.whole.ended (c.since-since.ensures.changes live.0 live.1)
-    (ap (λ (s : Sight). s.database) c.view-view.ensures.sight
-    ∙ tables_here g.N.Making.script c.args.book.now c.args.ledger.now c.requires.script (record { seen = c.requires.seen; commits = c.commits-commits.ensures.kept.seen ∙ ap length c.requires.seen })))
+pub repair_over-requires : goal.repair_over-requires
+repair_over-requires g c = λ k. (
+  (refl, tt),
+  (
+    (subst IsScript (sym c.args.beside.now.named) c.commits-commits.ensures.kept.script),
+    (
+      (subst (λ (s : Script). c.args.call < length s.calls) (sym (c.args.beside.now.named ∙ sym c.requires.script)) c.requires.whole.there),
+      (
+        (subst (λ (s : Script). IsTaskFor s c.args.call c.args.task.now) (sym (c.args.beside.now.named ∙ sym c.requires.script))
+            (task_runs c.args.book.now.script c.args.call _ c.args.task.now (c.requires.whole.runs c.requires.whole.live.0 c.requires.whole.live.1))),
+        (let live = c.requires.whole.live in
+            subst (λ (s : Script). CanRepair s c.args.call c.args.task.now (changes_since c.since-since.result.now) c.view-view.result.sight.database) (sym (c.args.beside.now.named ∙ sym c.requires.script))
+            (can_repair c.args.book.now.script c.args.book.now.course.order c.args.call (live.0).start c.args.task.now (changes_in c.since-since.result.now) c.view-view.result.sight.database
+            (subst IsScript (sym c.requires.script) c.commits-commits.ensures.kept.script) (c.requires.whole.runs live.0 live.1) c.requires.whole.ended (c.since-since.ensures.changes live.0 live.1)
+            (ap (λ (s : Sight). s.database) c.view-view.ensures.sight
+            ∙ tables_here g.N.Making.script c.args.book.now c.args.ledger.now c.requires.script (record { seen = c.requires.seen; commits = c.commits-commits.ensures.kept.seen ∙ ap length c.requires.seen })))),
+      ),
+    ),
+  ),
+)
 
 pub last_error-requires-clause-low : goal.last_error-requires-clause-low
 last_error-requires-clause-low g c =

@@ -17,19 +17,21 @@ new_task-requires-clause-script g c = subst IsScript (sym c.args.beside.now.name
 pub new_task-requires-clause-number : goal.new_task-requires-clause-number
 new_task-requires-clause-number g c = subst (λ (s : Script). c.args.call < length s.calls) (sym c.args.beside.now.named) c.requires.there
 
-pub run_all-requires-clause-script : goal.run_all-requires-clause-script
-run_all-requires-clause-script g c = subst IsScript (sym c.args.beside.now.named) c.commits-commits.ensures.kept.script
-
-pub run_all-requires-clause-number : goal.run_all-requires-clause-number
-run_all-requires-clause-number g c = subst (λ (s : Script). c.args.call < length s.calls) (sym c.args.beside.now.named) c.requires.there
-
-pub run_all-requires-clause-database : goal.run_all-requires-clause-database
-run_all-requires-clause-database g c =
-    shown_in g.N.Making.script c.args.ledger.now.knows.seen c.args.call c.args.ledger.now.commits c.args.beside.now.script.now c.view-view.result.sight.database c.commits-commits.ensures.kept.script c.args.beside.now.named
-    (ap (λ (s : Sight). s.database) c.view-view.ensures.sight)
-
-pub run_all-requires-clause-runs : goal.run_all-requires-clause-runs
-run_all-requires-clause-runs g c = c.in_ok-task.ensures.runs c.view-view.result.sight.database
+pub run_all-requires : goal.run_all-requires
+run_all-requires g c = λ k. (
+  (refl, tt),
+  (
+    (subst IsScript (sym c.args.beside.now.named) c.commits-commits.ensures.kept.script),
+    (
+      (subst (λ (s : Script). c.args.call < length s.calls) (sym c.args.beside.now.named) c.requires.there),
+      (
+        (shown_in g.N.Making.script c.args.ledger.now.knows.seen c.args.call c.args.ledger.now.commits c.args.beside.now.script.now c.view-view.result.sight.database c.commits-commits.ensures.kept.script c.args.beside.now.named
+            (ap (λ (s : Sight). s.database) c.view-view.ensures.sight)),
+        (c.in_ok-task.ensures.runs c.view-view.result.sight.database),
+      ),
+    ),
+  ),
+)
 
 pub last_error-requires-clause-low : goal.last_error-requires-clause-low
 last_error-requires-clause-low g c =

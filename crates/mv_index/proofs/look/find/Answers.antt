@@ -1,4 +1,4 @@
-use Rattle.std.proofs.Common.{true, false, sym, subst, ◌∙◌, ap}
+use Rattle.std.proofs.Common.{refl, rules, true, false, sym, subst, ◌∙◌, ap}
 use Rattle.std.specs.Prelude.{IfSome}
 use Rattle.std.specs.Option.{is_some}
 use Rattle.mv_index.specs.Indexing.{IsOnly}
@@ -7,12 +7,11 @@ use Rattle.mv_index.proofs.Asked.{looks_none, looks_nowhere, looks_key, looks_ke
 use Rattle.mv_index.proofs.Finding.{only_key, fewest_have, nothing_found}
 use Rattle.mv_index.proofs.look.find.Goals as goal
 
-pub rows_alone-requires-clause-only : goal.rows_alone-requires-clause-only
-rows_alone-requires-clause-only g c =
-    only_key c.args.index.now c.args.pred.now c.in-Some.key (g.V.View.sight c.args.view.now).database (c.requires.covers c.args.pred.now.table c.has_had_row.ensures.byte) c.requires.admitted (subst (λ o. IfSome o (IsOnly c.args.index.now c.args.pred.now)) c.in-Some.is c.in_ok-key.ensures.only)
+pub rows_alone-requires : goal.rows_alone-requires
+rows_alone-requires g c = λ k. ((refl, tt), (search rules, (only_key c.args.index.now c.args.pred.now c.in-Some.key (g.V.View.sight c.args.view.now).database (c.requires.covers c.args.pred.now.table c.has_had_row_of.ensures.byte) c.requires.admitted (subst (λ o. IfSome o (IsOnly c.args.index.now c.args.pred.now)) c.in-Some.is c.in_ok-key.ensures.only))))
 
-pub rows_under-requires-clause-all : goal.rows_under-requires-clause-all
-rows_under-requires-clause-all g c = fewest_have c.args.index.now c.args.pred.now c.in-Some-fewest.keys.now (g.V.View.sight c.args.view.now).database (c.requires.covers c.args.pred.now.table c.has_had_row.ensures.byte) c.in-Some-fewest.ensures
+pub rows_under-requires : goal.rows_under-requires
+rows_under-requires g c = λ k. ((refl, tt), (search rules, (search rules, (fewest_have c.args.index.now c.args.pred.now c.in-Some-fewest.keys.now (g.V.View.sight c.args.view.now).database (c.requires.covers c.args.pred.now.table c.has_had_row_of.ensures.byte) c.in-Some-fewest.ensures))))
 
 pub returns-in_err-key-clause-looks : goal.returns-in_err-key-clause-looks
 returns-in_err-key-clause-looks g c =
@@ -21,19 +20,19 @@ returns-in_err-key-clause-looks g c =
 
 pub returns-in-Some-clause-looks : goal.returns-in-Some-clause-looks
 returns-in-Some-clause-looks g c =
-    looks_key c.args.index.now c.args.pred.now (g.V.View.sight c.args.view.now) (g.V.View.sight c.rows_alone.new.view) c.rows_alone.result (sym c.has_had_row.ensures.had ∙ c.if-not-has_had_row.false) (sym c.in_ok-key.ensures.given ∙ ap is_some c.in-Some.is) c.rows_alone.ensures.asked c.rows_alone.ensures.passes_on
+    looks_key c.args.index.now c.args.pred.now (g.V.View.sight c.args.view.now) (g.V.View.sight c.rows_alone.new.view) c.rows_alone.result (sym c.has_had_row_of.ensures.had ∙ c.if-not-has_had_row_of.false) (sym c.in_ok-key.ensures.given ∙ ap is_some c.in-Some.is) c.rows_alone.ensures.asked c.rows_alone.ensures.passes_on
 
 pub returns-in-Some-fewest-clause-looks : goal.returns-in-Some-fewest-clause-looks
 returns-in-Some-fewest-clause-looks g c =
-    looks_keys c.args.index.now c.args.pred.now (g.V.View.sight c.args.view.now) (g.V.View.sight c.rows_under.new.view) c.rows_under.result c.in-Some-fewest.keys.now (sym c.has_had_row.ensures.had ∙ c.if-not-has_had_row.false) (sym c.in_ok-key.ensures.given ∙ ap is_some c.in_default.is) c.in-Some-fewest.ensures
+    looks_keys c.args.index.now c.args.pred.now (g.V.View.sight c.args.view.now) (g.V.View.sight c.rows_under.new.view) c.rows_under.result c.in-Some-fewest.keys.now (sym c.has_had_row_of.ensures.had ∙ c.if-not-has_had_row_of.false) (sym c.in_ok-key.ensures.given ∙ ap is_some c.in_default.is) c.in-Some-fewest.ensures
     c.rows_under.ensures.asked c.rows_under.ensures.passes_on
 
 pub returns-in-None-clause-looks : goal.returns-in-None-clause-looks
 returns-in-None-clause-looks g c =
-    looks_rows c.args.index.now c.args.pred.now (g.V.View.sight c.args.view.now) (g.V.View.sight c.rows.new.self) c.rows.result (sym c.has_had_row.ensures.had ∙ c.if-not-has_had_row.false) (sym c.in_ok-key.ensures.given ∙ ap is_some c.in_default.is) c.in-None.ensures c.rows.ensures.counts c.rows.ensures.stale
+    looks_rows c.args.index.now c.args.pred.now (g.V.View.sight c.args.view.now) (g.V.View.sight c.rows.new.self) c.rows.result (sym c.has_had_row_of.ensures.had ∙ c.if-not-has_had_row_of.false) (sym c.in_ok-key.ensures.given ∙ ap is_some c.in_default.is) c.in-None.ensures c.rows.ensures.counts c.rows.ensures.stale
 
-pub returns-then-not-has_had_row-clause-found : goal.returns-then-not-has_had_row-clause-found
-returns-then-not-has_had_row-clause-found g c = c.new.ensures ∙ sym (nothing_found c.args.index.now c.args.pred.now (g.V.View.sight c.args.view.now).database (c.requires.covers c.args.pred.now.table c.has_had_row.ensures.byte) (sym c.has_had_row.ensures.had ∙ c.if-not-has_had_row.true))
+pub returns-then-not-has_had_row_of-clause-found : goal.returns-then-not-has_had_row_of-clause-found
+returns-then-not-has_had_row_of-clause-found g c = c.new.ensures ∙ sym (nothing_found c.args.index.now c.args.pred.now (g.V.View.sight c.args.view.now).database (c.requires.covers c.args.pred.now.table c.has_had_row_of.ensures.byte) (sym c.has_had_row_of.ensures.had ∙ c.if-not-has_had_row_of.true))
 
-pub returns-then-not-has_had_row-clause-looks : goal.returns-then-not-has_had_row-clause-looks
-returns-then-not-has_had_row-clause-looks g c = looks_nowhere c.args.index.now c.args.pred.now (g.V.View.sight c.args.view.now) c.new.result
+pub returns-then-not-has_had_row_of-clause-looks : goal.returns-then-not-has_had_row_of-clause-looks
+returns-then-not-has_had_row_of-clause-looks g c = looks_nowhere c.args.index.now c.args.pred.now (g.V.View.sight c.args.view.now) c.new.result

@@ -1,4 +1,5 @@
 use Rattle.std.proofs.Common.{◌≡◌, Some, None, length, refl, sym, ap, subst, ◌∙◌, arith}
+use Rattle.mv_values.specs.declared.rows.Keyed.{Keyed}
 use Rattle.mv_values.specs.Patching.{row_of}
 use Rattle.mv_values.specs.Preds.{matched}
 use Rattle.mv_values.specs.Tables.{rows_at}
@@ -14,7 +15,7 @@ loop-key-init g c =
     let pred = c.args.pred.now in
     let rows = rows_at (g.V.View.sight c.args.view.now).database pred.table in
     let span = c.in_ok-span.span in
-    let covers = subst (λ tests. CoversAdmitted tests span) c.as_slice.ensures c.in_ok-span.ensures.covers in
+    let covers = subst (λ tests. CoversAdmitted tests span) c.tests.ensures c.in_ok-span.ensures.covers in
     let are = c.range-left.ensures.items in
     record {
       row = ap (λ l. foremost c.args.direction (outside (g.K.KeySet.has c.args.passed.now) l))
@@ -58,8 +59,9 @@ returns-in-Some-2-clause-found g c =
     let rows = rows_at before.database pred.table in
     let found : found_at pred rows c.in-Some.key.now ≡ Some c.in-Some-2.row =
     sym (c.in_ok-row.ensures.found ∙ ap (λ s. matched pred (row_of (rows_at s.database pred.table) c.in-Some.key.now)) c.loop-key.invariant.same) ∙ c.in-Some-2.is in
-    ap (λ key. Some (record { key = key; row = c.in-Some-2.row })) c.in_ok-key.ensures
-    ∙ first_there pred rows (g.K.KeySet.has c.args.passed.now) c.args.direction (c.in-Some.key.now, tt) c.loop-key.left c.take_next.new.range c.in-Some-2.row _ c.in-Some.ensures (sym c.contains.ensures ∙ c.if-contains.false) found c.loop-key.invariant.row
+    ap (λ (item : Keyed). Some item) c.under.ensures
+    ∙ (ap (λ key. Some (record { key = key; row = c.in-Some-2.row })) c.in_ok-key.ensures
+    ∙ first_there pred rows (g.K.KeySet.has c.args.passed.now) c.args.direction (c.in-Some.key.now, tt) c.loop-key.left c.take_next.new.range c.in-Some-2.row _ c.in-Some.ensures (sym c.contains.ensures ∙ c.if-contains.false) found c.loop-key.invariant.row)
 
 pub returns-in-Some-2-clause-asked : goal.returns-in-Some-2-clause-asked
 returns-in-Some-2-clause-asked g c =

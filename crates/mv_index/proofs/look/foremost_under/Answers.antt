@@ -1,4 +1,4 @@
-use Rattle.std.proofs.Common.{None, length, refl, sym, ap, subst, ◌∙◌}
+use Rattle.std.proofs.Common.{rules, None, length, refl, sym, ap, subst, ◌∙◌}
 use Rattle.std.proofs.lemmas.Result.{IfOk-weaker}
 use Rattle.mv_values.specs.Tables.{rows_at}
 use Rattle.mv_table.specs.Scans.{foremost}
@@ -25,11 +25,11 @@ returns-in-None-clause-asked g c = not_asked 0 (length c.args.keys.now) (g.V.Vie
 pub returns-in-None-clause-passes_on : goal.returns-in-None-clause-passes_on
 returns-in-None-clause-passes_on g c = passes_ok (g.V.View.sight c.args.view.now) (g.V.View.sight c.args.view.now) None refl
 
-pub foremost_alone-requires-clause-only : goal.foremost_alone-requires-clause-only
-foremost_alone-requires-clause-only g c =
+pub foremost_alone-requires : goal.foremost_alone-requires
+foremost_alone-requires g c =
     let pred = c.args.pred.now in
     let rows = rows_at (g.V.View.sight c.args.view.now).database pred.table in
-    only_of pred rows c.in-One.key.now (subst (λ keys. HaveKeys pred keys rows) (sym c.lend.ensures ∙ ap lent c.in-One.is) c.requires.all)
+    λ k. ((refl, tt), (search rules, only_of pred rows c.in-One.key.now (subst (λ keys. HaveKeys pred keys rows) (sym c.lend.ensures ∙ ap lent c.in-One.is) c.requires.all)))
 
 pub returns-in-One-clause-found : goal.returns-in-One-clause-found
 returns-in-One-clause-found g c = IfOk-weaker c.foremost_alone.result _ _ (λ row is. is c.args.direction) c.foremost_alone.ensures.found
@@ -38,11 +38,11 @@ pub returns-in-One-clause-asked : goal.returns-in-One-clause-asked
 returns-in-One-clause-asked g c =
     subst (λ (keys : KeyList). AskedAtMost 0 (length keys) (g.V.View.sight c.args.view.now) (g.V.View.sight c.foremost_alone.new.view)) (sym (sym c.lend.ensures ∙ ap lent c.in-One.is)) c.foremost_alone.ensures.asked
 
-pub foremost_among-requires-clause-all : goal.foremost_among-requires-clause-all
-foremost_among-requires-clause-all g c =
+pub foremost_among-requires : goal.foremost_among-requires
+foremost_among-requires g c =
     let pred = c.args.pred.now in
     let rows = rows_at (g.V.View.sight c.args.view.now).database pred.table in
-    subst (λ keys. HaveKeys pred keys rows) (sym c.lend.ensures ∙ ap lent c.in-Many.is) c.requires.all
+    λ k. ((refl, tt), (search rules, (search rules, subst (λ keys. HaveKeys pred keys rows) (sym c.lend.ensures ∙ ap lent c.in-Many.is) c.requires.all)))
 
 pub returns-in-Many-clause-asked : goal.returns-in-Many-clause-asked
 returns-in-Many-clause-asked g c =

@@ -15,7 +15,7 @@ loop-key-init g c =
     let pred = c.args.pred.now in
     let rows = rows_at (g.V.View.sight c.args.view.now).database pred.table in
     let span = c.in_ok-span.span in
-    let covers = subst (λ tests. CoversAdmitted tests span) c.as_slice.ensures c.in_ok-span.ensures.covers in
+    let covers = subst (λ tests. CoversAdmitted tests span) c.tests.ensures c.in_ok-span.ensures.covers in
     let are = c.into_iter-key-iterator.ensures.into_iter_gives ∙ c.range-key-items.ensures.items in
     record {
       rows = rw (c.new-rows.ensures, are) (all_found pred rows _ (within_rise span c.args.keys.now c.range-key-items.ensures.rising) (c.requires.rising pred.table) (keys_within pred rows c.args.keys.now span covers c.requires.admitted c.requires.all));

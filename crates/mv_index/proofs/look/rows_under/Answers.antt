@@ -1,4 +1,4 @@
-use Rattle.std.proofs.Common.{length, refl, sym, ap, subst, ◌∙◌}
+use Rattle.std.proofs.Common.{rules, length, refl, sym, ap, subst, ◌∙◌}
 use Rattle.mv_values.specs.Tables.{rows_at}
 use Rattle.mv_index.specs.Asking.{AskedAtMost}
 use Rattle.mv_index.specs.Forms.{KeyList, lent}
@@ -19,21 +19,21 @@ returns-in-None-clause-asked g c = not_asked 0 (length c.args.keys.now) (g.V.Vie
 pub returns-in-None-clause-passes_on : goal.returns-in-None-clause-passes_on
 returns-in-None-clause-passes_on g c = passes_ok (g.V.View.sight c.args.view.now) (g.V.View.sight c.args.view.now) c.new.result refl
 
-pub rows_alone-requires-clause-only : goal.rows_alone-requires-clause-only
-rows_alone-requires-clause-only g c =
+pub rows_alone-requires : goal.rows_alone-requires
+rows_alone-requires g c =
     let pred = c.args.pred.now in
     let rows = rows_at (g.V.View.sight c.args.view.now).database pred.table in
-    only_of pred rows c.in-One.key.now (subst (λ keys. HaveKeys pred keys rows) (sym c.lend.ensures ∙ ap lent c.in-One.is) c.requires.all)
+    λ k. ((refl, tt), (search rules, only_of pred rows c.in-One.key.now (subst (λ keys. HaveKeys pred keys rows) (sym c.lend.ensures ∙ ap lent c.in-One.is) c.requires.all)))
 
 pub returns-in-One-clause-asked : goal.returns-in-One-clause-asked
 returns-in-One-clause-asked g c =
     subst (λ (keys : KeyList). AskedAtMost 0 (length keys) (g.V.View.sight c.args.view.now) (g.V.View.sight c.rows_alone.new.view)) (sym (sym c.lend.ensures ∙ ap lent c.in-One.is)) c.rows_alone.ensures.asked
 
-pub rows_among-requires-clause-all : goal.rows_among-requires-clause-all
-rows_among-requires-clause-all g c =
+pub rows_among-requires : goal.rows_among-requires
+rows_among-requires g c =
     let pred = c.args.pred.now in
     let rows = rows_at (g.V.View.sight c.args.view.now).database pred.table in
-    subst (λ keys. HaveKeys pred keys rows) (sym c.lend.ensures ∙ ap lent c.in-Many.is) c.requires.all
+    λ k. ((refl, tt), (search rules, (search rules, subst (λ keys. HaveKeys pred keys rows) (sym c.lend.ensures ∙ ap lent c.in-Many.is) c.requires.all)))
 
 pub returns-in-Many-clause-asked : goal.returns-in-Many-clause-asked
 returns-in-Many-clause-asked g c =

@@ -12,6 +12,6 @@ pub returns : goal.returns
 returns g c =
     let n = c.args.n in
     let pred = c.args.pred.now in
-    let covers = subst (λ tests. CoversAdmitted tests c.in_ok-span.span) c.as_slice.ensures c.in_ok-span.ensures.covers in
+    let covers = subst (λ tests. CoversAdmitted tests c.in_ok-span.span) c.tests.ensures c.in_ok-span.ensures.covers in
     let all = ap (λ es. stored (picked (found_in n pred) es)) c.range.ensures.items ∙ found_within n pred c.in_ok-span.span c.args.table.now covers c.requires in
     subst (λ rows. IfOk c.foremost_match.result (λ row. row ≡ foremost c.args.direction (outside (g.K.KeySet.has c.args.passed.now) rows))) all c.foremost_match.ensures

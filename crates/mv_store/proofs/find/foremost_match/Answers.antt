@@ -4,7 +4,7 @@ use Rattle.mv_store.proofs.find.foremost_match.Goals as goal
 
 pub returns-in-Some-2 : goal.returns-in-Some-2
 returns-in-Some-2 g c =
-    ap (λ key. Some (record { key = key; row = c.in-Some-2.row })) c.in_ok-key.ensures
+    ap (λ item. Some item) c.lent.ensures
     ∙ free_there (g.K.KeySet.has c.args.passed.now) (found_in c.args.n c.args.pred.now) c.args.direction c.in-Some.key.now c.in-Some.chain.now c.loop-key.left c.take_next.new.range c.in-Some-2.row _ c.in-Some.ensures (search rules)
     (sym c.in_ok-row.ensures ∙ c.in-Some-2.is) c.loop-key.invariant
 

@@ -12,5 +12,5 @@ copy_matches-requires c =
 
 pub returns : goal.returns
 returns c =
-    let covers = subst (λ tests. CoversAdmitted tests c.in_ok-span.span) c.as_slice.ensures c.in_ok-span.ensures.covers in
+    let covers = subst (λ tests. CoversAdmitted tests c.in_ok-span.span) c.tests.ensures c.in_ok-span.ensures.covers in
     subst (λ rows. IfOk c.copy_matches.result (λ found. found ≡ rows)) (c.part.ensures.finds c.args.pred.now.tests covers (λ item. matches c.args.pred.now item.row) c.requires.admitted) c.copy_matches.ensures

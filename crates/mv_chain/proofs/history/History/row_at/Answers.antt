@@ -9,7 +9,7 @@ returns c =
     let us = c.self.inside.undos.items in
     let now = c.self.inside.row in
     let first : drop c.place_after-first.result us ≡ later c.args.n us = rw c.as_slice-undos.ensures.value at c.place_after-first.ensures.later in
-    rw (c.as_slice-undos.ensures.value, c.in_ok-row.ensures, c.as_ref.ensures.value) at c.in_ok-was.ensures
+    rw (c.as_slice-undos.ensures.value, c.as_ref.ensures.value) at c.in_ok-was.ensures
     ∙ ap (λ us. before us now) first
     ∙ sym (row_is c.args.n us now)
     ∙ ap (λ v. row_at v c.args.n) c.self.view_is

@@ -22,14 +22,15 @@ pub unreachable-requires : goal.unreachable-requires
 unreachable-requires c =
     task_there c.self.inside.book.script c.self.inside.book.course c.self.inside.tasks.items c.args.call c.index_mut.result.now c.self.invariant.0.tasks (live_in c.self.inside.book c.args.self.now.book c.args.call (ap book_in c.self.view_is) c.requires.live) c.index_mut.ensures.value c.in_default.is
 
-pub finish_task-requires-clause-call : goal.finish_task-requires-clause-call
-finish_task-requires-clause-call c =
-    running_in c.self.inside.book c.self.inside.store c.self.inside.tasks.items c.args.call c.index_mut.result.now c.get_mut-running.result.now c.self.invariant.0 (live_in c.self.inside.book c.args.self.now.book c.args.call (ap book_in c.self.view_is) c.requires.live) c.index_mut.ensures.value (c.in-Some.is ∙ ap Some (sym c.get_mut-running.ensures.value))
-
-pub finish_task-requires-clause-shows : goal.finish_task-requires-clause-shows
-finish_task-requires-clause-shows c =
-    shows_start c.self.inside.book c.self.inside.store c.args.call c.start.result c.new-view.result c.self.invariant.0.stored (subst (λ (b : Booked). IsNotStale b c.args.call) (sym (ap book_in c.self.view_is)) c.in_ok-refuse_stale.ensures.fresh)
-    c.start.ensures.value c.start.ensures.past c.new-view.ensures
+pub finish_task-requires : goal.finish_task-requires
+finish_task-requires c = λ k. (
+  (refl, tt),
+  (
+    (running_in c.self.inside.book c.self.inside.store c.self.inside.tasks.items c.args.call c.index_mut.result.now c.get_mut-running.result.now c.self.invariant.0 (live_in c.self.inside.book c.args.self.now.book c.args.call (ap book_in c.self.view_is) c.requires.live) c.index_mut.ensures.value (c.in-Some.is ∙ ap Some (sym c.get_mut-running.ensures.value))),
+    (shows_start c.self.inside.book c.self.inside.store c.args.call c.start.result c.new-view.result c.self.invariant.0.stored (subst (λ (b : Booked). IsNotStale b c.args.call) (sym (ap book_in c.self.view_is)) c.in_ok-refuse_stale.ensures.fresh)
+        c.start.ensures.value c.start.ensures.past c.new-view.ensures),
+  ),
+)
 
 pub invariant_of-self : goal.invariant_of-self
 invariant_of-self c = (core_set c.self.inside.book c.self.inside.store c.self.inside.tasks.items c.args.call c.finish_task.new.running c.self.invariant.0 (live_in c.self.inside.book c.args.self.now.book c.args.call (ap book_in c.self.view_is) c.requires.live) c.finish_task.ensures.task, c.self.invariant.1)
@@ -37,29 +38,37 @@ invariant_of-self c = (core_set c.self.inside.book c.self.inside.store c.self.in
 pub returns-in_err-finish_task-clause-others : goal.returns-in_err-finish_task-clause-others
 returns-in_err-finish_task-clause-others c = others_set c.args.call c.self.inside.tasks.items (Some c.finish_task.new.running) c.args.self.now (ap tasks_in c.self.view_is)
 
-pub rerun_task-requires-clause-call : goal.rerun_task-requires-clause-call
-rerun_task-requires-clause-call c = record {
-  script = c.self.invariant.0.stored.script;
-  live = live_in c.self.inside.book c.args.self.now.book c.args.call (ap book_in c.self.view_is) c.requires.live;
-  number = call_within c.self.inside.book.script c.self.inside.book.course c.self.inside.tasks.items c.args.call c.self.invariant.0.tasks (live_in c.self.inside.book c.args.self.now.book c.args.call (ap book_in c.self.view_is) c.requires.live);
-  task = c.finish_task.ensures.task;
-}
-
-pub rerun_task-requires-clause-shows : goal.rerun_task-requires-clause-shows
-rerun_task-requires-clause-shows c = shows_last c.self.inside.book c.self.inside.store c.commits.result c.new-last.result c.self.invariant.0.stored c.commits.ensures c.new-last.ensures
-
-pub rerun_task-requires-clause-missing : goal.rerun_task-requires-clause-missing
-rerun_task-requires-clause-missing c = due_first c.self.inside.book c.args.call c.finish_task.new.running (live_in c.self.inside.book c.args.self.now.book c.args.call (ap book_in c.self.view_is) c.requires.live) (c.self.invariant.0.numbers c.args.call) c.finish_task.ensures.task c.in_ok-finish_task.ensures.ok
-
-pub rerun_task-requires-clause-fresh : goal.rerun_task-requires-clause-fresh
-rerun_task-requires-clause-fresh c = subst (λ (b : Booked). IsNotStale b c.args.call) (sym (ap book_in c.self.view_is)) c.in_ok-refuse_stale.ensures.fresh
-
-pub rerun_task-requires-clause-allowed : goal.rerun_task-requires-clause-allowed
-rerun_task-requires-clause-allowed c =
-    let live = live_in c.self.inside.book c.args.self.now.book c.args.call (ap book_in c.self.view_is) c.requires.live in
-    fresh_now_allowed c.self.inside.book c.args.self.now.book c.args.call live.0 (A c.args.call) (has_round (work_in c.self.inside.book) live.0) (ap book_in c.self.view_is)
-    (repairs_again (work_in c.self.inside.book) c.self.inside.book.course c.args.call live.0 (again_writes c.self.inside.book c.args.call live.0 live.1 (subst (λ (b : Booked). IsAllowedIfFresh b (A c.args.call)) (sym (ap book_in c.self.view_is)) c.requires.allowed)) live.1) c.requires.allowed
-    (subst (λ (b : Booked). IsNotStale b c.args.call) (sym (ap book_in c.self.view_is)) c.in_ok-refuse_stale.ensures.fresh live.0 live.1)
+pub rerun_task-requires : goal.rerun_task-requires
+rerun_task-requires c = λ k. (
+  (refl, tt),
+  (
+    (record {
+      script = c.self.invariant.0.stored.script;
+      live = live_in c.self.inside.book c.args.self.now.book c.args.call (ap book_in c.self.view_is) c.requires.live;
+      number = call_within c.self.inside.book.script c.self.inside.book.course c.self.inside.tasks.items c.args.call c.self.invariant.0.tasks (live_in c.self.inside.book c.args.self.now.book c.args.call (ap book_in c.self.view_is) c.requires.live);
+      task = c.finish_task.ensures.task;
+    }),
+    (
+      (shows_last c.self.inside.book c.self.inside.store c.commits.result c.new-last.result c.self.invariant.0.stored c.commits.ensures c.new-last.ensures),
+      (
+        (due_first c.self.inside.book c.args.call c.finish_task.new.running (live_in c.self.inside.book c.args.self.now.book c.args.call (ap book_in c.self.view_is) c.requires.live) (c.self.invariant.0.numbers c.args.call) c.finish_task.ensures.task c.in_ok-finish_task.ensures.ok),
+        (
+          (subst (λ (b : Booked). IsNotStale b c.args.call) (sym (ap book_in c.self.view_is)) c.in_ok-refuse_stale.ensures.fresh),
+          (
+            search rules,
+            (
+              search rules,
+              (let live = live_in c.self.inside.book c.args.self.now.book c.args.call (ap book_in c.self.view_is) c.requires.live in
+                  fresh_now_allowed c.self.inside.book c.args.self.now.book c.args.call live.0 (A c.args.call) (has_round (work_in c.self.inside.book) live.0) (ap book_in c.self.view_is)
+                  (repairs_again (work_in c.self.inside.book) c.self.inside.book.course c.args.call live.0 (again_writes c.self.inside.book c.args.call live.0 live.1 (subst (λ (b : Booked). IsAllowedIfFresh b (A c.args.call)) (sym (ap book_in c.self.view_is)) c.requires.allowed)) live.1) c.requires.allowed
+                  (subst (λ (b : Booked). IsNotStale b c.args.call) (sym (ap book_in c.self.view_is)) c.in_ok-refuse_stale.ensures.fresh live.0 live.1)),
+            ),
+          ),
+        ),
+      ),
+    ),
+  ),
+)
 
 pub invariant_of-self-in_err-executed : goal.invariant_of-self-in_err-executed
 invariant_of-self-in_err-executed c = (

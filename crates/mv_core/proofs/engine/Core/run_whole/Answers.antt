@@ -1,4 +1,4 @@
-use Rattle.std.proofs.Common.{◌<◌, length, ap, sym, subst}
+use Rattle.std.proofs.Common.{refl, rules, ◌<◌, length, ap, sym, subst}
 use Rattle.std.proofs.lemmas.Result.{err_from_is_err_and}
 use Rattle.mv_script.specs.declared.script.Script.{Script}
 use Rattle.mv_core.specs.Books.{Booked, IsNotStale, AreRecordsOf}
@@ -7,18 +7,22 @@ use Rattle.mv_core.proofs.Stored.{shows_start, fresh_start, database_shown}
 use Rattle.mv_core.proofs.Changed.{live_in, same_self, refused_same, book_in}
 use Rattle.mv_core.proofs.engine.Core.run_whole.Goals as goal
 
-pub whole_task-requires-clause-number : goal.whole_task-requires-clause-number
-whole_task-requires-clause-number c =
-    subst (λ (s : Script). c.args.call < length s.calls) (sym c.script.ensures)
-    (call_within c.self.inside.book.script c.self.inside.book.course c.self.inside.tasks.items c.args.call c.self.invariant.0.tasks (live_in c.self.inside.book c.args.self.now.book c.args.call (ap book_in c.self.view_is) c.requires))
-
-pub whole_task-requires-clause-database : goal.whole_task-requires-clause-database
-whole_task-requires-clause-database c =
-    let b : Booked = c.self.inside.book in
-    let live = live_in b c.args.self.now.book c.args.call (ap book_in c.self.view_is) c.requires in
-    let fresh = subst (λ (b : Booked). IsNotStale b c.args.call) (sym (ap book_in c.self.view_is)) c.in_ok-refuse_stale.ensures.fresh in
-    database_shown b c.args.call live.0.start c.script.result.now c.new-view.result c.self.invariant.0.stored.script c.script.ensures
-    (shows_start b c.self.inside.store c.args.call c.start.result c.new-view.result c.self.invariant.0.stored fresh c.start.ensures.value c.start.ensures.past c.new-view.ensures live.0 live.1)
+pub whole_task-requires : goal.whole_task-requires
+whole_task-requires c = λ k. (
+  (refl, tt),
+  (
+    search rules,
+    (
+      (subst (λ (s : Script). c.args.call < length s.calls) (sym c.script.ensures)
+          (call_within c.self.inside.book.script c.self.inside.book.course c.self.inside.tasks.items c.args.call c.self.invariant.0.tasks (live_in c.self.inside.book c.args.self.now.book c.args.call (ap book_in c.self.view_is) c.requires))),
+      (let b : Booked = c.self.inside.book in
+          let live = live_in b c.args.self.now.book c.args.call (ap book_in c.self.view_is) c.requires in
+          let fresh = subst (λ (b : Booked). IsNotStale b c.args.call) (sym (ap book_in c.self.view_is)) c.in_ok-refuse_stale.ensures.fresh in
+          database_shown b c.args.call live.0.start c.script.result.now c.new-view.result c.self.invariant.0.stored.script c.script.ensures
+          (shows_start b c.self.inside.store c.args.call c.start.result c.new-view.result c.self.invariant.0.stored fresh c.start.ensures.value c.start.ensures.past c.new-view.ensures live.0 live.1)),
+    ),
+  ),
+)
 
 pub returns-clause-records : goal.returns-clause-records
 returns-clause-records c =

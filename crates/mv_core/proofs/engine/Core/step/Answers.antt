@@ -30,20 +30,24 @@ unreachable-requires c =
     task_there c.reserve.new.self.script c.reserve.new.self.course c.self.inside.tasks.items c.args.call c.index_mut.result.now k.tasks
     (live_now c.self.inside.book c.args.self.now.book c.reserve.new.self c.args.call (ap book_in c.self.view_is) c.requires.live c.reserve.ensures.same) c.index_mut.ensures.value c.in_default.is
 
-pub step_task-requires-clause-call : goal.step_task-requires-clause-call
-step_task-requires-clause-call c =
-    let k = core_same c.self.inside.book c.reserve.new.self c.self.inside.store c.self.inside.tasks.items c.self.invariant.0 c.reserve.ensures.same in
-    running_in c.reserve.new.self c.self.inside.store c.self.inside.tasks.items c.args.call c.index_mut.result.now c.get_mut-running.result.now k
-    (live_now c.self.inside.book c.args.self.now.book c.reserve.new.self c.args.call (ap book_in c.self.view_is) c.requires.live c.reserve.ensures.same) c.index_mut.ensures.value (c.in-Some.is ∙ ap Some (sym c.get_mut-running.ensures.value))
-
 pub start-requires : goal.start-requires
 start-requires c = live_now c.self.inside.book c.args.self.now.book c.reserve.new.self c.args.call (ap book_in c.self.view_is) c.requires.live c.reserve.ensures.same
 
-pub step_task-requires-clause-shows : goal.step_task-requires-clause-shows
-step_task-requires-clause-shows c =
-    let k = core_same c.self.inside.book c.reserve.new.self c.self.inside.store c.self.inside.tasks.items c.self.invariant.0 c.reserve.ensures.same in
-    shows_start c.reserve.new.self c.self.inside.store c.args.call c.start.result c.new-view.result k.stored
-    (fresh_with c.self.inside.book c.args.self.now.book c.reserve.new.self c.args.call (ap book_in c.self.view_is) c.reserve.ensures.same c.in_ok-refuse_stale.ensures.fresh) c.start.ensures.value c.start.ensures.past c.new-view.ensures
+pub step_task-requires : goal.step_task-requires
+step_task-requires c = λ k. (
+  (refl, tt),
+  (
+    (let k = core_same c.self.inside.book c.reserve.new.self c.self.inside.store c.self.inside.tasks.items c.self.invariant.0 c.reserve.ensures.same in
+        running_in c.reserve.new.self c.self.inside.store c.self.inside.tasks.items c.args.call c.index_mut.result.now c.get_mut-running.result.now k
+        (live_now c.self.inside.book c.args.self.now.book c.reserve.new.self c.args.call (ap book_in c.self.view_is) c.requires.live c.reserve.ensures.same) c.index_mut.ensures.value (c.in-Some.is ∙ ap Some (sym c.get_mut-running.ensures.value))),
+    (
+      (let k = core_same c.self.inside.book c.reserve.new.self c.self.inside.store c.self.inside.tasks.items c.self.invariant.0 c.reserve.ensures.same in
+          shows_start c.reserve.new.self c.self.inside.store c.args.call c.start.result c.new-view.result k.stored
+          (fresh_with c.self.inside.book c.args.self.now.book c.reserve.new.self c.args.call (ap book_in c.self.view_is) c.reserve.ensures.same c.in_ok-refuse_stale.ensures.fresh) c.start.ensures.value c.start.ensures.past c.new-view.ensures),
+      search rules,
+    ),
+  ),
+)
 
 pub invariant_of-self-in_err-step_task : goal.invariant_of-self-in_err-step_task
 invariant_of-self-in_err-step_task c =

@@ -27,21 +27,22 @@ new_task-requires-clause-number g c =
     subst (λ (s : Script). c.args.call < length s.calls) (sym c.args.beside.now.named)
     (subst (λ (s : Script). c.args.call < length s.calls) c.self.invariant.script (subst (λ (b : Booked). c.args.call < length b.script.calls) (sym (c.self.view_is ∙ c.start_of.ensures.same)) c.requires.number))
 
-pub run_all-requires-clause-script : goal.run_all-requires-clause-script
-run_all-requires-clause-script g c = subst IsScript (sym c.args.beside.now.named) c.number-number.ensures.kept.script
-
-pub run_all-requires-clause-number : goal.run_all-requires-clause-number
-run_all-requires-clause-number g c =
-    subst (λ (s : Script). c.args.call < length s.calls) (sym c.args.beside.now.named)
-    (subst (λ (s : Script). c.args.call < length s.calls) c.self.invariant.script (subst (λ (b : Booked). c.args.call < length b.script.calls) (sym (c.self.view_is ∙ c.start_of.ensures.same)) c.requires.number))
-
-pub run_all-requires-clause-database : goal.run_all-requires-clause-database
-run_all-requires-clause-database g c =
-    shown_in g.N.Making.script c.in_ok-start.start.knows.seen c.args.call c.in_ok-start.start.number c.args.beside.now.script.now c.view-view.result.sight.database c.number-number.ensures.kept.script c.args.beside.now.named
-    (ap (λ (s : Sight). s.database) c.view-view.ensures.sight)
-
-pub run_all-requires-clause-runs : goal.run_all-requires-clause-runs
-run_all-requires-clause-runs g c = c.in_ok-task.ensures.runs c.view-view.result.sight.database
+pub run_all-requires : goal.run_all-requires
+run_all-requires g c = λ k. (
+  (refl, tt),
+  (
+    (subst IsScript (sym c.args.beside.now.named) c.number-number.ensures.kept.script),
+    (
+      (subst (λ (s : Script). c.args.call < length s.calls) (sym c.args.beside.now.named)
+          (subst (λ (s : Script). c.args.call < length s.calls) c.self.invariant.script (subst (λ (b : Booked). c.args.call < length b.script.calls) (sym (c.self.view_is ∙ c.start_of.ensures.same)) c.requires.number))),
+      (
+        (shown_in g.N.Making.script c.in_ok-start.start.knows.seen c.args.call c.in_ok-start.start.number c.args.beside.now.script.now c.view-view.result.sight.database c.number-number.ensures.kept.script c.args.beside.now.named
+            (ap (λ (s : Sight). s.database) c.view-view.ensures.sight)),
+        (c.in_ok-task.ensures.runs c.view-view.result.sight.database),
+      ),
+    ),
+  ),
+)
 
 pub refused-requires-clause-low : goal.refused-requires-clause-low
 refused-requires-clause-low g c =

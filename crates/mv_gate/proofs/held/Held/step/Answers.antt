@@ -15,21 +15,22 @@ use Rattle.mv_gate.proofs.Running.{runs_here, held_stepped, held_refused}
 use Rattle.mv_gate.proofs.Pins.{leave_at, leave_shown}
 use Rattle.mv_gate.proofs.held.Held.step.Goals as goal
 
-pub run_next-requires-clause-script : goal.run_next-requires-clause-script
-run_next-requires-clause-script g c = subst IsScript (sym c.args.beside.now.named) c.self.invariant.sound
-
-pub run_next-requires-clause-number : goal.run_next-requires-clause-number
-run_next-requires-clause-number g c = subst (λ (s : Script). c.self.inside.call < length s.calls) (sym c.args.beside.now.named) c.self.invariant.there
-
-pub run_next-requires-clause-database : goal.run_next-requires-clause-database
-run_next-requires-clause-database g c =
-    shown_in g.N.Making.script c.self.inside.start.knows.seen c.self.inside.call c.self.inside.start.number c.args.beside.now.script.now c.view-view.result.sight.database c.self.invariant.sound c.args.beside.now.named
-    (ap (λ (s : Sight). s.database) c.view-view.ensures.sight)
-
-pub run_next-requires-clause-runs : goal.run_next-requires-clause-runs
-run_next-requires-clause-runs g c =
-    subst (λ (s : Script). RunsOn s c.self.inside.call c.view-view.result.sight.database c.self.inside.task) (sym c.args.beside.now.named)
-    (subst (λ (db : Tables). RunsOn (script_in g.N.Making.script) c.self.inside.call db c.self.inside.task) (sym (ap (λ (s : Sight). s.database) c.view-view.ensures.sight)) c.self.invariant.runs)
+pub run_next-requires : goal.run_next-requires
+run_next-requires g c = λ k. (
+  (refl, tt),
+  (
+    (subst IsScript (sym c.args.beside.now.named) c.self.invariant.sound),
+    (
+      (subst (λ (s : Script). c.self.inside.call < length s.calls) (sym c.args.beside.now.named) c.self.invariant.there),
+      (
+        (shown_in g.N.Making.script c.self.inside.start.knows.seen c.self.inside.call c.self.inside.start.number c.args.beside.now.script.now c.view-view.result.sight.database c.self.invariant.sound c.args.beside.now.named
+            (ap (λ (s : Sight). s.database) c.view-view.ensures.sight)),
+        (subst (λ (s : Script). RunsOn s c.self.inside.call c.view-view.result.sight.database c.self.inside.task) (sym c.args.beside.now.named)
+            (subst (λ (db : Tables). RunsOn (script_in g.N.Making.script) c.self.inside.call db c.self.inside.task) (sym (ap (λ (s : Sight). s.database) c.view-view.ensures.sight)) c.self.invariant.runs)),
+      ),
+    ),
+  ),
+)
 
 pub refused-requires-clause-low : goal.refused-requires-clause-low
 refused-requires-clause-low g c =

@@ -18,22 +18,23 @@ use Rattle.mv_shards.specs.Leaves.{start_shown}
 use Rattle.mv_gate.proofs.Pins.{leave_at, leave_shown}
 use Rattle.mv_gate.proofs.pinned.PinnedRepair.run.Goals as goal
 
-pub repair_over-requires-clause-script : goal.repair_over-requires-clause-script
-repair_over-requires-clause-script g c = subst IsScript (sym c.args.beside.now.named) c.repair.invariant.sound
-
-pub repair_over-requires-clause-number : goal.repair_over-requires-clause-number
-repair_over-requires-clause-number g c = subst (λ (s : Script). c.repair.inside.call < length s.calls) (sym c.args.beside.now.named) c.repair.invariant.there
-
-pub repair_over-requires-clause-call : goal.repair_over-requires-clause-call
-repair_over-requires-clause-call g c =
-    subst (λ (s : Script). IsTaskFor s c.repair.inside.call c.repair.inside.task) (sym c.args.beside.now.named) (task_runs (script_in g.N.Making.script) c.repair.inside.call _ c.repair.inside.task c.repair.invariant.runs)
-
-pub repair_over-requires-clause-leads : goal.repair_over-requires-clause-leads
-repair_over-requires-clause-leads g c =
-    let r : Repairing = record { call = c.repair.inside.call; start = c.repair.inside.start; from = c.repair.inside.from; task = c.repair.inside.task; since = c.repair.inside.since } in
-    subst (λ (s : Script). CanRepair s r.call r.task (changes_since c.as_slice-commits.result.now) c.view-view.result.sight.database) (sym c.args.beside.now.named)
-    (subst (λ (cs : List Committed). CanRepair (script_in g.N.Making.script) r.call r.task (changes_since cs) c.view-view.result.sight.database) (sym c.as_slice-commits.ensures)
-    (may_repair g.N.Making.script r c.view-view.result.sight.database c.repair.invariant (ap (λ (v : Sight). v.database) c.view-view.ensures.sight)))
+pub repair_over-requires : goal.repair_over-requires
+repair_over-requires g c = λ k. (
+  (refl, tt),
+  (
+    (subst IsScript (sym c.args.beside.now.named) c.repair.invariant.sound),
+    (
+      (subst (λ (s : Script). c.repair.inside.call < length s.calls) (sym c.args.beside.now.named) c.repair.invariant.there),
+      (
+        (subst (λ (s : Script). IsTaskFor s c.repair.inside.call c.repair.inside.task) (sym c.args.beside.now.named) (task_runs (script_in g.N.Making.script) c.repair.inside.call _ c.repair.inside.task c.repair.invariant.runs)),
+        (let r : Repairing = record { call = c.repair.inside.call; start = c.repair.inside.start; from = c.repair.inside.from; task = c.repair.inside.task; since = c.repair.inside.since } in
+            subst (λ (s : Script). CanRepair s r.call r.task (changes_since c.as_slice-commits.result.now) c.view-view.result.sight.database) (sym c.args.beside.now.named)
+            (subst (λ (cs : List Committed). CanRepair (script_in g.N.Making.script) r.call r.task (changes_since cs) c.view-view.result.sight.database) (sym c.as_slice-commits.ensures)
+            (may_repair g.N.Making.script r c.view-view.result.sight.database c.repair.invariant (ap (λ (v : Sight). v.database) c.view-view.ensures.sight)))),
+      ),
+    ),
+  ),
+)
 
 pub refused-requires-clause-low : goal.refused-requires-clause-low
 refused-requires-clause-low g c =

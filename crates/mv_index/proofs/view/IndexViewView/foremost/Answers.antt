@@ -1,4 +1,4 @@
-use Rattle.std.proofs.Common.{◌≡◌, sym, ap, subst, ◌∙◌}
+use Rattle.std.proofs.Common.{refl, ◌≡◌, sym, ap, subst, ◌∙◌}
 use Rattle.std.specs.Prelude.{IfOk}
 use Rattle.mv_values.specs.Patching.{found_by}
 use Rattle.mv_table.specs.Scans.{foremost}
@@ -13,14 +13,8 @@ use Rattle.mv_index.specs.Asking.{Indexed, sight_of, LooksUp}
 use Rattle.mv_index.proofs.Asked.{counted, same_database, seen_through, stale_through}
 use Rattle.mv_index.proofs.view.IndexViewView.foremost.Goals as goal
 
-pub find_foremost-requires-clause-covers : goal.find_foremost-requires-clause-covers
-find_foremost-requires-clause-covers g c = c.self.invariant.0
-
-pub find_foremost-requires-clause-rising : goal.find_foremost-requires-clause-rising
-find_foremost-requires-clause-rising g c = c.self.invariant.1
-
-pub find_foremost-requires-clause-admitted : goal.find_foremost-requires-clause-admitted
-find_foremost-requires-clause-admitted g c = subst (λ (v : Indexed). Admitted c.args.pred.now (rows_at v.inner.database c.args.pred.now.table)) (sym c.self.view_is) c.requires
+pub find_foremost-requires : goal.find_foremost-requires
+find_foremost-requires g c = λ k. ((refl, tt), ((c.self.invariant.0), ((c.self.invariant.1), (subst (λ (v : Indexed). Admitted c.args.pred.now (rows_at v.inner.database c.args.pred.now.table)) (sym c.self.view_is) c.requires))))
 
 pub invariant_of-self : goal.invariant_of-self
 invariant_of-self g c =

@@ -1,4 +1,4 @@
-use Rattle.std.proofs.Common.{◌≡◌, sym, ap, subst, ◌∙◌}
+use Rattle.std.proofs.Common.{refl, ◌≡◌, sym, ap, subst, ◌∙◌}
 use Rattle.std.specs.Prelude.{IfOk}
 use Rattle.mv_values.specs.Patching.{found_by}
 use Rattle.mv_values.specs.Tables.{rows_at}
@@ -11,14 +11,8 @@ use Rattle.mv_index.specs.Asking.{Indexed, sight_of, LooksUp}
 use Rattle.mv_index.proofs.Asked.{counted, same_database, seen_through, stale_through}
 use Rattle.mv_index.proofs.view.IndexViewView.rows.Goals as goal
 
-pub find-requires-clause-covers : goal.find-requires-clause-covers
-find-requires-clause-covers g c = c.self.invariant.0
-
-pub find-requires-clause-rising : goal.find-requires-clause-rising
-find-requires-clause-rising g c = c.self.invariant.1
-
-pub find-requires-clause-admitted : goal.find-requires-clause-admitted
-find-requires-clause-admitted g c = subst (λ (v : Indexed). Admitted c.args.pred.now (rows_at v.inner.database c.args.pred.now.table)) (sym c.self.view_is) c.requires
+pub find-requires : goal.find-requires
+find-requires g c = λ k. ((refl, tt), ((c.self.invariant.0), ((c.self.invariant.1), (subst (λ (v : Indexed). Admitted c.args.pred.now (rows_at v.inner.database c.args.pred.now.table)) (sym c.self.view_is) c.requires))))
 
 pub invariant_of-self : goal.invariant_of-self
 invariant_of-self g c =

@@ -13,8 +13,8 @@ use Rattle.mv_shards.specs.Kept.{StoredShard}
 use Rattle.mv_shards.proofs.Stored.{admitted_part}
 use Rattle.mv_shards.proofs.shard_store.ShardStore.foremost_at.Goals as goal
 
-pub foremost_at-requires : goal.foremost_at-requires
-foremost_at-requires g c =
+pub copied_foremost-requires : goal.copied_foremost-requires
+copied_foremost-requires g c =
     let db : Tables = tables_at g.N.Making.script c.args.pass.now.seen c.args.n in
     let is : database_at c.self.inside.store c.args.n ≡ part g.row.Q db = subst (λ (v : StoredShard). database_at v.store c.args.n ≡ part g.row.Q db) (sym c.self.view_is) c.in_ok-check_fresh.ensures.rows in
     subst (λ (x : Tables). Admitted c.args.pred.now (rows_at x c.args.pred.now.table)) (sym is) (admitted_part g.row.Q c.args.pred.now db c.requires.admitted)
@@ -23,4 +23,4 @@ pub returns-clause-found : goal.returns-clause-found
 returns-clause-found g c =
     let db : Tables = tables_at g.N.Making.script c.args.pass.now.seen c.args.n in
     let is : database_at c.self.inside.store c.args.n ≡ part g.row.Q db = subst (λ (v : StoredShard). database_at v.store c.args.n ≡ part g.row.Q db) (sym c.self.view_is) c.in_ok-check_fresh.ensures.rows in
-    subst (λ (x : Tables). IfOk c.foremost_at.result (λ (row : Option Keyed). row ≡ foremost c.args.direction (outside (g.K.KeySet.has c.args.passed.now) (found_by c.args.pred.now x)))) is c.foremost_at.ensures.found
+    subst (λ (x : Tables). IfOk c.copied_foremost.result (λ (row : Option Keyed). row ≡ foremost c.args.direction (outside (g.K.KeySet.has c.args.passed.now) (found_by c.args.pred.now x)))) is c.copied_foremost.ensures.found

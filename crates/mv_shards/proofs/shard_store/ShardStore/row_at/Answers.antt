@@ -13,4 +13,4 @@ pub returns-clause-found : goal.returns-clause-found
 returns-clause-found g c =
     let db : Tables = tables_at g.N.Making.script c.args.pass.now.seen c.args.n in
     let is : database_at c.self.inside.store c.args.n ≡ part g.row.Q db = subst (λ (v : StoredShard). database_at v.store c.args.n ≡ part g.row.Q db) (sym c.self.view_is) c.in_ok-check_fresh.ensures.rows in
-    subst (λ (x : Tables). IfOk c.row_at.result (λ (row : Option (Seq Value)). row ≡ row_of (rows_at x c.args.table) c.args.key.now)) is c.row_at.ensures.found
+    subst (λ (x : Tables). IfOk c.copied_row.result (λ (row : Option (Seq Value)). row ≡ row_of (rows_at x c.args.table) c.args.key.now)) is c.copied_row.ensures.found

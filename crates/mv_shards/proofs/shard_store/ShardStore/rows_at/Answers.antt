@@ -11,8 +11,8 @@ use Rattle.mv_shards.specs.Kept.{StoredShard}
 use Rattle.mv_shards.proofs.Stored.{admitted_part}
 use Rattle.mv_shards.proofs.shard_store.ShardStore.rows_at.Goals as goal
 
-pub rows_at-requires : goal.rows_at-requires
-rows_at-requires g c =
+pub copied_rows-requires : goal.copied_rows-requires
+copied_rows-requires g c =
     let db : Tables = tables_at g.N.Making.script c.args.pass.now.seen c.args.n in
     let is : database_at c.self.inside.store c.args.n ≡ part g.row.Q db = subst (λ (v : StoredShard). database_at v.store c.args.n ≡ part g.row.Q db) (sym c.self.view_is) c.in_ok-check_fresh.ensures.rows in
     subst (λ (x : Tables). Admitted c.args.pred.now (rows_at x c.args.pred.now.table)) (sym is) (admitted_part g.row.Q c.args.pred.now db c.requires.admitted)
@@ -21,4 +21,4 @@ pub returns-clause-found : goal.returns-clause-found
 returns-clause-found g c =
     let db : Tables = tables_at g.N.Making.script c.args.pass.now.seen c.args.n in
     let is : database_at c.self.inside.store c.args.n ≡ part g.row.Q db = subst (λ (v : StoredShard). database_at v.store c.args.n ≡ part g.row.Q db) (sym c.self.view_is) c.in_ok-check_fresh.ensures.rows in
-    subst (λ (x : Tables). IfOk c.rows_at.result (λ (rows : Seq Keyed). rows ≡ found_by c.args.pred.now x)) is c.rows_at.ensures.found
+    subst (λ (x : Tables). IfOk c.copied_rows.result (λ (rows : Seq Keyed). rows ≡ found_by c.args.pred.now x)) is c.copied_rows.ensures.found

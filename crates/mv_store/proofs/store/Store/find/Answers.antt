@@ -1,4 +1,4 @@
-use Rattle.std.proofs.Common.{◌≡◌, ◌∙◌, sym, ap, subst, map}
+use Rattle.std.proofs.Common.{refl, ◌≡◌, ◌∙◌, sym, ap, subst, map}
 use Rattle.std.specs.Prelude.{IfOk}
 use Rattle.mv_values.specs.Patching.{found_by}
 use Rattle.mv_values.specs.Tables.{rows_at}
@@ -16,16 +16,17 @@ use Rattle.mv_store.proofs.store.Store.find.Goals as goal
 pub new-tables-requires : goal.new-tables-requires
 new-tables-requires c = subst AllRise (sym c.as_slice.ensures.value) c.self.invariant.0.rising
 
-pub new-view-requires-clause-covers : goal.new-view-requires-clause-covers
-new-view-requires-clause-covers c =
-    let rise : AllRise c.as_slice.result.now = subst AllRise (sym c.as_slice.ensures.value) c.self.invariant.0.rising in
-    let is : IsIndexOf c.as_slice.result.now c.entries.result.now = rw (c.as_slice.ensures.value, c.entries.ensures) c.self.invariant.1 in
-    subst (λ s. Covers c.entries.result.now s.database) (sym c.new-tables.ensures) (covers_from c.args.n c.as_slice.result.now c.entries.result.now rise is)
-
-pub new-view-requires-clause-rising : goal.new-view-requires-clause-rising
-new-view-requires-clause-rising c =
-    let rise : AllRise c.as_slice.result.now = subst AllRise (sym c.as_slice.ensures.value) c.self.invariant.0.rising in
-    subst (λ s. AreRising s.database) (sym c.new-tables.ensures) (rows_rise c.args.n c.as_slice.result.now rise)
+pub new-view-requires : goal.new-view-requires
+new-view-requires c = λ k. (
+  (refl, tt),
+  (
+    (let rise : AllRise c.as_slice.result.now = subst AllRise (sym c.as_slice.ensures.value) c.self.invariant.0.rising in
+        let is : IsIndexOf c.as_slice.result.now c.entries.result.now = rw (c.as_slice.ensures.value, c.entries.ensures) c.self.invariant.1 in
+        subst (λ s. Covers c.entries.result.now s.database) (sym c.new-tables.ensures) (covers_from c.args.n c.as_slice.result.now c.entries.result.now rise is)),
+    (let rise : AllRise c.as_slice.result.now = subst AllRise (sym c.as_slice.ensures.value) c.self.invariant.0.rising in
+        subst (λ s. AreRising s.database) (sym c.new-tables.ensures) (rows_rise c.args.n c.as_slice.result.now rise)),
+  ),
+)
 
 pub rows-requires : goal.rows-requires
 rows-requires c =

@@ -22,7 +22,7 @@ loop-key-preserved c =
     let now = c.loop-key.merge.done ++ c.loop-key.merge.ahead.items in
     let later = c.put.new.self.done ++ c.put.new.self.ahead.items in
     let row = c.matched.result in
-    let new = c.matched.ensures ∙ ap (matched pred) (c.in_ok-row.ensures ∙ ap (patched_by (writes_on pred.table key ws)) c.find_row.ensures) in
+    let new = c.matched.ensures ∙ ap (matched pred) ((rw c.table.ensures at c.in_ok-row.ensures) ∙ ap (patched_by (writes_on pred.table key ws)) c.find_row.ensures) in
     record {
       rows = laid_step pred ws c.args.own keys i key row now later c.loop-key-test.true c.key-item.is new c.in_ok-put.ensures.rows ∙ c.loop-key.invariant.rows;
       rising = subst IsRising (sym c.in_ok-put.ensures.rows) (rising_placed key row now c.loop-key.invariant.rising);

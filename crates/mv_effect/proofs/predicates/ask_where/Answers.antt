@@ -1,0 +1,24 @@
+use Rattle.std.proofs.Common.{[], refl, ◌∙◌}
+use Rattle.mv_effect.proofs.OnePred.{pushed, pushed_asks, pushed_one, pushed_rest, pushed_knows, still_nothing, tests_alone, in_error}
+use Rattle.mv_effect.proofs.predicates.ask_where.Goals as goal
+
+pub ask-requires-clause-effect : goal.ask-requires-clause-effect
+ask-requires-clause-effect c = still_nothing c.args.log.now c.push_tests.new.log c.push_tests.new.log _ c.requires.blank c.in_ok-push_tests.ensures.rest refl
+
+pub returns-clause-asks : goal.returns-clause-asks
+returns-clause-asks c = pushed_asks c.args.tables.now c.args.table c.args.conds.now [] c.args.env.now c.push_tests.new.log.tests c.args.log.now c.ask.new.log c.in_ok-push_tests.ensures.tests (pushed c.args.tables.now c.args.table c.args.conds.now [] c.args.env.now c.args.log.now c.push_tests.new.log c.push_tests.new.log c.ask.new.log c.requires.blank c.in_ok-push_tests.ensures.tests c.in_ok-push_tests.ensures.rest refl c.in_ok-ask.ensures.ok)
+
+pub returns-clause-one : goal.returns-clause-one
+returns-clause-one c = pushed_one c.args.log.now c.ask.new.log _ (pushed c.args.tables.now c.args.table c.args.conds.now [] c.args.env.now c.args.log.now c.push_tests.new.log c.push_tests.new.log c.ask.new.log c.requires.blank c.in_ok-push_tests.ensures.tests c.in_ok-push_tests.ensures.rest refl c.in_ok-ask.ensures.ok)
+
+pub returns-clause-rest : goal.returns-clause-rest
+returns-clause-rest c = pushed_rest c.args.log.now c.ask.new.log _ c.requires.blank (pushed c.args.tables.now c.args.table c.args.conds.now [] c.args.env.now c.args.log.now c.push_tests.new.log c.push_tests.new.log c.ask.new.log c.requires.blank c.in_ok-push_tests.ensures.tests c.in_ok-push_tests.ensures.rest refl c.in_ok-ask.ensures.ok)
+
+pub returns-clause-knows : goal.returns-clause-knows
+returns-clause-knows c = pushed_knows c.args.tables.now c.args.table [] c.push_tests.new.log.tests c.args.log.now c.ask.new.log c.requires.tests.table c.in_ok-push_tests.ensures.places (pushed c.args.tables.now c.args.table c.args.conds.now [] c.args.env.now c.args.log.now c.push_tests.new.log c.push_tests.new.log c.ask.new.log c.requires.blank c.in_ok-push_tests.ensures.tests c.in_ok-push_tests.ensures.rest refl c.in_ok-ask.ensures.ok)
+
+pub returns-in_err-push_tests-clause-err : goal.returns-in_err-push_tests-clause-err
+returns-in_err-push_tests-clause-err c = in_error _ (tests_alone c.args.log.now c.push_tests.new.log c.in_err-push_tests.ensures.rest)
+
+pub returns-in_err-ask-clause-err : goal.returns-in_err-ask-clause-err
+returns-in_err-ask-clause-err c = in_error _ (c.in_err-ask.ensures.err ∙ tests_alone c.args.log.now c.push_tests.new.log c.in_ok-push_tests.ensures.rest)

@@ -1,0 +1,10 @@
+use Rattle.std.proofs.Common.{◌≡◌, ◌++◌, drop, Ok}
+use Rattle.mv_alone.specs.Outcome.{then_do}
+use Rattle.mv_alone.specs.Rows.{tests_of}
+use Rattle.mv_effect.proofs.predicates.push_tests_by.Given as goal
+
+abbrev pub invariant-loop-cond : goal.invariant-loop-cond
+invariant-loop-cond l = record {
+  rest : l.log ≡ record l.fn.log { tests = l.log.tests };
+  tests : then_do (tests_of l.keys (drop l.cond-index l.conds) l.env) (λ rest. Ok (l.log.tests ++ rest)) ≡ tests_of l.keys l.conds l.env;
+}
