@@ -3,7 +3,16 @@ use Rattle.mv_core.proofs.Stored.{shows_start, fresh_start, only_memory}
 use Rattle.mv_core.proofs.commits.check_task.Goals as goal
 
 pub validate_task-requires : goal.validate_task-requires
-validate_task-requires c fresh = λ k. ((refl, tt), (search rules, (search rules, (shows_start c.args.book.now c.args.store.now c.args.call c.start.result c.new-view.result c.requires.stored fresh c.start.ensures.value c.start.ensures.past c.new-view.ensures))))
+validate_task-requires c = λ k. (
+  (refl, tt),
+  (
+    search rules,
+    (
+      search rules,
+      λ fresh. shows_start c.args.book.now c.args.store.now c.args.call c.start.result c.new-view.result c.requires.stored fresh c.start.ensures.value c.start.ensures.past c.new-view.ensures,
+    ),
+  ),
+)
 
 pub no_memory-requires : goal.no_memory-requires
 no_memory-requires c =
