@@ -76,7 +76,7 @@ impl<'s> Lent<'s> {
         row_in(&self.form).as_slice()
     }
 
-    /// Returns the row by value. It copies a row that is kept, and moves one that was made.
+    /// Returns the row by value. It copies a row that is kept, and moves one that was made. Fails if memory runs out.
     pub fn into_row(self, alloc: Global) -> Result<Row, NoMemory>
         ensures { IfOk result (λ row. row ≡ self.entry) }
     {
@@ -87,7 +87,7 @@ impl<'s> Lent<'s> {
     }
 }
 
-/// Returns a row by value, if there is one.
+/// Returns a row by value, if there is one. Fails if memory runs out.
 pub fn own(alloc: Global, row: Option<Lent<'_>>) -> Result<Option<Row>, NoMemory>
     ensures { IfOk result (λ own. own ≡ row.entry) }
 {
