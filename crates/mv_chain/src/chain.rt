@@ -69,9 +69,9 @@ impl Chain {
         }
     }
 
-    /// Returns the row after commit n, if there is one. At the newest number it lends the row. Otherwise it makes the row,
-    /// in time linear in the size of the row and of the patches after n. The search for the patches takes time logarithmic
-    /// in the number of commits.
+    /// Returns the row after commit n, if there is one. At the newest number it lends the row. Otherwise it makes the
+    /// row, in time linear in the size of the row and of the patches after n, and fails if memory runs out. The search
+    /// for the patches takes time logarithmic in the number of commits.
     pub fn row_at(&self, alloc: Global, n: u32) -> Result<Option<Lent<'_>>, NoMemory>
         ensures { IfOk result (λ row. row ≡ row_at self.now n) }
     {
@@ -83,7 +83,7 @@ impl Chain {
     }
 
     /// Moves the row after commit n out, if there is one. Takes time linear in the size of the patches after n, and
-    /// logarithmic in the number of commits.
+    /// logarithmic in the number of commits. Fails if memory runs out.
     pub fn into_row_at(self, alloc: Global, n: u32) -> Result<Option<Row>, NoMemory>
         ensures { IfOk result (λ row. row ≡ row_at self n) }
     {

@@ -65,9 +65,9 @@ impl History {
         self.row.as_ref()
     }
 
-    /// Returns the row after commit n, if there is one. At the newest number it lends the row. Otherwise it makes the row,
-    /// in time linear in the size of the row and of the patches after n. The search for the patches takes time logarithmic
-    /// in the number of commits.
+    /// Returns the row after commit n, if there is one. At the newest number it lends the row. Otherwise it makes the
+    /// row, in time linear in the size of the row and of the patches after n, and fails if memory runs out. The search
+    /// for the patches takes time logarithmic in the number of commits.
     pub(crate) fn row_at(&self, alloc: Global, n: u32) -> Result<Option<Lent<'_>>, NoMemory>
         ensures { IfOk result (λ row. row ≡ row_at self.now n) }
     {

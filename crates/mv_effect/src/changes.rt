@@ -249,8 +249,8 @@ fn delete_rows<'s, V: View<'s>>(
 }
 
 /// Writes the effect of DELETE: it deletes the rows that match, and sets `:found`. For each column with REFERENCES to
-/// their table and each of the rows, it asks for rows that hold its key. The call ends if a right side of WHERE is stopped,
-/// or if one of these rows stays.
+/// their table and each of the rows, it asks for rows that hold its key. The call ends if a right side of WHERE is
+/// stopped, or if one of these rows stays.
 pub(crate) fn delete<'s, V: View<'s>>(
     alloc: Global,
     context: &Context<'_>,
@@ -468,9 +468,9 @@ fn update_rows<'s, V: View<'s>>(
     Ok(())
 }
 
-/// Writes the effect of UPDATE: it writes a new version of each row that matches, and sets `:found`. For each new value of
-/// a column with REFERENCES it asks for the parent. The call ends if a right side of WHERE or of SET is stopped, if a text
-/// is longer than its column allows, or if a parent isn't there.
+/// Writes the effect of UPDATE: it writes a new version of each row that matches, and sets `:found`. For each new value
+/// of a column with REFERENCES it asks for the parent. The call ends if a right side of WHERE or of SET is stopped, if
+/// a text is longer than its column allows, or if a parent isn't there.
 pub(crate) fn update<'s, V: View<'s>>(
     alloc: Global,
     context: &Context<'_>,

@@ -41,7 +41,8 @@ fn have_keys(own: &[Key], rows: &[Found<'_>]) -> bool
     rows.iter().all(|item| has_key(own, item))
 }
 
-/// Whether the predicate finds a row after the call's own writes that the statement sees. Asks the view for the first one.
+/// Whether the predicate finds a row after the call's own writes that the statement sees. Asks the view for the first
+/// one.
 #[tactic(auto, using(mv_alone::proofs::FirstRows::some_foremost))]
 fn finds_some<'s, V: View<'s>>(
     alloc: Global,
@@ -107,8 +108,8 @@ fn unless(right: bool, end: End) -> Option<End>
     if right { None } else { Some(end) }
 }
 
-/// Runs a check of a statement that found rows with these keys, and adds its predicate to the open effect. Returns the end if it
-/// fails.
+/// Runs a check of a statement that found rows with these keys, and adds its predicate to the open effect. Returns the
+/// end if it fails.
 fn run_one<'s, V: View<'s>>(
     alloc: Global,
     context: &Context<'_>,
@@ -142,8 +143,8 @@ fn run_one<'s, V: View<'s>>(
     }
 }
 
-/// Runs checks of a statement that found rows with these keys, up to the first that fails, and adds their predicates to the open
-/// effect. Returns the end if one fails.
+/// Runs checks of a statement that found rows with these keys, up to the first that fails, and adds their predicates to
+/// the open effect. Returns the end if one fails.
 pub(crate) fn run_checks<'s, V: View<'s>>(
     alloc: Global,
     context: &Context<'_>,

@@ -196,8 +196,8 @@ fn push_rights(log: &mut Log, items: &[RSetItem]) -> Result<(), NoMemory>
     Ok(())
 }
 
-/// Asks what an UPDATE asks, with the columns in the right sides of SET selected. Fails with the first right side of WHERE
-/// that is stopped.
+/// Asks what an UPDATE asks, with the columns in the right sides of SET selected. Fails with the first right side of
+/// WHERE that is stopped.
 pub(crate) fn ask_update(
     alloc: Global,
     tables: &[TableInfo],

@@ -153,8 +153,8 @@ fn leading_asked(context: &Context<'_>, sorts: &[RSort], log: &Log, at: i64) -> 
     leading_at(context, sorts, &asked_pred(log), at)
 }
 
-/// Writes the rest of the effect of a SELECT that asked and takes the row with this number. It asks the view for one row, where
-/// that is the first or the last in key order and none of the call's own writes matters.
+/// Writes the rest of the effect of a SELECT that asked and takes the row with this number. It asks the view for one
+/// row, where that is the first or the last in key order and none of the call's own writes matters.
 fn select_asked<'s, V: View<'s>>(
     alloc: Global,
     context: &Context<'_>,
@@ -260,8 +260,8 @@ fn told_by(context: &Context<'_>, agg: RAgg, log: &Log) -> Option<(u16, Directio
     aggregate_direction(agg, keys, pred.tests())
 }
 
-/// Writes the rest of the effect of an aggregate that asked. MIN and MAX of a key column ask the view for one row, where `=`
-/// fixes all key columns before it and none of the call's own writes matters.
+/// Writes the rest of the effect of an aggregate that asked. MIN and MAX of a key column ask the view for one row,
+/// where `=` fixes all key columns before it and none of the call's own writes matters.
 fn total_asked<'s, V: View<'s>>(
     alloc: Global,
     context: &Context<'_>,

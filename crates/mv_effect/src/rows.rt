@@ -287,8 +287,8 @@ fn first_own<'s, V: View<'s>>(
 
 /// Returns the first row in this direction of those that the predicate matches after the own writes of records with
 /// smaller numbers. Asks the view once for its first row under a key that these writes aren't on, and then for the row
-/// under each of their keys that a scan meets before that one, until it has met a row. It doesn't ask for a row that these
-/// writes fix.
+/// under each of their keys that a scan meets before that one, until it has met a row. It doesn't ask for a row that
+/// these writes fix.
 fn first_after<'s, V: View<'s>>(
     alloc: Global,
     pred: &PredRef<'_>,

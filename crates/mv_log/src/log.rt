@@ -386,7 +386,8 @@ impl Log {
     }
 
     /// Adds a record of the run before the repair, with the position, controller and reads of the open statement. It
-    /// names the items of the old record, and moves none. Old records are kept in their order. On `NoMemory` the log is unchanged.
+    /// names the items of the old record, and moves none. Old records are kept in their order. On `NoMemory` the log is
+    /// unchanged.
     #[tactic(auto, using(crate::proofs::Closing::adopted, crate::proofs::Closing::adopted_whole))]
     pub fn adopt(&mut self, old: u32, statement: u16, parent: Option<u32>) -> Result<(), NoMemory>
         requires within { old < length self.old.past }

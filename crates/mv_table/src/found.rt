@@ -87,7 +87,7 @@ impl<'s> Found<'s> {
         }
     }
 
-    /// Returns the row with its key by value. It copies what is kept, and moves what was made.
+    /// Returns the row with its key by value. It copies what is kept, and moves what was made. Fails if memory runs out.
     pub fn into_keyed(self, alloc: Global) -> Result<Keyed, NoMemory>
         ensures { IfOk result (λ item. item ≡ self.entry) }
     {
@@ -120,7 +120,7 @@ pub fn made<'s>(item: Option<Keyed>) -> Option<Found<'s>>
     }
 }
 
-/// Returns a row with its key by value, if there is one.
+/// Returns a row with its key by value, if there is one. Fails if memory runs out.
 pub fn own(alloc: Global, item: Option<Found<'_>>) -> Result<Option<Keyed>, NoMemory>
     ensures { IfOk result (λ own. own ≡ item.entry) }
 {

@@ -119,7 +119,7 @@ impl<'s> FoundRows<'s> {
         Ok(())
     }
 
-    /// Takes rows that were made.
+    /// Takes rows that were made. Fails if memory runs out.
     pub fn made(alloc: Global, rows: Rows) -> Result<FoundRows<'s>, NoMemory>
         ensures { IfOk result (λ found. found ≡ rows) }
     {
@@ -130,7 +130,7 @@ impl<'s> FoundRows<'s> {
         Ok(found)
     }
 
-    /// Returns the rows by value. It copies what is kept, and moves what was made.
+    /// Returns the rows by value. It copies what is kept, and moves what was made. Fails if memory runs out.
     pub fn into_rows(self, alloc: Global) -> Result<Rows, NoMemory>
         ensures { IfOk result (λ rows. rows ≡ self.entry) }
     {

@@ -113,7 +113,7 @@ pub fn is_fixed_before(tests: &[Test], place: usize) -> bool
 }
 
 /// Returns the key that `=` gives whole: a value for each of its `len` columns. Returns none if `=` doesn't give each of
-/// them. Takes time linear in the size of these values, and in the number of tests for each.
+/// them. Takes time linear in the size of these values, and in the number of tests for each. Fails if memory runs out.
 pub fn whole_key(alloc: Global, tests: &[Test], len: usize) -> Result<Option<Key>, NoMemory>
     ensures given { IfOk result (λ key. is_some key ≡ are_fixed_before tests.now len) }
     ensures only { IfOk result (λ key. IfSome key (AdmitsOnly tests.now len)) }
@@ -267,7 +267,7 @@ impl Span {
 
     /// Returns a span that contains each key that the tests admit. `=` fixes the first columns of the key. `<`, `<=`,
     /// `>` and `>=` bound the key column after these. Takes time linear in the size of these values, and in the number
-    /// of tests for each.
+    /// of tests for each. Fails if memory runs out.
     pub fn of(alloc: Global, tests: &[Test]) -> Result<Span, NoMemory>
         ensures covers { IfOk result (CoversAdmitted tests.now) }
         ensures forward { IfOk result IsForward }

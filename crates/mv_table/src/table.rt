@@ -152,7 +152,7 @@ impl Table {
     }
 
     /// Returns the rows whose keys are in the span, in key order. Takes time logarithmic in the number of rows, and
-    /// linear in the number of rows returned.
+    /// linear in the number of rows returned. Fails if memory runs out.
     pub fn part(&self, alloc: Global, span: &Span) -> Result<Vec<Entry<'_>>, NoMemory>
         requires { IsForward span.now }
         ensures rows { IfOk result (λ part. map seen part.items ≡ filter (λ item. is_within span.now item.key) self.now) }
@@ -175,7 +175,7 @@ impl Table {
         self.rows.range(span)
     }
 
-    /// Copies rows into a new table. Takes time logarithmic in the number of rows for each row.
+    /// Copies rows into a new table. Takes time logarithmic in the number of rows for each row. Fails if memory runs out.
     pub fn of(alloc: Global, rows: &Rows) -> Result<Table, NoMemory>
         ensures { IfOk result (λ table. table ≡ rows.now) }
     {
@@ -187,7 +187,7 @@ impl Table {
         Ok(table)
     }
 
-    /// Turns the table into a list of its rows.
+    /// Turns the table into a list of its rows. Fails if memory runs out.
     pub fn into_rows(self, alloc: Global) -> Result<Rows, NoMemory>
         ensures { IfOk result (λ rows. rows ≡ self) }
     {

@@ -40,24 +40,24 @@ impl From<NoMemory> for Refused {
 }
 
 /// A snapshot of a database, taken after some number of commits. A view may lose its snapshot: once only rows as of a
-/// later commit are kept, it returns `Stale`. What it finds may be lent by what is behind the view, and isn't bound to the
-/// view.
+/// later commit are kept, it returns `Stale`. A row that it finds may be lent by what is behind the view, and may then
+/// outlive the view.
 pub trait View<'s> {
     /// Its database and start, whether it may return `Stale`, and its counts of `Stale` results and of calls. A count
     /// stops at `u64::MAX`.
     ghost sight: { Self → Sight };
 
-    /// Returns the rows that the predicate matches, in key order. The predicate must admit the key of each
-    /// such row. Fails if memory runs out, or with `Stale` if the snapshot may be gone.
+    /// Returns the rows that the predicate matches, in key order. The predicate must admit the key of each such row.
+    /// Fails if memory runs out, or with `Stale` if the snapshot may be gone.
     fn rows(&mut self, alloc: Global, pred: &PredRef<'_>) -> Result<FoundRows<'s>, Refused>
         requires { Admitted pred.now (rows_at (sight self.old).database pred.now.table) }
         ensures found { IfOk result (λ rows. rows ≡ found_by pred.now (sight self.old).database) }
         ensures counts { sight self.new ≡ answered result (with_rows_call (sight self.old)) }
         ensures stale { MayAnswer (sight self.old) (sight self.new) result };
 
-    /// Returns the first row in this direction that the predicate matches and whose key isn't in `passed`, or
-    /// `None` if there is no such row. The predicate must admit the key of each row that it matches. It counts as a call
-    /// of `rows`. Fails if memory runs out, or with `Stale` if the snapshot may be gone.
+    /// Returns the first row in this direction that the predicate matches and whose key isn't in `passed`, or `None` if
+    /// there is no such row. The predicate must admit the key of each row that it matches. It counts as a call of
+    /// `rows`. Fails if memory runs out, or with `Stale` if the snapshot may be gone.
     fn foremost<K: KeySet>(
         &mut self,
         alloc: Global,
@@ -70,9 +70,9 @@ pub trait View<'s> {
         ensures counts { sight self.new ≡ answered result (with_rows_call (sight self.old)) }
         ensures stale { MayAnswer (sight self.old) (sight self.new) result };
 
-    /// Returns the row with the key if the predicate matches it, or `None` if there is no such row. It is enough
-    /// where no other row matches. It counts as a call of `rows`. Fails if memory runs out, or with `Stale` if the
-    /// snapshot may be gone.
+    /// Returns the row with the key if the predicate matches it, or `None` if there is no such row. It is enough where
+    /// no other row matches. It counts as a call of `rows`. Fails if memory runs out, or with `Stale` if the snapshot
+    /// may be gone.
     fn match_under(
         &mut self,
         alloc: Global,
@@ -83,8 +83,8 @@ pub trait View<'s> {
         ensures counts { sight self.new ≡ answered result (with_rows_call (sight self.old)) }
         ensures stale { MayAnswer (sight self.old) (sight self.new) result };
 
-    /// Returns the row with the key, or `None` if there is none. Fails if memory runs out, or with `Stale` if
-    /// the snapshot may be gone.
+    /// Returns the row with the key, or `None` if there is none. Fails if memory runs out, or with `Stale` if the
+    /// snapshot may be gone.
     fn row(&mut self, alloc: Global, table: u8, key: &Key) -> Result<Option<Lent<'s>>, Refused>
         ensures found { IfOk result (λ row. row ≡ row_of (rows_at (sight self.old).database table) key.now) }
         ensures counts { sight self.new ≡ answered result (with_row_call (sight self.old)) }
