@@ -5,7 +5,7 @@ ghost use Rattle.std.specs.List.{flat_map, list_any};
 ghost use Rattle.std.specs.Option.{is_some};
 ghost use Rattle.mv_values.specs.declared.op.Op.TheVariants.{Eq};
 ghost use Rattle.mv_values.specs.declared.calls.End.TheVariants.{MissingParent};
-ghost use Rattle.mv_values.specs.References.{has_key, parent_of, reference, references_from};
+ghost use Rattle.mv_values.specs.References.{has_key, parent_of, reference, references, references_from};
 ghost use Rattle.mv_values.specs.Tables.{key_columns};
 ghost use Rattle.mv_catalog.specs.Text.{IsTable};
 ghost use Rattle.mv_alone.specs.Outcome.{Gives, then_do};
@@ -164,8 +164,25 @@ fn push_columns(
     Ok(())
 }
 
+/// Returns what INSERT of a row under its key checks of parents: that the parent of each column with REFERENCES is there,
+/// but for a row that is its own parent. It takes no memory where no column has REFERENCES. Fails if memory runs out.
+pub fn parent_checks(
+    alloc: Global,
+    tables: &[TableInfo],
+    table: u16,
+    item: &Keyed,
+) -> Result<List<Check>, NoMemory>
+    requires { All IsTable tables.now }
+    ensures { IfOk result (λ checks. map (meant []) checks ≡ parent_checks tables.now item.now (references tables.now table)) }
+{
+    let mut parents = List::new(alloc);
+    let columns = columns_in(tables, table);
+    push_columns(alloc, tables, table, item, columns, &mut parents)?;
+    Ok(parents)
+}
+
 /// Returns what INSERT of a row under its key checks: that no row has its key, and then the parent of each column with
-/// REFERENCES.
+/// REFERENCES. Fails if memory runs out.
 pub fn row_checks(
     alloc: Global,
     tables: &[TableInfo],
