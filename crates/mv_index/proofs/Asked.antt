@@ -12,11 +12,15 @@ use Rattle.mv_view.specs.Viewing.{Sight, with_rows_call, with_row_call, answered
 use Rattle.mv_index.specs.Forms.{KeyList}
 use Rattle.mv_index.specs.Indexing.{Contents, lens_of, gives_key, keys_for, IsNoWorse, AreFewest}
 use Rattle.mv_index.specs.declared.lens.KeyLens.{KeyLens}
-use Rattle.mv_index.specs.Asking.{AskedAtMost, PassesOn, LooksUp}
+use Rattle.mv_index.specs.Asking.{Indexed, AskedAtMost, PassesOn, LooksUp}
 
 -- the view with other counts of calls
 abbrev pub counted : Sight → ℕ → ℕ → Sight
 counted s rows row = record s { rows_calls = rows; row_calls = row }
+
+-- a view with an index
+abbrev pub indexed : Contents → ℕ → ℕ → Sight → Indexed
+indexed index rows row inner = record { index = index; inner = inner; rows_calls = rows; row_calls = row }
 
 -- nothing but the counts of calls changed
 abbrev pub OnlyCounts : Sight → Sight → Type 0

@@ -5,6 +5,7 @@
 mod column;
 pub mod cover;
 pub mod index;
+pub mod indexable;
 pub mod keys;
 mod lens;
 mod look;

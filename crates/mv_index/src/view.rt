@@ -13,6 +13,7 @@ ghost use Rattle.mv_index.specs.Indexing.{Covers};
 ghost use Rattle.mv_index.specs.Asking.{sight_of, AskedAtMost, PassesOn, LooksUp};
 
 use crate::index::Index;
+use crate::indexable::{Indexable, Sighted};
 use crate::look::{find, find_foremost, match_at};
 use mv_table::found::Found;
 use mv_table::found_rows::FoundRows;
@@ -27,26 +28,26 @@ use std::marker::Model;
 
 /// A view of the database of another view, which it asks for rows by their keys where an index tells these.
 #[derive(Drop)]
-pub struct IndexView<'s, 'a, V: View<'s>> {
+pub struct IndexView<'s, 'a, V: Sighted> {
     index: &'s Index,
     inner: &'a mut V,
     rows_calls: u64,
     row_calls: u64,
 }
 
-impl<'s, 'a, V: View<'s>> Model for IndexView<'s, 'a, V> {
+impl<'s, 'a, V: Sighted> Model for IndexView<'s, 'a, V> {
     ghost use Rattle.mv_record.specs.Writes.{AreRising};
     ghost use Rattle.mv_index.specs.Indexing.{Covers};
     ghost use Rattle.mv_index.specs.Asking.{Indexed};
 
     ghost Value = { Indexed };
 
-    ghost view = { λ v. record { index = v.index.now; inner = V.sight v.inner.now; rows_calls = v.rows_calls; row_calls = v.row_calls } };
+    ghost view = { λ v. record { index = v.index.now; inner = V.seen v.inner.now; rows_calls = v.rows_calls; row_calls = v.row_calls } };
 
-    ghost invariant = { λ v. Covers v.index.now (V.sight v.inner.now).database × AreRising (V.sight v.inner.now).database };
+    ghost invariant = { λ v. Covers v.index.now (V.seen v.inner.now).database × AreRising (V.seen v.inner.now).database };
 }
 
-impl<'s, 'a, V: View<'s>> IndexView<'s, 'a, V> {
+impl<'s, 'a, V: Indexable<'s>> IndexView<'s, 'a, V> {
     /// Returns a view of the inner view's database, which the index must cover, with no calls counted. It allocates no
     /// memory.
     pub fn new(index: &'s Index, inner: &'a mut V) -> IndexView<'s, 'a, V>
@@ -63,7 +64,7 @@ impl<'s, 'a, V: View<'s>> IndexView<'s, 'a, V> {
     }
 }
 
-impl<'s, 'a, V: View<'s>> View<'s> for IndexView<'s, 'a, V> {
+impl<'s, 'a, V: Indexable<'s>> View<'s> for IndexView<'s, 'a, V> {
     ghost sight = { sight_of };
 
     /// Returns the rows that the predicate matches. Where `=` tests give every key column, it asks the inner view for

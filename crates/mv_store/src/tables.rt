@@ -1,6 +1,6 @@
 //! A view of tables in versions, for an index to look into.
 
-ghost use Rattle.std.specs.Prelude.{◌≡◌, map, false, IfOk};
+ghost use Rattle.std.specs.Prelude.{◌≡◌, map, false, refl, IfOk};
 ghost use Rattle.mv_values.specs.Patching.{found_by, row_of};
 ghost use Rattle.mv_values.specs.Preds.{matched};
 ghost use Rattle.mv_values.specs.Tables.{rows_at};
@@ -13,6 +13,7 @@ ghost use Rattle.mv_store.specs.Kept.{AllRise};
 
 use crate::find::{find, find_foremost, find_match, find_row};
 use mv_chain::chain::Chain;
+use mv_index::indexable::{Indexable, Sighted};
 use mv_table::found::Found;
 use mv_table::found_rows::FoundRows;
 use mv_table::key_map::KeyMap;
@@ -157,4 +158,12 @@ impl<'a> View<'a> for TablesView<'a> {
             Err(_) => Err(Refused::NoMemory),
         }
     }
+}
+
+impl<'a> Sighted for TablesView<'a> {
+    ghost seen = { λ view. view };
+}
+
+impl<'a> Indexable<'a> for TablesView<'a> {
+    ghost alike = { λ view. refl };
 }
