@@ -1,6 +1,6 @@
 //! Indexes of columns, and what views find through them, against scans of all rows.
 
-ghost use Rattle.std.specs.Prelude.{◌≡◌, IfOk, length};
+ghost use Rattle.std.specs.Prelude.{◌≡◌, IfOk, length, refl};
 ghost use Rattle.mv_values.specs.Tables.{rows_at};
 ghost use Rattle.mv_record.specs.Admitting.{Admitted};
 ghost use Rattle.mv_record.specs.Writes.{AreRising};
@@ -12,6 +12,7 @@ use crate::values::{key, row};
 use crate::views::{AdmittedKeys, has_admitted, number};
 use mv_index::cover::cover;
 use mv_index::index::Index;
+use mv_index::indexable::{Indexable, Sighted};
 use mv_index::view::IndexView;
 use mv_record::applying::put_row;
 use mv_table::found::Found;
@@ -124,6 +125,14 @@ impl<'a> View<'a> for Counted<'a> {
         self.row_calls = self.row_calls.saturating_add(1);
         self.plain.row(alloc, table, key)
     }
+}
+
+impl<'a> Sighted for Counted<'a> {
+    ghost seen = { λ c. c.plain };
+}
+
+impl<'a> Indexable<'a> for Counted<'a> {
+    ghost alike = { λ c. refl };
 }
 
 /// The numbers, the balances and the branches of the accounts.
