@@ -34,7 +34,7 @@ pub foremost-requires : goal.foremost-requires
 foremost-requires g c =
     let db : c.new-view.result.inner.database ≡ database_at c.args.self.now c.args.n =
     ap (λ v. v.inner.database) c.new-view.ensures ∙ (ap (λ s. s.database) c.new-tables.ensures ∙ (ap (map (table_at c.args.n)) c.as_slice.ensures.value ∙ ap (λ v. database_at v c.args.n) c.self.view_is)) in
-    subst (λ db. Admitted c.args.pred.now (rows_at db c.args.pred.now.table)) (sym db) c.requires
+    λ k. ((refl, tt), subst (λ db. Admitted c.args.pred.now (rows_at db c.args.pred.now.table)) (sym db) c.requires)
 
 pub returns-clause-found : goal.returns-clause-found
 returns-clause-found g c =
