@@ -17,13 +17,13 @@ use Rattle.mv_lawful.specs.Work.{Work}
 use Rattle.mv_lawful.specs.Lawful.{Live, Course, begin, course_of as reached, open_call}
 use Rattle.mv_lawful.specs.declared.places.Place.{Place}
 use Rattle.mv_lawful.specs.Places.{start_by, start_in, places, places_by}
-use Rattle.mv_lawful.specs.Rounds.{rounds_of}
-use Rattle.mv_lawful.specs.Outcomes.{commits_before, reply_in, reply_after, turns_of, history_line, outcome_at, outcome_of}
+use Rattle.mv_lawful.specs.Rounds.{rounds_of, turns_in}
+use Rattle.mv_lawful.specs.Outcomes.{commits_before, reply_in, reply_after, turns_of, history_line, outcome_at, outcome_of, IsReply}
 use Rattle.mv_lawful.proofs.Serial.{stands, stands_at, all_done}
 use Rattle.mv_lawful.proofs.Placing.{commits_to_place, ended_at, place_at, places_by_starts}
 use Rattle.mv_audit.specs.declared.course.Live.{Live as Kept}
 use Rattle.mv_audit.specs.declared.course.Course.{Course as State}
-use Rattle.mv_audit.specs.Courses.{turns_in, live_of, course_of, rounds_by, line_of, replies_in, IsReply, TellsRun, TellsCall, IsCourse}
+use Rattle.mv_audit.specs.Courses.{live_of, course_of, rounds_by, line_of, replies_in, TellsRun, TellsCall, IsCourse}
 
 -- the call is done, and what is kept of it is its rounds and its reply
 record Done (w : Work) (order answers : List ℕ) (ls : List Kept) (c : ℕ) : Type 0 where

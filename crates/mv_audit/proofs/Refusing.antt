@@ -15,7 +15,8 @@ use Rattle.mv_lawful.specs.Work.{Work, hit_of, changes_after}
 use Rattle.mv_lawful.specs.Lawful.{Live, unless, of_live, of_call, refusal}
 use Rattle.mv_audit.specs.declared.course.Live.{Live as Kept}
 use Rattle.mv_audit.specs.declared.course.Course.{Course as State}
-use Rattle.mv_audit.specs.Courses.{turns_in, turn_of, live_of, course_of, TellsRun, AreSince, IsLive, IsLiveCall, IsCourse}
+use Rattle.mv_lawful.specs.Rounds.{turns_in, turn_of}
+use Rattle.mv_audit.specs.Courses.{live_of, course_of, TellsRun, AreSince, IsLive, IsLiveCall, IsCourse}
 
 -- What the law sees of a call
 

@@ -12,11 +12,13 @@ use Rattle.mv_journal.specs.declared.outcome.Mark.TheVariants.{Plain, Exclusive,
 use Rattle.mv_journal.specs.declared.outcome.Round.{Round}
 use Rattle.mv_lawful.specs.Work.{Work, table_at, records_at, changes_up_to}
 use Rattle.mv_lawful.specs.Lawful.{Turn}
-use Rattle.mv_lawful.specs.Rounds.{later_run, rounds_of}
+use Rattle.mv_lawful.specs.Rounds.{later_run, rounds_of, turn_of, turns_in, closed, counted, last_turn_or, WithinRounds}
 use Rattle.mv_audit.specs.declared.course.Live.{Live as Kept}
-use Rattle.mv_audit.specs.Courses.{turn_of, turns_in, closed, counted, count_by, more_rounds, last_start, WithinRounds, IsReply, TellsRun, TellsCall, AreSince, fresh, restarted, finished, answered}
+use Rattle.mv_lawful.specs.Outcomes.{IsReply}
+use Rattle.mv_audit.specs.Courses.{count_by, more_rounds, TellsRun, TellsCall, AreSince, fresh, restarted, finished, answered}
 use Rattle.mv_lawful.proofs.Serial.{stands}
-use Rattle.mv_audit.proofs.Counting.{turns_closed, table_stays, within_more, within_end, rounds_stay, rounds_more, before_stays, before_commit, before_answer, before_other}
+use Rattle.mv_lawful.proofs.Numbers.{turns_closed, table_stays, within_more, within_end, rounds_stay, rounds_more}
+use Rattle.mv_audit.proofs.Counting.{before_stays, before_commit, before_answer, before_other}
 
 -- A commit more
 
@@ -117,7 +119,7 @@ more_are w order answers c m l new commits t live are all =
     ap (λ n. closed m l.rounds ++ counted n m (count_by m l.records new (drop l.start commits)) ∷ []) many
     ∙ (ap (λ k. closed m l.rounds ++ counted (length order) m k ∷ []) (count_is w order c m l.start l.records new commits t.past old are all)
     ∙ (ap (λ s. closed m l.rounds ++ counted (length order) m (later_run w order c s (length order) m) ∷ []) t.start
-    ∙ (ap (λ rs. closed m rs ++ counted (length order) m (later_run w order c (last_start t.first.start (turns_in t.rest)) (length order) m) ∷ []) (t.rounds ∙ ap (λ rs. rounds_of w order c (turns_in rs)) t.are)
+    ∙ (ap (λ rs. closed m rs ++ counted (length order) m (later_run w order c (last_turn_or t.first.start (turns_in t.rest)) (length order) m) ∷ []) (t.rounds ∙ ap (λ rs. rounds_of w order c (turns_in rs)) t.are)
     ∙ (sym (rounds_more w order c (turn_of t.first) (record { start = length order; mark = m }) (turns_in t.rest))
     ∙ ap (λ rs. rounds_of w order c (turns_in rs ++ record { start = length order; mark = m } ∷ [])) (sym t.are))))) where
       many : length commits ≡ length order
@@ -131,7 +133,7 @@ pub turns_more : (m : Mark) (l : Kept) (n : ℕ) (new : List Record) (commits : 
 turns_more m l n new commits =
     map-append turn_of (closed m l.rounds) (counted n m (count_by m l.records new (drop l.start commits)) ∷ []) ∙ ap (λ ts. ts ++ record { start = n; mark = m } ∷ []) (turns_closed m l.rounds)
 
-last_more : (old n : ℕ) (m : Mark) (ts : List Turn) → last_start old (ts ++ record { start = n; mark = m } ∷ []) ≡ n
+last_more : (old n : ℕ) (m : Mark) (ts : List Turn) → last_turn_or old (ts ++ record { start = n; mark = m } ∷ []) ≡ n
 last_more old n m [] = refl
 last_more old n m (t ∷ ts) = last_more t.start n m ts
 
@@ -140,17 +142,17 @@ record Some_more (m : Mark) (n k : ℕ) (rs : List Round) : Type 0 where
   first : Round
   rest : List Round
   are : closed m rs ++ counted n m k ∷ [] ≡ first ∷ rest
-  start : n ≡ last_start first.start (turns_in rest)
+  start : n ≡ last_turn_or first.start (turns_in rest)
 
 first_more : (m : Mark) (n k : ℕ) (r : Round) (rs : List Round) → Some_more m n k (r ∷ rs)
-first_more Plain n k r rs = record { first = r; rest = rs ++ counted n Plain k ∷ []; are = refl; start = sym (ap (last_start r.start) (map-append turn_of rs (counted n Plain k ∷ [])) ∙ last_more r.start n Plain (turns_in rs)) }
-first_more Exclusive n k r rs = record { first = r; rest = rs ++ counted n Exclusive k ∷ []; are = refl; start = sym (ap (last_start r.start) (map-append turn_of rs (counted n Exclusive k ∷ [])) ∙ last_more r.start n Exclusive (turns_in rs)) }
+first_more Plain n k r rs = record { first = r; rest = rs ++ counted n Plain k ∷ []; are = refl; start = sym (ap (last_turn_or r.start) (map-append turn_of rs (counted n Plain k ∷ [])) ∙ last_more r.start n Plain (turns_in rs)) }
+first_more Exclusive n k r rs = record { first = r; rest = rs ++ counted n Exclusive k ∷ []; are = refl; start = sym (ap (last_turn_or r.start) (map-append turn_of rs (counted n Exclusive k ∷ [])) ∙ last_more r.start n Exclusive (turns_in rs)) }
 first_more Moved n k r [] = record { first = record r { count = None }; rest = counted n Moved k ∷ []; are = refl; start = refl }
 first_more Moved n k r (s ∷ rs) = record {
   first = r;
   rest = closed Moved (s ∷ rs) ++ counted n Moved k ∷ [];
   are = refl;
-  start = sym (ap (last_start r.start) (map-append turn_of (closed Moved (s ∷ rs)) (counted n Moved k ∷ [])) ∙ last_more r.start n Moved (turns_in (closed Moved (s ∷ rs))));
+  start = sym (ap (last_turn_or r.start) (map-append turn_of (closed Moved (s ∷ rs)) (counted n Moved k ∷ [])) ∙ last_more r.start n Moved (turns_in (closed Moved (s ∷ rs))));
 }
 
 -- a call with one more round, on the same commits

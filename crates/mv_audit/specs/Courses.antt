@@ -22,12 +22,12 @@ use Rattle.mv_journal.specs.declared.outcome.Mark.{Mark}
 use Rattle.mv_journal.specs.declared.outcome.Mark.TheVariants.{Plain, Exclusive, Moved}
 use Rattle.mv_journal.specs.declared.outcome.Round.{Round}
 use Rattle.mv_lawful.specs.Work.{Work, table_at, records_at, changes_after}
-use Rattle.mv_lawful.specs.Lawful.{Turn, Live, Course, wrong_with}
+use Rattle.mv_lawful.specs.Lawful.{Live, Course, wrong_with}
 use Rattle.mv_lawful.specs.declared.fault.Fault.{Fault}
 use Rattle.mv_lawful.specs.declared.fault.Wrong.TheVariants as wrong
-use Rattle.mv_lawful.specs.Rounds.{rounds_of}
+use Rattle.mv_lawful.specs.Rounds.{turns_in, WithinRounds, last_turn_or, closed, counted, rounds_of}
 use Rattle.mv_lawful.specs.declared.places.Place.{Place}
-use Rattle.mv_lawful.specs.Outcomes.{commits_before, outcome_of}
+use Rattle.mv_lawful.specs.Outcomes.{IsReply, outcome_of}
 use Rattle.mv_lawful.proofs.Serial.{OrderlyAt}
 use Rattle.mv_report.specs.History.{work_of}
 use Rattle.mv_audit.specs.declared.course.Live.{Live as Kept}
@@ -41,28 +41,6 @@ audited p rounds = work_of p (record { rounds = rounds; horizon = None })
 
 -- Rounds
 
--- a round without its number
-abbrev pub turn_of : Round → Turn
-turn_of r = record { start = r.start; mark = r.mark }
-
-abbrev pub turns_in : List Round → List Turn
-turns_in rs = map turn_of rs
-
--- rounds, the last of which has no number
-abbrev pub unnumbered : List Round → List Round
-unnumbered [] = []
-unnumbered (r ∷ []) = record r { count = None } ∷ []
-unnumbered (r ∷ s ∷ rs) = r ∷ unnumbered (s ∷ rs)
-
--- rounds before one with this mark: a move clears the number of the round before it
-abbrev pub closed : Mark → List Round → List Round
-closed Plain rs = rs
-closed Exclusive rs = rs
-closed Moved rs = unnumbered rs
-
-abbrev pub counted : ℕ → Mark → ℕ → Round
-counted n mark k = record { start = n; count = Some k; mark = mark }
-
 -- the number of records that a round with this mark executes, given those of the run before it, its own, and the commits
 -- between them
 abbrev pub count_by : Mark → List Record → List Record → List (List Change) → ℕ
@@ -74,26 +52,11 @@ count_by Moved old new commits = length new
 abbrev pub more_rounds : Kept → ℕ → Mark → List Record → List (List Change) → List Round
 more_rounds l n mark new commits = closed mark l.rounds ++ counted n mark (count_by mark l.records new (drop l.start commits)) ∷ []
 
--- the start of the last round, or this one
-abbrev pub last_start : ℕ → List Turn → ℕ
-last_start old [] = old
-last_start old (t ∷ ts) = last_start t.start ts
-
--- each round began after at most so many commits
-abbrev pub WithinRounds : ℕ → List Turn → Type 0
-WithinRounds n [] = Unit {0}
-WithinRounds n (t ∷ ts) = (t.start ≤ n) × WithinRounds n ts
-
 -- Calls
 
 -- what the law of journals sees of a call
 abbrev pub live_of : Kept → Live
 live_of l = record { start = l.start; turns = turns_in l.rounds; steps = 0; done = is_some l.reply }
-
--- the reply of a call of the order, alone after those before it; that of an answered call, alone after those up to its
--- start
-abbrev pub IsReply : Work → List ℕ → List ℕ → ℕ → ℕ → Reply → Type 0
-IsReply w order answered start c reply = (k : ℕ) × (commits_before order answered start c ≡ Some k) × (k ≤ length order) × (reply ≡ (w.run c (table_at w order k)).reply)
 
 -- a live call has its records and the reply of its full run, and one that is done its reply
 abbrev pub TellsRun : Work → List ℕ → List ℕ → ℕ → Kept → Option Reply → Type 0
@@ -105,7 +68,7 @@ pub record TellsCall (w : Work) (order answered : List ℕ) (c : ℕ) (l : Kept)
   pub first : Round
   pub rest : List Round
   pub are : l.rounds ≡ first ∷ rest
-  pub start : l.start ≡ last_start first.start (turns_in rest)
+  pub start : l.start ≡ last_turn_or first.start (turns_in rest)
   pub past : l.start ≤ length order
   pub within : WithinRounds (length order) (turns_in l.rounds)
   pub rounds : l.rounds ≡ rounds_of w order c (turns_in l.rounds)

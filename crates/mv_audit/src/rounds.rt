@@ -1,8 +1,9 @@
 //! The rounds of calls.
 
-ghost use Rattle.std.specs.Prelude.{◌≡◌, ◌≤◌, ◌<◌, ◌^◌, IfOk, length};
+ghost use Rattle.std.specs.Prelude.{◌≡◌, ◌≤◌, ◌<◌, ◌^◌, None, IfOk, length};
 ghost use Rattle.mv_record.specs.Paths.{PathsRise};
-ghost use Rattle.mv_audit.specs.Courses.{unnumbered, closed, count_by, more_rounds, no_reply, fresh, restarted, finished, answered};
+ghost use Rattle.mv_lawful.specs.Rounds.{numbered, closed};
+ghost use Rattle.mv_audit.specs.Courses.{count_by, more_rounds, no_reply, fresh, restarted, finished, answered};
 
 use crate::course::Live;
 use crate::kept::executions;
@@ -16,7 +17,7 @@ use std::alloc::Global;
 
 /// Returns rounds with the number of the last one cleared.
 fn unnumbered(rounds: List<Round>) -> Result<List<Round>, NoMemory>
-    ensures { IfOk result (λ all. all ≡ unnumbered rounds) }
+    ensures { IfOk result (λ all. all ≡ numbered None rounds) }
 {
     let mut all = rounds;
     let Some(last) = all.pop() else {

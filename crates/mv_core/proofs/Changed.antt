@@ -17,7 +17,7 @@ use Rattle.mv_journal.specs.declared.event.Event.TheVariants.{S, A, C, X, R}
 use Rattle.mv_journal.specs.declared.outcome.Mark.{Mark}
 use Rattle.mv_journal.specs.declared.outcome.Mark.TheVariants.{Exclusive}
 use Rattle.mv_journal.specs.declared.outcome.Round.{Round}
-use Rattle.mv_lawful.specs.Rounds.{later_run, repair_run, rounds_of}
+use Rattle.mv_lawful.specs.Rounds.{later_run, repair_run, rounds_of, last_number}
 use Rattle.mv_lawful.specs.Outcomes.{turns_of}
 use Rattle.mv_lawful.specs.Work.{Work, records_at}
 use Rattle.mv_lawful.specs.declared.fault.Fault.TheVariants.{Idle, Kind, Order, Stale, Rounds}
@@ -26,7 +26,7 @@ use Rattle.mv_script.specs.declared.script.Script.{Script}
 use Rattle.mv_core.specs.Rooms.{Filled}
 use Rattle.mv_script.specs.Scripts.{work_of, IsScript}
 use Rattle.mv_core.specs.declared.tasks.Running.{Running}
-use Rattle.mv_core.specs.Calls.{IsLive, IsLiveCall, last_number, due_number}
+use Rattle.mv_core.specs.Calls.{IsLive, IsLiveCall, due_number}
 use Rattle.mv_core.specs.Books.{Booked, work_in, Made, IsSame, IsSettled, IsMissing, HasAnswered, HasRounds, round_event, IsOwnBy, IsOwnNumber, IsAnswer, HasRoom, IsNotStale}
 use Rattle.mv_core.specs.declared.book.Check.{Check}
 use Rattle.mv_core.specs.declared.engine.Attempt.{Attempt}
@@ -37,7 +37,7 @@ use Rattle.mv_core.specs.declared.book.Check.TheVariants as check
 use Rattle.mv_core.specs.Drives.{HasMade, HasTaken, TellsRound, of_view}
 use Rattle.mv_core.specs.declared.drive.Refusal.TheVariants as drive
 use Rattle.mv_core.specs.Cores.{Cored, IsAllowedIfFresh, IsHitAt, IsStaleAt, IsLiveTask, IsRunningIn, HasTurns, HasStep, MayStep, HasTried, HasCommitted, HasRefused, HasRepaired, IsStoreOf, IsCore}
-use Rattle.mv_core.proofs.Numbers.{repair_stays}
+use Rattle.mv_lawful.proofs.Numbers.{repair_stays}
 use Rattle.mv_core.proofs.Journals.{changed_at, set_there}
 use Rattle.mv_core.proofs.Keeping.{restart_after}
 use Rattle.mv_core.proofs.Numbered.{numbers_same}

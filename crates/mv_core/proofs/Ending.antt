@@ -17,16 +17,16 @@ use Rattle.mv_journal.specs.declared.outcome.Outcome.{Outcome}
 use Rattle.mv_journal.specs.declared.outcome.Round.{Round}
 use Rattle.mv_lawful.specs.declared.fault.Wrong.TheVariants.{Open}
 use Rattle.mv_lawful.specs.Lawful.{Live, Course, begin, beginning, course_of, open_call, Lawful}
-use Rattle.mv_lawful.specs.Rounds.{rounds_of}
+use Rattle.mv_lawful.specs.Rounds.{rounds_of, turns_in}
 use Rattle.mv_lawful.specs.declared.places.Place.{Place}
 use Rattle.mv_lawful.specs.Places.{start_by, start_in, places, places_by}
-use Rattle.mv_lawful.specs.Outcomes.{commits_before, reply_in, reply_after, turns_of, history_line, outcome_at, outcome_of}
+use Rattle.mv_lawful.specs.Outcomes.{commits_before, reply_in, reply_after, turns_of, history_line, outcome_at, outcome_of, IsReply}
 use Rattle.mv_core.specs.declared.book.Book.TheInside.{Inside}
 use Rattle.mv_core.specs.contracts.book.Book.{the_view}
 use Rattle.mv_script.specs.declared.script.Script.{Script}
 use Rattle.mv_core.specs.declared.progress.Progress.{Progress}
 use Rattle.mv_script.specs.Scripts.{work_of}
-use Rattle.mv_core.specs.Calls.{turns_in, live_of, TellsBy, IsReply, rounds_by, line_of, course_with, replies_in}
+use Rattle.mv_core.specs.Calls.{live_of, TellsBy, rounds_by, line_of, course_with, replies_in}
 use Rattle.mv_core.specs.Books.{Booked, IsBookKept, work_in, last_tables}
 use Rattle.mv_core.proofs.Journals.{Facts, IsDoneIn, all_done}
 use Rattle.mv_core.proofs.Keeping.{the_course, facts, map_get, IsInside}

@@ -15,8 +15,9 @@ use Rattle.mv_lawful.specs.declared.fault.Fault.{Fault}
 use Rattle.mv_lawful.specs.declared.fault.Fault.TheVariants.{Order}
 use Rattle.mv_lawful.specs.Work.{Work}
 use Rattle.mv_lawful.specs.Lawful.{Turn, Live, Course, beginning, change_live, with_call, begin, again, finish, unless, of_live, refusal, after, reach, course_of, first_open, open_call, AllAllowed}
-use Rattle.mv_core.specs.Calls.{WithinRounds, IsLive}
-use Rattle.mv_core.proofs.Numbers.{within_more, within_end}
+use Rattle.mv_lawful.specs.Rounds.{WithinRounds}
+use Rattle.mv_core.specs.Calls.{IsLive}
+use Rattle.mv_lawful.proofs.Numbers.{within_more, within_end}
 
 -- Lists
 

@@ -13,8 +13,8 @@ use Rattle.mv_journal.specs.declared.outcome.Mark.TheVariants.{Plain, Exclusive,
 use Rattle.mv_journal.specs.declared.outcome.Round.{Round}
 use Rattle.mv_lawful.specs.Work.{Work, table_at}
 use Rattle.mv_lawful.specs.Lawful.{Turn, Live, Course, beginning, begin, again, finish, used, with_call, change_live, refusal, after, reach, AllAllowed}
-use Rattle.mv_lawful.specs.Rounds.{rounds_of}
-use Rattle.mv_lawful.specs.Outcomes.{turns_of}
+use Rattle.mv_lawful.specs.Rounds.{rounds_of, WithinRounds, turn_of, turns_in, numbered, last_number, closed, counted, uncounted}
+use Rattle.mv_lawful.specs.Outcomes.{turns_of, IsReply}
 use Rattle.mv_script.specs.declared.script.Script.{Script}
 use Rattle.mv_core.specs.declared.progress.Progress.{Progress}
 use Rattle.mv_core.specs.declared.book.Begun.{Begun}
@@ -22,9 +22,10 @@ use Rattle.mv_core.specs.declared.book.Book.TheInside.{Inside}
 use Rattle.mv_core.specs.contracts.book.Book.{the_view}
 use Rattle.mv_core.specs.Rooms.{Filled}
 use Rattle.mv_script.specs.Scripts.{IsScript, work_of}
-use Rattle.mv_core.specs.Calls.{WithinRounds, turn_of, turns_in, live_of, IsLive, IsLiveCall, numbered, last_number, closed, counted, uncounted, due_number, committed, with_own, AreRounds, IsReply, TellsBy, TellsCall, IsFresh}
+use Rattle.mv_core.specs.Calls.{live_of, IsLive, IsLiveCall, due_number, committed, with_own, AreRounds, TellsBy, TellsCall, IsFresh}
 use Rattle.mv_core.specs.Books.{Booked, IsBookKept, IsSame, work_in, kept_rounds, Made, HasBegun, HasRoom, HasRounds, IsSettled, BeginsRound, IsMissing, IsOwnBy, round_event, commit_event}
-use Rattle.mv_core.proofs.Numbers.{turns_numbered, turns_closed, last_numbered, table_stays, rounds_stay, last_of_end, closes, settled, settles, rounds_end, rounds_begun}
+use Rattle.mv_lawful.proofs.Numbers.{turns_numbered, turns_closed, last_numbered, table_stays, rounds_stay, last_of_end}
+use Rattle.mv_core.proofs.Numbers.{closes, settled, settles, rounds_end, rounds_begun}
 use Rattle.mv_core.specs.Lives.{live_numbers, without}
 use Rattle.mv_core.proofs.Lives.{live_kept, live_gone, live_begun, live_below}
 use Rattle.mv_core.proofs.Journals.{get_last, get_set, set_there, facts_of, Facts, CallFacts, live_at, changed_at, done_in, done_within, done_below, reach_more, allowed_more, live_apart, live_unanswered, before_last, before_stays, before_answered, before_kept}

@@ -6,16 +6,16 @@ use Rattle.mv_journal.specs.declared.event.Event.TheVariants.{M, C}
 use Rattle.mv_journal.specs.declared.outcome.Mark.TheVariants.{Exclusive, Moved}
 use Rattle.mv_lawful.specs.Work.{Work, records_at, hit_of}
 use Rattle.mv_lawful.specs.Lawful.{Turn, Live, Course, again, change_live, refusal}
-use Rattle.mv_lawful.specs.Rounds.{whole_run, later_run, round, rounds_of}
+use Rattle.mv_lawful.specs.Rounds.{whole_run, later_run, round, rounds_of, closed, last_number, last_turn_or}
 use Rattle.mv_lawful.specs.Outcomes.{turns_of}
 use Rattle.mv_script.specs.declared.script.Script.{Script}
 use Rattle.mv_script.specs.Scripts.{work_of}
 use Rattle.mv_store.specs.Stored.{Versioned}
-use Rattle.mv_core.specs.Calls.{IsLive, closed, last_number}
+use Rattle.mv_core.specs.Calls.{IsLive}
 use Rattle.mv_core.specs.Lives.{live_numbers}
 use Rattle.mv_core.specs.Books.{Booked, work_in, Made, IsAlone, IsNoReader}
 use Rattle.mv_core.specs.Cores.{IsStoreOf}
-use Rattle.mv_core.proofs.Numbers.{last_start, last_of_end, rounds_more}
+use Rattle.mv_lawful.proofs.Numbers.{last_of_end, rounds_more}
 use Rattle.mv_core.proofs.Lives.{live_kept}
 use Rattle.mv_core.proofs.Refusing.{may_commit}
 use Rattle.mv_core.proofs.Turning.{none_hit}
@@ -40,7 +40,7 @@ moved_number : (w : Work) (order : List ℕ) (c n : ℕ) (ts : List Turn) → la
 moved_number w order c n [] = refl
 moved_number w order c n (t ∷ ts) =
     let u : Turn = record { start = n; mark = Moved } in
-    ap last_number (rounds_more w order c t u ts) ∙ last_of_end (closed Moved (rounds_of w order c (t ∷ ts))) (round u (Some (later_run w order c (last_start t.start ts) n Moved)))
+    ap last_number (rounds_more w order c t u ts) ∙ last_of_end (closed Moved (rounds_of w order c (t ∷ ts))) (round u (Some (later_run w order c (last_turn_or t.start ts) n Moved)))
 
 pub due_moved : (b : Booked) (c : ℕ) (l : Live) → IsLive b.course c l → due_after b Moved c ≡ Some (length (records_at (work_in b) b.course.order (length b.course.order) c))
 due_moved b c l live =

@@ -23,7 +23,7 @@ use Rattle.mv_script.specs.Scripts.{work_of}
 use Rattle.mv_core.specs.Calls.{live_of, IsLive, IsFresh}
 use Rattle.mv_core.specs.Lives.{live_numbers, least_start}
 use Rattle.mv_core.specs.Books.{Booked, IsRecent, Remembers, IsAnswer, work_in}
-use Rattle.mv_core.proofs.Numbers.{changes_more}
+use Rattle.mv_lawful.proofs.Numbers.{changes_more}
 use Rattle.mv_core.proofs.Lives.{oldest_below, oldest_begun, oldest_is, oldest_set}
 use Rattle.mv_core.proofs.Keeping.{the_course, set_map, live_here}
 

@@ -24,7 +24,8 @@ use Rattle.mv_lawful.specs.Lawful.{Live, Course, used, has_step, has_round, is_s
 use Rattle.mv_script.specs.declared.script.Script.{Script}
 use Rattle.mv_script.specs.Scripts.{work_of, IsScript}
 use Rattle.mv_script.proofs.Databases.{table_database}
-use Rattle.mv_core.specs.Calls.{IsLive, IsLiveCall, turn_of}
+use Rattle.mv_lawful.specs.Rounds.{turn_of}
+use Rattle.mv_core.specs.Calls.{IsLive, IsLiveCall}
 use Rattle.mv_core.specs.declared.book.Check.TheVariants as check
 use Rattle.mv_core.specs.Books.{Booked, work_in, Made, IsSame, IsAnswer, HasRounds}
 use Rattle.mv_core.specs.Drives.{HasMade}

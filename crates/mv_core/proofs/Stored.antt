@@ -46,7 +46,7 @@ use Rattle.mv_core.specs.Cores.{RunsOn, CanRepair, IsDatabaseIn, IsStored, IsSto
 use Rattle.mv_core.proofs.Admitting.{flat_admitted}
 use Rattle.mv_core.proofs.Telling.{told_reply, told_tables}
 use Rattle.mv_core.proofs.Lows.{low_within}
-use Rattle.mv_core.proofs.Numbers.{table_stays}
+use Rattle.mv_lawful.proofs.Numbers.{table_stays}
 use Rattle.mv_core.proofs.Journals.{live_at}
 
 -- Databases

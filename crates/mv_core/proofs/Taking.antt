@@ -23,18 +23,18 @@ use Rattle.mv_history.specs.declared.change.Change.{Change}
 use Rattle.mv_history.specs.Kept.{executions}
 use Rattle.mv_lawful.specs.Work.{Work, table_at, records_at, since}
 use Rattle.mv_lawful.specs.Lawful.{Turn, Live, Course, begin, again, finish, used, has_step}
-use Rattle.mv_lawful.specs.Rounds.{whole_run, later_run, round, rounds_of}
+use Rattle.mv_lawful.specs.Rounds.{whole_run, later_run, round, rounds_of, closed, last_number, last_turn, last_turn_or}
 use Rattle.mv_lawful.specs.Outcomes.{turns_of}
 use Rattle.mv_script.specs.declared.script.Script.{Script}
 use Rattle.mv_script.specs.Scripts.{work_of, IsCallOf, IsScript}
 use Rattle.mv_script.proofs.Databases.{table_database}
 use Rattle.mv_core.specs.declared.tasks.Running.{Running}
-use Rattle.mv_core.specs.Calls.{IsLive, IsLiveCall, closed, committed, last_number, due_number}
+use Rattle.mv_core.specs.Calls.{IsLive, IsLiveCall, committed, due_number}
 use Rattle.mv_core.specs.Books.{Booked, work_in, Made, round_event, commit_event, IsMissing, HasNumber, AreRecordsOf}
 use Rattle.mv_store.specs.Stored.{Versioned}
 use Rattle.mv_view.specs.Viewing.{Sight}
-use Rattle.mv_core.specs.Cores.{RunsOn, IsTaskFor, HasRunOne, CountsAll, HasTurns, last_start, count_or, IsLiveTask, IsTaskIn, IsRunningIn, IsRepaired, HasTasks, HasStep, IsCore, Shows, ShowsLast}
-use Rattle.mv_core.proofs.Numbers.{last_start as start_after, last_of_end, rounds_more, rounds_stay, table_stays, within_more, within_end}
+use Rattle.mv_core.specs.Cores.{RunsOn, IsTaskFor, HasRunOne, CountsAll, HasTurns, count_or, IsLiveTask, IsTaskIn, IsRunningIn, IsRepaired, HasTasks, HasStep, IsCore, Shows, ShowsLast}
+use Rattle.mv_lawful.proofs.Numbers.{last_end, last_is_or, last_of_end, rounds_more, rounds_stay, table_stays, within_more, within_end}
 use Rattle.mv_core.proofs.Stored.{run_is, changes_to_last}
 use Rattle.mv_core.proofs.Keeping.{commit_after, restart_after}
 use Rattle.mv_core.proofs.Journals.{changed_at, get_last, get_front, get_set, set_there, set_apart}
@@ -86,14 +86,6 @@ task_back s c db old new is begins call g here = begins g call db (is call g her
 
 -- Rounds
 
-start_is : (t : Turn) (ts : List Turn) → last_start (t ∷ ts) ≡ start_after t.start ts
-start_is t [] = refl
-start_is t (u ∷ us) = start_is u us
-
-last_end : (t : Turn) (ts : List Turn) (u : Turn) → last_start ((t ∷ ts) ++ u ∷ []) ≡ u.start
-last_end t [] u = refl
-last_end t (v ∷ vs) u = last_end v vs u
-
 pub turns_begin : (n : ℕ) → HasTurns n (begin n)
 turns_begin n = record { first = record { start = n; mark = Plain }; rest = []; turns = refl; last = refl; within = (omega arith, tt); past = omega arith }
 
@@ -102,7 +94,7 @@ turns_again n m l h = record {
   first = h.first;
   rest = h.rest ++ record { start = n; mark = m } ∷ [];
   turns = ap (λ ts. ts ++ record { start = n; mark = m } ∷ []) h.turns;
-  last = ap (λ ts. last_start (ts ++ record { start = n; mark = m } ∷ [])) h.turns ∙ last_end h.first h.rest (record { start = n; mark = m });
+  last = ap (λ ts. last_turn (ts ++ record { start = n; mark = m } ∷ [])) h.turns ∙ last_end (h.first ∷ h.rest) (record { start = n; mark = m });
   within = within_end n l.turns (record { start = n; mark = m }) h.within (omega arith);
   past = omega arith;
 }
@@ -128,7 +120,7 @@ first_number w order c n l h first = by h.rest refl where
   by : (ts : List Turn) → h.rest ≡ ts → last_number (rounds_of w order c l.turns) ≡ Some (length (records_at w order l.start c))
   by [] none =
       let all : l.turns ≡ h.first ∷ [] = h.turns ∙ ap (λ ts. h.first ∷ ts) none in
-      ap (λ ts. last_number (rounds_of w order c ts)) all ∙ ap (λ k. Some (whole_run w order c k)) (sym (ap last_start all) ∙ h.last)
+      ap (λ ts. last_number (rounds_of w order c ts)) all ∙ ap (λ k. Some (whole_run w order c k)) (sym (ap last_turn all) ∙ h.last)
   by (t ∷ ts) some =
       let a = ap length h.turns in
       let b = ap length some in
@@ -140,8 +132,8 @@ pub number_again : (w : Work) (order : List ℕ) (c n k : ℕ) (m : Mark) (l : L
 number_again w order c n k m l h =
     ap (λ ts. last_number (rounds_of w order c (ts ++ u ∷ []))) h.turns
     ∙ (ap last_number (rounds_more w order c h.first u h.rest)
-    ∙ (last_of_end (closed m (rounds_of w order c (h.first ∷ h.rest))) (round u (Some (later_run w order c (start_after h.first.start h.rest) n m)))
-    ∙ ap (λ x. Some (later_run w order c x n m)) (sym (start_is h.first h.rest) ∙ (sym (ap last_start h.turns) ∙ h.last)))) where
+    ∙ (last_of_end (closed m (rounds_of w order c (h.first ∷ h.rest))) (round u (Some (later_run w order c (last_turn_or h.first.start h.rest) n m)))
+    ∙ ap (λ x. Some (later_run w order c x n m)) (sym (last_is_or h.first h.rest) ∙ (sym (ap last_turn h.turns) ∙ h.last)))) where
       u : Turn
       u = record { start = n; mark = m }
 

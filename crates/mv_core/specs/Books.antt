@@ -19,7 +19,7 @@ use Rattle.mv_journal.specs.declared.outcome.Round.{Round}
 use Rattle.mv_lawful.specs.declared.fault.Fault.TheVariants as fault
 use Rattle.mv_lawful.specs.Work.{Work, table_at, records_at, since, hit_of}
 use Rattle.mv_lawful.specs.Lawful.{Live, Course, beginning, refusal, used, oldest, after, course_of, is_stale, AllAllowed}
-use Rattle.mv_lawful.specs.Rounds.{rounds_of}
+use Rattle.mv_lawful.specs.Rounds.{rounds_of, turns_in, last_number}
 use Rattle.mv_exec.specs.declared.task.Task.{Task}
 use Rattle.mv_script.specs.declared.script.Script.{Script}
 use Rattle.mv_core.specs.declared.progress.Progress.{Progress}
@@ -29,7 +29,7 @@ use Rattle.mv_core.specs.declared.book.Check.TheVariants.{Free, Hit, Stale}
 use Rattle.mv_core.specs.Rooms.{Filled}
 use Rattle.mv_script.specs.Scripts.{IsScript, work_of}
 use Rattle.mv_core.specs.Lives.{live_numbers}
-use Rattle.mv_core.specs.Calls.{IsLive, IsLiveCall, AreRounds, TellsCall, turns_in, last_number, due_number}
+use Rattle.mv_core.specs.Calls.{IsLive, IsLiveCall, AreRounds, TellsCall, due_number}
 
 -- A book
 

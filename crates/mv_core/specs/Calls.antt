@@ -1,25 +1,17 @@
 -- Defines what is kept of a call that has begun: its rounds with their numbers, and its reply. This project's own.
-use Rattle.std.specs.Prelude.{◌≡◌, ◌⊎◌, ◌≤◌, ℕ, false, List, [], ◌∷◌, ◌++◌, Option, Some, None, map, length, slice_get, option_to_list}
+use Rattle.std.specs.Prelude.{◌≡◌, ◌⊎◌, ℕ, false, List, [], ◌∷◌, ◌++◌, Option, Some, None, map, slice_get, option_to_list}
 use Rattle.std.specs.List.{flat_map}
 use Rattle.std.specs.Option.{is_some}
 use Rattle.mv_values.specs.declared.calls.Reply.{Reply}
-use Rattle.mv_journal.specs.declared.outcome.Mark.{Mark}
-use Rattle.mv_journal.specs.declared.outcome.Mark.TheVariants.{Plain, Exclusive, Moved}
+use Rattle.mv_journal.specs.declared.outcome.Mark.TheVariants.{Plain, Exclusive}
 use Rattle.mv_journal.specs.declared.outcome.Round.{Round}
 use Rattle.mv_journal.specs.declared.outcome.HistoryLine.{HistoryLine}
-use Rattle.mv_lawful.specs.Work.{Work, table_at}
-use Rattle.mv_lawful.specs.Lawful.{Turn, Live, Course, begin, again, finish}
-use Rattle.mv_lawful.specs.Rounds.{rounds_of}
+use Rattle.mv_lawful.specs.Work.{Work}
+use Rattle.mv_lawful.specs.Lawful.{Live, Course, begin, again, finish}
+use Rattle.mv_lawful.specs.Rounds.{turns_in, numbered, last_number, counted, uncounted, rounds_of}
 use Rattle.mv_lawful.specs.declared.places.Place.{Place}
-use Rattle.mv_lawful.specs.Outcomes.{commits_before, turns_of}
+use Rattle.mv_lawful.specs.Outcomes.{IsReply, turns_of}
 use Rattle.mv_core.specs.declared.progress.Progress.{Progress}
-
--- a round without its number
-abbrev pub turn_of : Round → Turn
-turn_of r = record { start = r.start; mark = r.mark }
-
-abbrev pub turns_in : List Round → List Turn
-turns_in rs = map turn_of rs
 
 -- what the law of journals sees of it
 abbrev pub live_of : Progress → Live
@@ -33,24 +25,7 @@ pub record IsLive (s : Course) (c : ℕ) (l : Live) : Type 0 where
 abbrev pub IsLiveCall : Course → ℕ → Type 0
 IsLiveCall s c = (l : Live) × IsLive s c l
 
--- each round began after at most so many commits
-abbrev pub WithinRounds : ℕ → List Turn → Type 0
-WithinRounds n [] = Unit {0}
-WithinRounds n (t ∷ ts) = (t.start ≤ n) × WithinRounds n ts
-
 -- Numbers
-
--- rounds, the last of which has this number
-abbrev pub numbered : Option ℕ → List Round → List Round
-numbered n [] = []
-numbered n (r ∷ []) = record r { count = n } ∷ []
-numbered n (r ∷ s ∷ rs) = r ∷ numbered n (s ∷ rs)
-
--- the number of the last round
-abbrev pub last_number : List Round → Option ℕ
-last_number [] = None
-last_number (r ∷ []) = r.count
-last_number (r ∷ s ∷ rs) = last_number (s ∷ rs)
 
 -- the number that Runs gives the last round of a call
 abbrev pub due_number : Work → Course → ℕ → Option ℕ
@@ -60,26 +35,7 @@ due_number w s c = last_number (rounds_of w s.order c (turns_of (slice_get s.cal
 abbrev pub AreRounds : List Round → List Round → Type 0
 AreRounds kept all = (kept ≡ all) ⊎ (kept ≡ numbered None all)
 
--- rounds before one with this mark: a move clears the number of the round before it
-abbrev pub closed : Mark → List Round → List Round
-closed Plain rs = rs
-closed Exclusive rs = rs
-closed Moved rs = numbered None rs
-
--- a round that begins after n commits, with its number
-abbrev pub counted : ℕ → Mark → ℕ → Round
-counted n mark k = record { start = n; count = Some k; mark = mark }
-
--- the same without its number
-abbrev pub uncounted : ℕ → Mark → Round
-uncounted n mark = record { start = n; count = None; mark = mark }
-
 -- Replies
-
--- the reply of a call of the order, alone after those before it; that of an answered call, alone after those up to its
--- start
-abbrev pub IsReply : Work → List ℕ → List ℕ → ℕ → ℕ → Reply → Type 0
-IsReply w order answered start c reply = (k : ℕ) × (commits_before order answered start c ≡ Some k) × (k ≤ length order) × (reply ≡ (w.run c (table_at w order k)).reply)
 
 -- Both
 

@@ -22,7 +22,7 @@ use Rattle.mv_lawful.specs.Work.{Work, table_at, records_at, hit_of}
 use Rattle.mv_lawful.specs.declared.fault.Fault.{Fault}
 use Rattle.mv_lawful.specs.declared.fault.Fault.TheVariants.{Stale, Conflict}
 use Rattle.mv_lawful.specs.Lawful.{Turn, Live, Course, used, has_step, refusal}
-use Rattle.mv_lawful.specs.Rounds.{rounds_of, repair_run}
+use Rattle.mv_lawful.specs.Rounds.{WithinRounds, last_turn, last_number, rounds_of, repair_run}
 use Rattle.mv_store.specs.Stored.{Versioned, database_at, own_writes}
 use Rattle.mv_store.specs.Changes.{HasStamped}
 use Rattle.mv_core.specs.declared.engine.Attempt.{Attempt}
@@ -30,7 +30,7 @@ use Rattle.mv_core.specs.declared.engine.Attempt.TheVariants as attempt
 use Rattle.mv_script.specs.declared.script.Script.{Script}
 use Rattle.mv_script.specs.Scripts.{IsCallOf, IsScript, work_of}
 use Rattle.mv_core.specs.declared.tasks.Running.{Running}
-use Rattle.mv_core.specs.Calls.{IsLive, IsLiveCall, WithinRounds, last_number, due_number}
+use Rattle.mv_core.specs.Calls.{IsLive, IsLiveCall, due_number}
 pub use Rattle.mv_core.specs.Books.{IsStaleAt, HasRefused, HasAnswered}
 use Rattle.mv_core.specs.Books.{Booked, work_in, Made, IsSame, IsSettled, HaveNumbers, AreRecordsOf, IsReader, IsNoReader}
 
@@ -96,18 +96,12 @@ pub record CountsAll (old new : Task) : Type 0 where
   pub executed : new.executed + length old.log.records ≡ old.executed + length new.log.records
   pub more : length old.log.records ≤ length new.log.records
 
--- the start of the last round
-abbrev pub last_start : List Turn → ℕ
-last_start [] = 0
-last_start (t ∷ []) = t.start
-last_start (t ∷ u ∷ us) = last_start (u ∷ us)
-
 -- a call has rounds, each of which began after at most n commits; the last of them has the call's start
 pub record HasTurns (n : ℕ) (l : Live) : Type 0 where
   pub first : Turn
   pub rest : List Turn
   pub turns : l.turns ≡ first ∷ rest
-  pub last : last_start l.turns ≡ l.start
+  pub last : last_turn l.turns ≡ l.start
   pub within : WithinRounds n l.turns
   pub past : l.start ≤ n
 

@@ -2,7 +2,8 @@
 
 ghost use Rattle.std.specs.Prelude.{◌≡◌, ◌<◌, ◌≤◌, ◌+◌, ◌++◌, ◌∷◌, [], None, Some, IfOk, IfSome, IfNone, OnOk, slice_get};
 ghost use Rattle.mv_lawful.specs.Lawful.{finish};
-ghost use Rattle.mv_core.specs.Calls.{live_of, numbered, closed, uncounted, committed, with_own, replies_in, IsFresh};
+ghost use Rattle.mv_lawful.specs.Rounds.{numbered, closed, uncounted};
+ghost use Rattle.mv_core.specs.Calls.{live_of, committed, with_own, replies_in, IsFresh};
 
 use crate::roomy::Roomy;
 use mv_journal::outcome::{Mark, Round};

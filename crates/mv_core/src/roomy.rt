@@ -1,7 +1,7 @@
 //! A list with reserved room.
 
 ghost use Rattle.std.specs.Prelude.{◌≡◌, ◌++◌, ◌∷◌, ◌+◌, ◌<◌, ◌≤◌, ◌^◌, [], length, OnOk};
-ghost use Rattle.mv_core.specs.Calls.{numbered, last_number};
+ghost use Rattle.mv_lawful.specs.Rounds.{numbered, last_number};
 
 use mv_journal::outcome::Round;
 use mv_values::memory::NoMemory;

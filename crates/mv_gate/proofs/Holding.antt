@@ -10,7 +10,7 @@ use Rattle.mv_changes.specs.declared.recent.Committed.{Committed}
 use Rattle.mv_changes.specs.Commits.{changes_in}
 use Rattle.mv_lawful.specs.Work.{Work, table_at, records_at, since}
 use Rattle.mv_lawful.specs.Lawful.{Live, Course, is_stale}
-use Rattle.mv_lawful.specs.Rounds.{whole_run}
+use Rattle.mv_lawful.specs.Rounds.{whole_run, turns_in}
 use Rattle.mv_seats.specs.Scripts.{Script as BoardScript}
 use Rattle.mv_script.specs.declared.script.Script.{Script}
 use Rattle.mv_script.specs.Scripts.{IsScript, work_of}
@@ -18,7 +18,7 @@ use Rattle.mv_script.proofs.Databases.{tables_rise}
 use Rattle.mv_shards.specs.Scripts.{script_in, work}
 use Rattle.mv_shards.specs.Reads.{Started}
 use Rattle.mv_shards.specs.Ledgers.{Entered}
-use Rattle.mv_core.specs.Calls.{IsLive, IsLiveCall, turns_in, due_number}
+use Rattle.mv_core.specs.Calls.{IsLive, IsLiveCall, due_number}
 use Rattle.mv_core.specs.Books.{Booked, work_in, HasRounds, IsSame, IsNotStale, AreRecordsOf}
 use Rattle.mv_core.specs.Cores.{RunsOn, HasTurns, count_or}
 use Rattle.mv_core.proofs.Taking.{one_live, due_live}

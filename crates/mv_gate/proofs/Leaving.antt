@@ -5,13 +5,13 @@ use Rattle.std.specs.Option.{is_some}
 use mathlib.Core.List.{IsPrefix}
 use Rattle.mv_journal.specs.declared.outcome.Round.{Round}
 use Rattle.mv_lawful.specs.Lawful.{Live}
-use Rattle.mv_lawful.specs.Rounds.{IsPast}
+use Rattle.mv_lawful.specs.Rounds.{IsPast, turns_in, last_number}
 use Rattle.mv_seats.specs.Scripts.{Script as BoardScript}
 use Rattle.mv_script.specs.declared.script.Script.{Script}
 use Rattle.mv_script.specs.Scripts.{work_of}
 use Rattle.mv_shards.specs.Scripts.{script_in}
 use Rattle.mv_shards.specs.Ledgers.{Entered, AreLastChanges}
-use Rattle.mv_core.specs.Calls.{IsLive, IsLiveCall, turns_in, last_number}
+use Rattle.mv_core.specs.Calls.{IsLive, IsLiveCall}
 use Rattle.mv_core.specs.Books.{Booked, HasRounds}
 use Rattle.mv_core.proofs.Taking.{one_live}
 use Rattle.mv_gate.specs.Gates.{HaveTurns, IsDesk, Waiting, IsLate, Holding, IsPastIn, MayMove, StartsAt, IsSettledOrWhole, repaired_from}

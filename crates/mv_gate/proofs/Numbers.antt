@@ -10,9 +10,8 @@ use Rattle.mv_journal.specs.declared.outcome.Mark.TheVariants.{Plain, Exclusive,
 use Rattle.mv_journal.specs.declared.outcome.Round.{Round}
 use Rattle.mv_lawful.specs.Work.{Work}
 use Rattle.mv_lawful.specs.Lawful.{Turn, Live, used}
-use Rattle.mv_lawful.specs.Rounds.{later_run, later_rounds, rounds_of}
-use Rattle.mv_core.specs.Calls.{turns_in, last_number}
-use Rattle.mv_core.specs.Cores.{last_start, HasTurns}
+use Rattle.mv_lawful.specs.Rounds.{later_run, later_rounds, rounds_of, turns_in, last_number, last_turn}
+use Rattle.mv_core.specs.Cores.{HasTurns}
 use Rattle.mv_gate.specs.Gates.{repaired_by, repaired_from}
 use Rattle.mv_gate.proofs.Prefixes.{number_by}
 
@@ -24,11 +23,11 @@ number_of w order c old start Exclusive = refl
 number_of w order c old start Moved = refl
 
 later_number : (w : Work) (order : List ℕ) (c : ℕ) (t u : Turn) (us : List Turn)
-    → last_number (later_rounds w order c t.start (u ∷ us)) ≡ Some (number_by w order c (repaired_from (t ∷ u ∷ us)) (last_start (u ∷ us)))
+    → last_number (later_rounds w order c t.start (u ∷ us)) ≡ Some (number_by w order c (repaired_from (t ∷ u ∷ us)) (last_turn (u ∷ us)))
 later_number w order c t u [] = ap Some (number_of w order c t.start u.start u.mark)
 later_number w order c t u (v ∷ vs) = later_number w order c u v vs
 
-first_number : (w : Work) (order : List ℕ) (c : ℕ) (t : Turn) (ts : List Turn) → last_number (rounds_of w order c (t ∷ ts)) ≡ Some (number_by w order c (repaired_from (t ∷ ts)) (last_start (t ∷ ts)))
+first_number : (w : Work) (order : List ℕ) (c : ℕ) (t : Turn) (ts : List Turn) → last_number (rounds_of w order c (t ∷ ts)) ≡ Some (number_by w order c (repaired_from (t ∷ ts)) (last_turn (t ∷ ts)))
 first_number w order c t [] = refl
 first_number w order c t (u ∷ us) = later_number w order c t u us
 
@@ -36,7 +35,7 @@ pub number_came : (w : Work) (order : List ℕ) (c n : ℕ) (l : Live) → HasTu
 number_came w order c n l h =
     ap (λ ts. last_number (rounds_of w order c ts)) h.turns
     ∙ (first_number w order c h.first h.rest
-    ∙ (ap (λ ts. Some (number_by w order c (repaired_from ts) (last_start ts))) (sym h.turns) ∙ ap (λ k. Some (number_by w order c (repaired_from l.turns) k)) h.last))
+    ∙ (ap (λ ts. Some (number_by w order c (repaired_from ts) (last_turn ts))) (sym h.turns) ∙ ap (λ k. Some (number_by w order c (repaired_from l.turns) k)) h.last))
 
 -- a call in its first round wasn't repaired
 pub only_first : (n : ℕ) (l : Live) → HasTurns n l → used l ≡ 0 → repaired_from l.turns ≡ None
@@ -90,17 +89,6 @@ starts_apart (Some x) (Some y) h e =
     let one : x ≡ y = search (rules, e) in
     let no : false ≡ true = sym (ap not (number_same x y one)) ∙ h in
     search (rules, no)
-
--- the last round's number, if it has one
-number_at : (rs : List Round) (k : ℕ) (d : Round) → length rs ≡ suc k → last_number rs ≡ (slice_index_or rs k d).count
-number_at [] k d h = absurd (omega (arith, h))
-number_at (r ∷ []) zero d h = refl
-number_at (r ∷ []) (suc k) d h = absurd (omega (arith, h))
-number_at (r ∷ s ∷ rs) zero d h = absurd (omega (arith, h))
-number_at (r ∷ s ∷ rs) (suc k) d h = number_at (s ∷ rs) k d (omega (arith, h))
-
-pub number_last : (rs : List Round) (d : Round) → 0 < length rs → last_number rs ≡ (slice_index_or rs (length rs - 1) d).count
-number_last rs d h = number_at rs (length rs - 1) d (omega (arith, h))
 
 pub starts_eq : (a b : Option ℕ) → option_eq eqb a b ≡ true → a ≡ b
 starts_eq None None h = refl

@@ -5,7 +5,7 @@ use mathlib.Core.List.{IsPrefix}
 use Rattle.mv_lawful.specs.Work.{Work, tables_after, table_at}
 use Rattle.mv_lawful.specs.Rounds.{whole_run, repair_run}
 use Rattle.mv_core.specs.Cores.{count_or}
-use Rattle.mv_core.proofs.Numbers.{repair_stays}
+use Rattle.mv_lawful.proofs.Numbers.{repair_stays}
 
 -- the number of a round: of a whole run that of all its records, of a repair from a start that of those that aren't kept
 abbrev pub number_by : Work → List ℕ → ℕ → Option ℕ → ℕ → ℕ

@@ -6,8 +6,8 @@ use Rattle.mv_journal.specs.declared.event.Event.TheVariants.{B, S, A, M, C, X, 
 use Rattle.mv_journal.specs.declared.outcome.Mark.TheVariants.{Plain, Exclusive, Moved}
 use Rattle.mv_lawful.specs.Work.{Work}
 use Rattle.mv_lawful.specs.Lawful.{Live, Course, begin, again, finish, change_live, after}
-use Rattle.mv_core.specs.Calls.{WithinRounds}
-use Rattle.mv_core.specs.Cores.{HasTurns, last_start}
+use Rattle.mv_lawful.specs.Rounds.{WithinRounds, last_turn}
+use Rattle.mv_core.specs.Cores.{HasTurns}
 use Rattle.mv_core.proofs.Taking.{turns_again, turns_begin, turns_grown}
 use Rattle.mv_core.proofs.Journals.{get_last, get_set}
 use Rattle.mv_gate.specs.Gates.{HaveTurns}
@@ -17,7 +17,7 @@ turns_same n l m ts start h = record {
   first = h.first;
   rest = h.rest;
   turns = ts ∙ h.turns;
-  last = ap last_start ts ∙ (h.last ∙ sym start);
+  last = ap last_turn ts ∙ (h.last ∙ sym start);
   within = subst (WithinRounds n) (sym ts) h.within;
   past = let a = h.past in omega (arith, a, start);
 }

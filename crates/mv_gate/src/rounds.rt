@@ -2,7 +2,7 @@
 
 ghost use Rattle.std.specs.Prelude.{◌≡◌, ◌<◌, length};
 ghost use Rattle.std.specs.Option.{is_some};
-ghost use Rattle.mv_core.specs.Calls.{turns_in, last_number};
+ghost use Rattle.mv_lawful.specs.Rounds.{turns_in, last_number};
 ghost use Rattle.mv_gate.specs.Gates.{repaired_by, repaired_from};
 
 use mv_journal::outcome::{Mark, Round};

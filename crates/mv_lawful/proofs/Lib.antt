@@ -1,5 +1,6 @@
 pub mod Collections
 pub mod Lows
+pub mod Numbers
 pub mod Placing
 pub mod Repairs
 pub mod Rounds

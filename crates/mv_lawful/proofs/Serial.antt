@@ -14,8 +14,10 @@ use Rattle.mv_lawful.specs.declared.fault.Fault.{Fault}
 use Rattle.mv_lawful.specs.declared.fault.Fault.TheVariants.{Order, Kind, Stale}
 use Rattle.mv_lawful.specs.declared.fault.Wrong.TheVariants.{Open}
 use Rattle.mv_lawful.specs.Work.{Work}
-use Rattle.mv_lawful.specs.Lawful.{Turn, Live, Course, beginning, change_live, begin, again, finish, is_stale, unless, of_live, refusal, after, reach, course_of, first_open, open_call, wrong_from, Lawful}
+use Rattle.mv_lawful.specs.Lawful.{Turn, Live, Course, beginning, change_live, begin, again, finish, is_stale, unless, of_live, refusal, after, reach, first_open, open_call, wrong_from, Lawful}
 use Rattle.mv_lawful.specs.Laws.{first_start, IsOfCalls}
+use Rattle.mv_lawful.specs.Rounds.{WithinRounds, last_turn}
+use Rattle.mv_lawful.proofs.Numbers.{within_more, within_end, last_end}
 use Rattle.mv_lawful.proofs.Repairs.{first_allowed}
 
 -- Numbers in a list
@@ -134,37 +136,13 @@ live_at ls c f h = by (slice_get ls c) refl h
 
 -- What events keep
 
--- each round starts after at most this many commits
-abbrev pub StartBy : ℕ → List Turn → Type 0
-StartBy n [] = Unit {0}
-StartBy n (t ∷ ts) = (t.start ≤ n) × StartBy n ts
-
--- the start of the last round
-abbrev pub last_turn : List Turn → ℕ
-last_turn [] = 0
-last_turn (t ∷ []) = t.start
-last_turn (t ∷ u ∷ us) = last_turn (u ∷ us)
-
-last_again : (ts : List Turn) (t : Turn) → last_turn (ts ++ t ∷ []) ≡ t.start
-last_again [] t = refl
-last_again (u ∷ []) t = refl
-last_again (u ∷ v ∷ us) t = last_again (v ∷ us) t
-
-pub start_later : (n m : ℕ) (ts : List Turn) → n ≤ m → StartBy n ts → StartBy m ts
-start_later n m [] le h = tt
-start_later n m (t ∷ ts) le h = (let first = h.0 in omega (arith, first, le), start_later n m ts le h.1)
-
-start_again : (n : ℕ) (mark : Mark) (ts : List Turn) → StartBy n ts → StartBy n (ts ++ record { start = n; mark = mark } ∷ [])
-start_again n mark [] h = (omega arith, tt)
-start_again n mark (t ∷ ts) h = (h.0, start_again n mark ts h.1)
-
-pub first_by : (n : ℕ) (ts : List Turn) → StartBy n ts → first_start ts ≤ n
+pub first_by : (n : ℕ) (ts : List Turn) → WithinRounds n ts → first_start ts ≤ n
 first_by n [] h = omega arith
 first_by n (t ∷ ts) h = h.0
 
 -- no round of a call starts after its last one, whose start is the call's and is at most this number
 pub record StartsIn (n : ℕ) (l : Live) : Type 0 where
-  pub by : StartBy l.start l.turns
+  pub by : WithinRounds l.start l.turns
   pub last : last_turn l.turns ≡ l.start
   pub past : l.start ≤ n
 
@@ -173,8 +151,8 @@ starts_later n m l le h = record { by = h.by; last = h.last; past = (let p = h.p
 
 starts_again : (n : ℕ) (mark : Mark) (l : Live) → StartsIn n l → StartsIn n (again n mark l)
 starts_again n mark l h = record {
-  by = start_again n mark l.turns (start_later l.start n l.turns h.past h.by);
-  last = last_again l.turns (record { start = n; mark = mark });
+  by = within_end n l.turns (record { start = n; mark = mark }) (within_more l.start n l.turns h.past h.by) (omega arith);
+  last = last_end l.turns (record { start = n; mark = mark });
   past = omega arith;
 }
 
@@ -186,7 +164,7 @@ pub record Orderly (w : Work) (order answered : List ℕ) (calls : List Live) : 
   pub done : (c : ℕ) (l : Live) → slice_get calls c ≡ Some l → l.done ≡ (stands c answered || stands c order)
   pub within : (c : ℕ) → length calls ≤ c → (stands c answered || stands c order) ≡ false
   pub starts : (c : ℕ) (l : Live) → slice_get calls c ≡ Some l → StartsIn (length order) l
-  pub after_begin : (k c : ℕ) (l : Live) → slice_get order k ≡ Some c → slice_get calls c ≡ Some l → StartBy k l.turns
+  pub after_begin : (k c : ℕ) (l : Live) → slice_get order k ≡ Some c → slice_get calls c ≡ Some l → WithinRounds k l.turns
   pub readers : (c : ℕ) → stands c answered ≡ true → w.read_only c ≡ true
 
 -- neither of them
@@ -228,7 +206,7 @@ changed w order answered calls c l m o is live still low = record {
     starts_by d x (inl h) = subst (λ (y : Live). StartsIn (length order) y) h.1 low
     starts_by d x (inr h) = o.starts d x h.1
 
-    begin_by : (k d : ℕ) (x : Live) → slice_get order k ≡ Some d → ((d ≡ c) × (m ≡ x)) ⊎ ((d ≡ c → ⊥) × (slice_get calls d ≡ Some x)) → StartBy k x.turns
+    begin_by : (k d : ℕ) (x : Live) → slice_get order k ≡ Some d → ((d ≡ c) × (m ≡ x)) ⊎ ((d ≡ c → ⊥) × (slice_get calls d ≡ Some x)) → WithinRounds k x.turns
     begin_by k d x at (inl h) = absurd (both_ways (stands c order) (none_right (stands c answered) (stands c order) away) (stands_at order k c (at ∙ ap Some h.0)))
     begin_by k d x at (inr h) = o.after_begin k d x at h.1
 
@@ -279,10 +257,10 @@ committed w order answered calls c l m o is live finished low = record {
     starts_by d x (inl h) = subst (λ (y : Live). StartsIn (length order) y) h.1 low
     starts_by d x (inr h) = o.starts d x h.1
 
-    begin_by : (k d : ℕ) (x : Live) → (slice_get order k ≡ Some d) ⊎ ((k ≡ length order) × (c ≡ d)) → ((d ≡ c) × (m ≡ x)) ⊎ ((d ≡ c → ⊥) × (slice_get calls d ≡ Some x)) → StartBy k x.turns
+    begin_by : (k d : ℕ) (x : Live) → (slice_get order k ≡ Some d) ⊎ ((k ≡ length order) × (c ≡ d)) → ((d ≡ c) × (m ≡ x)) ⊎ ((d ≡ c → ⊥) × (slice_get calls d ≡ Some x)) → WithinRounds k x.turns
     begin_by k d x (inl at) (inl h) = absurd (both_ways (stands c order) away (stands_at order k c (at ∙ ap Some h.0)))
     begin_by k d x (inl at) (inr h) = o.after_begin k d x at h.1
-    begin_by k d x (inr at) (inl h) = subst (λ n. StartBy n x.turns) (sym at.0) (subst (λ (y : Live). StartBy (length order) y.turns) h.1 (start_later m.start (length order) m.turns low.past low.by))
+    begin_by k d x (inr at) (inl h) = subst (λ n. WithinRounds n x.turns) (sym at.0) (subst (λ (y : Live). WithinRounds (length order) y.turns) h.1 (within_more m.start (length order) m.turns low.past low.by))
     begin_by k d x (inr at) (inr h) = absurd (h.0 (sym at.1))
 
 -- one live call is answered
@@ -336,7 +314,7 @@ replied w order answered calls c l m o is live finished low reads = record {
     starts_by d x (inl h) = subst (λ (y : Live). StartsIn (length order) y) h.1 low
     starts_by d x (inr h) = o.starts d x h.1
 
-    begin_by : (k d : ℕ) (x : Live) → slice_get order k ≡ Some d → ((d ≡ c) × (m ≡ x)) ⊎ ((d ≡ c → ⊥) × (slice_get calls d ≡ Some x)) → StartBy k x.turns
+    begin_by : (k d : ℕ) (x : Live) → slice_get order k ≡ Some d → ((d ≡ c) × (m ≡ x)) ⊎ ((d ≡ c → ⊥) × (slice_get calls d ≡ Some x)) → WithinRounds k x.turns
     begin_by k d x at (inl h) = absurd (both_ways (stands c order) uncommitted (stands_at order k c (at ∙ ap Some h.0)))
     begin_by k d x at (inr h) = o.after_begin k d x at h.1
 
@@ -368,7 +346,7 @@ begun w order answered calls o room = record {
     starts_by d x (inl h) = o.starts d x h
     starts_by d x (inr h) = subst (λ (y : Live). StartsIn (length order) y) h.1 (record { by = (omega arith, tt); last = refl; past = omega arith })
 
-    begin_by : (k d : ℕ) (x : Live) → slice_get order k ≡ Some d → (slice_get calls d ≡ Some x) ⊎ ((d ≡ length calls) × (begin (length order) ≡ x)) → StartBy k x.turns
+    begin_by : (k d : ℕ) (x : Live) → slice_get order k ≡ Some d → (slice_get calls d ≡ Some x) ⊎ ((d ≡ length calls) × (begin (length order) ≡ x)) → WithinRounds k x.turns
     begin_by k d x at (inl h) = o.after_begin k d x at h
     begin_by k d x at (inr h) = absurd (both_ways (stands d order) (none_right (stands d answered) (stands d order) (next_away d h.0)) (stands_at order k d at))
 

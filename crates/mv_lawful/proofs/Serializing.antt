@@ -6,7 +6,7 @@ use Rattle.std.specs.Option.{is_some, option_map}
 use Rattle.std.proofs.lemmas.Bool.{eqb-true, both_ways, eq-eqb, cases_lt}
 use Rattle.std.proofs.lemmas.List.{length-map}
 use Rattle.std.proofs.lemmas.List.Elements.{All-nil, All-cons}
-use Rattle.std.proofs.lemmas.Option.{same_Some, slice_get-map, slice_get_within, get_or_from_slice_get}
+use Rattle.std.proofs.lemmas.Option.{same_Some, slice_get-map, slice_get_within}
 use Rattle.mv_values.specs.Counts.{first_numbers}
 use Rattle.mv_journal.specs.declared.event.Event.{Event}
 use Rattle.mv_journal.specs.declared.event.Event.TheVariants.{B, S, A, M, C, X, R, G}
@@ -20,13 +20,14 @@ use Rattle.mv_values.specs.Tables.{Tables}
 use Rattle.mv_lawful.specs.Work.{Work, tables_after, table_at}
 use Rattle.mv_lawful.specs.Lawful.{Turn, Live, Course, beginning, change_live, begin, again, finish, is_stale, unless, of_live, refusal, after, reach, course_of, wrong_from, AllAllowed}
 use Rattle.mv_lawful.specs.Places.{Place, start_in, places, calls_at, standing}
-use Rattle.mv_lawful.specs.Rounds.{unless_moved, whole_run, later_run, later_rounds, rounds_of, round, last_start}
+use Rattle.mv_lawful.specs.Rounds.{WithinRounds, last_turn, last_turn_or, unless_moved, whole_run, later_run, later_rounds, rounds_of, round, last_start}
 use Rattle.mv_lawful.specs.Outcomes.{commits_before, reply_in, reply_after, turns_of, history_line}
 use Rattle.mv_lawful.specs.Laws.{IsSerial}
 use Rattle.mv_lawful.specs.Serializable.{begins_in, commits_in, ends_in, order_of, commits_of, commits_to, IsPlaced, start_of, LawfulIsSerializable}
-use Rattle.mv_lawful.proofs.Placing.{is_commit, commits_to_place, StandsBy, place_at, commits_are, readers, tables_standing, all_commits, IsPlaceOf, place_of, ended_at, standing_below, start_at, serial_of}
+use Rattle.mv_lawful.proofs.Numbers.{last_is_or}
+use Rattle.mv_lawful.proofs.Placing.{is_commit, commits_to_place, StandsBy, place_at, commits_are, readers, tables_standing, all_commits, place_of, ended_at, standing_below, start_at, serial_of}
 use Rattle.mv_lawful.proofs.Repairs.{first_allowed}
-use Rattle.mv_lawful.proofs.Serial.{stands, stands_same, stands_at, contains_it, Once, StartBy, last_turn, OrderlyAt, Ended, orderly_after, ended_from, all_done, at_beginning, next_below}
+use Rattle.mv_lawful.proofs.Serial.{stands, stands_same, stands_at, contains_it, Once, OrderlyAt, Ended, orderly_after, ended_from, all_done, at_beginning, next_below}
 use Rattle.mv_lawful.proofs.Turns.{length_numbers, at_end}
 
 -- The place of a call
@@ -380,32 +381,23 @@ begun_by_events w before later c free ended = record {
 
 -- Starts
 
-starts_by : (w : Work) (order : List ℕ) (c old k : ℕ) (ts : List Turn) → StartBy k ts → All (λ (r : Round). r.start ≤ k) (later_rounds w order c old ts)
+starts_by : (w : Work) (order : List ℕ) (c old k : ℕ) (ts : List Turn) → WithinRounds k ts → All (λ (r : Round). r.start ≤ k) (later_rounds w order c old ts)
 starts_by w order c old k [] h = All-nil (λ (r : Round). r.start ≤ k)
 starts_by w order c old k (t ∷ ts) h =
     All-cons (λ (r : Round). r.start ≤ k) (round t (unless_moved (later_run w order c old t.start t.mark) ts)) (later_rounds w order c t.start ts) h.0 (starts_by w order c t.start k ts h.1)
 
-all_by : (w : Work) (order : List ℕ) (c k : ℕ) (ts : List Turn) → StartBy k ts → All (λ (r : Round). r.start ≤ k) (rounds_of w order c ts)
+all_by : (w : Work) (order : List ℕ) (c k : ℕ) (ts : List Turn) → WithinRounds k ts → All (λ (r : Round). r.start ≤ k) (rounds_of w order c ts)
 all_by w order c k [] h = All-nil (λ (r : Round). r.start ≤ k)
 all_by w order c k (t ∷ ts) h = All-cons (λ (r : Round). r.start ≤ k) (round t (unless_moved (whole_run w order c t.start) ts)) (later_rounds w order c t.start ts) h.0 (starts_by w order c t.start k ts h.1)
 
--- the start of the last of these turns, or this one
-abbrev last_of : ℕ → List Turn → ℕ
-last_of old [] = old
-last_of old (t ∷ ts) = last_of t.start ts
-
 -- the last start of rounds is that of the turns
-last_later : (w : Work) (order : List ℕ) (c old : ℕ) (r : Round) (ts : List Turn) → r.start ≡ old → last_start (r ∷ later_rounds w order c old ts) ≡ last_of old ts
+last_later : (w : Work) (order : List ℕ) (c old : ℕ) (r : Round) (ts : List Turn) → r.start ≡ old → last_start (r ∷ later_rounds w order c old ts) ≡ last_turn_or old ts
 last_later w order c old r [] is = is
 last_later w order c old r (t ∷ ts) is = last_later w order c t.start (round t (unless_moved (later_run w order c old t.start t.mark) ts)) ts refl
 
 last_is : (w : Work) (order : List ℕ) (c : ℕ) (ts : List Turn) → last_start (rounds_of w order c ts) ≡ last_turn ts
 last_is w order c [] = refl
-last_is w order c (t ∷ ts) = last_later w order c t.start (round t (unless_moved (whole_run w order c t.start) ts)) ts refl ∙ by t ts
-  where
-    by : (t : Turn) (ts : List Turn) → last_of t.start ts ≡ last_turn (t ∷ ts)
-    by t [] = refl
-    by t (u ∷ us) = by u us
+last_is w order c (t ∷ ts) = last_later w order c t.start (round t (unless_moved (whole_run w order c t.start) ts)) ts refl ∙ sym (last_is_or t ts)
 
 -- the rounds of a call that has begun
 rounds_at : (w : Work) (s : Course) (c : ℕ) (l : Live) → slice_get s.calls c ≡ Some l → rounds_in w s c ≡ rounds_of w s.order c l.turns
@@ -496,7 +488,7 @@ record IsFound (w : Work) (s : Course) (k : ℕ) (line : HistoryLine) : Type 0 w
 
 -- by the number of its commit
 found_by : (w : Work) (s : Course) (j : ℕ) (o : Option ℕ) (c : ℕ) (l : Live) → OrderlyAt w s → slice_get s.calls c ≡ Some l → StandsBy s 0 s.order j o c
-    → IsPlaced j o (rounds_of w s.order c l.turns) × StartBy j l.turns × (stands c s.answered ≡ true → j ≡ start_in s.calls c)
+    → IsPlaced j o (rounds_of w s.order c l.turns) × WithinRounds j l.turns × (stands c s.answered ≡ true → j ≡ start_in s.calls c)
 found_by w s j (Some number) c l o is h = (
   (let e = h.0 in omega (arith, e)),
   o.after_begin j c l h.1 is,
@@ -508,7 +500,7 @@ found_by w s j None c l o is h =
     let there = h.1 in
     let start : l.start ≡ j = omega (arith, own, there) in (
       last_is w s.order c l.turns ∙ (t.last ∙ start),
-      subst (λ n. StartBy n l.turns) start t.by,
+      subst (λ n. WithinRounds n l.turns) start t.by,
       (λ answered. omega (arith, there)),
     )
 

@@ -1,5 +1,5 @@
 -- The outcome of a journal: replies, calls in their order with their rounds, events and last tables. This project's own.
-use Rattle.std.specs.Prelude.{◌≡◌, ℕ, ◌==◌, Bool, true, false, if◌then◌else◌, List, [], ◌∷◌, Option, Some, None, map, length, slice_get}
+use Rattle.std.specs.Prelude.{◌≡◌, ◌≤◌, ℕ, ◌==◌, Bool, true, false, if◌then◌else◌, List, [], ◌∷◌, Option, Some, None, map, length, slice_get}
 use Rattle.std.specs.List.{filter, list_any, position, flat_map}
 use Rattle.mv_values.specs.declared.calls.Reply.{Reply}
 use Rattle.mv_values.specs.Counts.{first_numbers}
@@ -24,6 +24,11 @@ commits_before order answered start c = if list_any (λ d. d == c) answered then
 -- Reply: the reply of a call alone after these commits
 abbrev pub reply_in : Work → Course → ℕ → Reply
 reply_in w s c = reply_after w s.order c (commits_before s.order s.answered (start_in s.calls c) c)
+
+-- the reply of a call of the order, alone after those before it; that of an answered call, alone after those up to its
+-- start
+abbrev pub IsReply : Work → List ℕ → List ℕ → ℕ → ℕ → Reply → Type 0
+IsReply w order answered start c reply = (k : ℕ) × (commits_before order answered start c ≡ Some k) × (k ≤ length order) × (reply ≡ (w.run c (table_at w order k)).reply)
 
 abbrev pub turns_of : Option Live → List Turn
 turns_of None = []

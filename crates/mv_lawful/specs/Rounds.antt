@@ -1,5 +1,5 @@
--- The number of records that each round of a call executes, and the bounds on its rounds. This project's own.
-use Rattle.std.specs.Prelude.{◌≤◌, ◌<◌, ℕ, ◌+◌, ◌==◌, Bool, false, List, [], ◌∷◌, Option, Some, None, length, slice_get}
+-- The rounds of a call, the number of records that each executes, and the bounds on them. This project's own.
+use Rattle.std.specs.Prelude.{◌≤◌, ◌<◌, ℕ, ◌+◌, ◌==◌, Bool, false, List, [], ◌∷◌, Option, Some, None, map, length, slice_get}
 use Rattle.std.specs.List.{filter}
 use Rattle.std.specs.Option.{ForSome}
 use Rattle.mv_journal.specs.declared.event.Event.{Event}
@@ -10,6 +10,59 @@ use Rattle.mv_journal.specs.declared.outcome.Round.{Round}
 use Rattle.mv_history.specs.Kept.{executions}
 use Rattle.mv_lawful.specs.Work.{Work, records_at, changes_up_to}
 use Rattle.mv_lawful.specs.Lawful.{Turn, Course, after, beginning}
+
+-- Rounds
+
+-- a round without its number
+abbrev pub turn_of : Round → Turn
+turn_of r = record { start = r.start; mark = r.mark }
+
+abbrev pub turns_in : List Round → List Turn
+turns_in rs = map turn_of rs
+
+-- each round began after at most so many commits
+abbrev pub WithinRounds : ℕ → List Turn → Type 0
+WithinRounds n [] = Unit {0}
+WithinRounds n (t ∷ ts) = (t.start ≤ n) × WithinRounds n ts
+
+-- the start of the last round
+abbrev pub last_turn : List Turn → ℕ
+last_turn [] = 0
+last_turn (t ∷ []) = t.start
+last_turn (t ∷ u ∷ us) = last_turn (u ∷ us)
+
+-- the start of the last round, or this one
+abbrev pub last_turn_or : ℕ → List Turn → ℕ
+last_turn_or old [] = old
+last_turn_or old (t ∷ ts) = last_turn_or t.start ts
+
+-- Numbers
+
+-- rounds, the last of which has this number
+abbrev pub numbered : Option ℕ → List Round → List Round
+numbered n [] = []
+numbered n (r ∷ []) = record r { count = n } ∷ []
+numbered n (r ∷ s ∷ rs) = r ∷ numbered n (s ∷ rs)
+
+-- the number of the last round
+abbrev pub last_number : List Round → Option ℕ
+last_number [] = None
+last_number (r ∷ []) = r.count
+last_number (r ∷ s ∷ rs) = last_number (s ∷ rs)
+
+-- rounds before one with this mark: a move clears the number of the round before it
+abbrev pub closed : Mark → List Round → List Round
+closed Plain rs = rs
+closed Exclusive rs = rs
+closed Moved rs = numbered None rs
+
+-- a round that begins after n commits, with its number
+abbrev pub counted : ℕ → Mark → ℕ → Round
+counted n mark k = record { start = n; count = Some k; mark = mark }
+
+-- the same without its number
+abbrev pub uncounted : ℕ → Mark → Round
+uncounted n mark = record { start = n; count = None; mark = mark }
 
 -- Runs
 

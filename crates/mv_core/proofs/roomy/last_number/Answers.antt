@@ -1,6 +1,6 @@
 use Rattle.std.proofs.Common.{None}
 use Rattle.mv_journal.specs.declared.outcome.Mark.TheVariants.{Plain}
-use Rattle.mv_core.proofs.Numbers.{last_is}
+use Rattle.mv_lawful.proofs.Numbers.{last_is}
 use Rattle.mv_core.proofs.roomy.last_number.Goals as goal
 
 pub returns-in-len1-up : goal.returns-in-len1-up

@@ -5,7 +5,7 @@ use Rattle.mv_journal.specs.declared.event.Event.TheVariants.{R}
 use Rattle.mv_lawful.specs.Lawful.{Live, refusal}
 use Rattle.mv_lawful.specs.Work.{table_at}
 use Rattle.mv_core.specs.Lives.{live_numbers, without}
-use Rattle.mv_core.specs.Calls.{IsLive, live_of, last_number}
+use Rattle.mv_core.specs.Calls.{IsLive, live_of}
 use Rattle.mv_core.specs.Books.{Booked, work_in}
 use Rattle.mv_script.specs.Scripts.{work_of}
 use Rattle.mv_core.proofs.Keeping.{live_leaves, the_course, here_at, IsProgressAt, within, settled_here, rounds_answered, kept_answer, made_answered, still_settled, free_on, room_left}

@@ -3,9 +3,9 @@ use Rattle.std.specs.Prelude.{IsSome}
 use Rattle.std.specs.Option.{option_copied}
 use Rattle.mv_journal.specs.declared.outcome.Round.{Round}
 use Rattle.mv_lawful.specs.Lawful.{Live}
-use Rattle.mv_lawful.specs.Rounds.{rounds_of}
+use Rattle.mv_lawful.specs.Rounds.{rounds_of, turns_in, last_number}
 use Rattle.mv_core.specs.Lives.{live_numbers, without}
-use Rattle.mv_core.specs.Calls.{IsLive, live_of, turns_in, last_number, committed, with_own}
+use Rattle.mv_core.specs.Calls.{IsLive, live_of, committed, with_own}
 use Rattle.mv_core.specs.Books.{Booked, last_run, last_changes, commit_event, own_number, IsAlone, IsOwnNumber}
 use Rattle.mv_script.specs.Scripts.{work_of}
 use Rattle.mv_core.proofs.Keeping.{live_leaves, the_course, here_at, IsProgressAt, few_inside, within, commit_live, number_fits, room_here, settled_here, rounds_committed, kept_commit, commit_after, made_committed, own_known, still_settled, free_on, room_left}

@@ -1,5 +1,5 @@
 use Rattle.std.proofs.Common.{Some, sym, ap, ◌∙◌}
-use Rattle.mv_core.specs.Calls.{last_number}
+use Rattle.mv_lawful.specs.Rounds.{last_number}
 use Rattle.mv_core.proofs.Keeping.{here_at, number_kept, unsettled_here}
 use Rattle.mv_core.proofs.book.Book.number.Goals as goal
 

@@ -1,7 +1,8 @@
 use Rattle.std.proofs.Common.{arith, ◌≡◌, map, slice_set, List, ℕ, is_some, refl, ap, sym, ◌∙◌}
 use Rattle.std.proofs.lemmas.Result.{on_ok_weaker}
 use Rattle.mv_lawful.specs.Lawful.{Live}
-use Rattle.mv_core.specs.Calls.{live_of, last_number}
+use Rattle.mv_lawful.specs.Rounds.{last_number}
+use Rattle.mv_core.specs.Calls.{live_of}
 use Rattle.mv_script.specs.Scripts.{work_of}
 use Rattle.mv_core.specs.Books.{Booked}
 use Rattle.mv_core.proofs.Keeping.{live_stays, the_course, here_at, kept_same_told, same_calls, still_settled, room_set, room_left, room_same}

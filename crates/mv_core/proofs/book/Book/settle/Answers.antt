@@ -1,5 +1,5 @@
 use Rattle.std.proofs.Common.{arith, Some, is_some, refl, ap, sym, ◌∙◌}
-use Rattle.mv_core.specs.Calls.{last_number}
+use Rattle.mv_lawful.specs.Rounds.{last_number}
 use Rattle.mv_core.specs.Books.{Booked}
 use Rattle.mv_script.specs.Scripts.{work_of}
 use Rattle.mv_core.proofs.Keeping.{live_stays, the_course, here_at, kept_settled, settled_live, settled_told, still_settled, number_set, set_known, missing_due, same_calls, room_left}

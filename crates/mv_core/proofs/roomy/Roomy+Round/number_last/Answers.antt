@@ -1,7 +1,7 @@
 use Rattle.std.proofs.Common.{rules, ◌≡◌, suc, length, ap, ◌∙◌}
 use Rattle.mv_journal.specs.declared.outcome.Round.{Round}
 use Rattle.mv_core.specs.Rooms.{Filled}
-use Rattle.mv_core.specs.Calls.{numbered}
+use Rattle.mv_lawful.specs.Rounds.{numbered}
 use Rattle.mv_core.proofs.Numbers.{set_last}
 use Rattle.mv_core.proofs.roomy.Roomy+Round.number_last.Goals as goal
 
