@@ -29,7 +29,7 @@ use Rattle.mv_journal.specs.declared.event.Event.{Event}
 use Rattle.mv_journal.specs.declared.event.Event.TheVariants.{B, S, A, M, C, X, R, G}
 use Rattle.mv_journal.specs.declared.outcome.Mark.{Mark}
 use Rattle.mv_journal.specs.declared.outcome.Mark.TheVariants.{Plain, Exclusive, Moved}
-use Rattle.mv_lawful.proofs.Serial.{OrderlyAt, orderly_after, stands, stands_at, at_beginning}
+use Rattle.mv_lawful.proofs.Serial.{OrderlyAt, orderly_after, stands, stands_at, at_beginning, none_left, none_right}
 use Rattle.mv_lawful.proofs.Turns.{tables_more, length_changes}
 use Rattle.mv_lawful.specs.Work.{Work, tables_after, table_at, records_at, changes_after}
 use Rattle.mv_lawful.specs.Lawful.{Turn, Live, Course, beginning, change_live, with_call, begin, again, finish, refusal, after}
@@ -38,7 +38,7 @@ use Rattle.mv_audit.specs.declared.course.Course.{Course as State}
 use Rattle.mv_lawful.specs.Rounds.{turns_in}
 use Rattle.mv_audit.specs.Courses.{audited, live_of, course_of, fresh, restarted, finished, answered, round_event, mark_of, commit_event, begun_state, again_state, committed_state, answered_state, left_by, TellsRun, TellsCall, IsTrimmed, IsLive, IsLiveCall, IsCourse}
 use Rattle.mv_lawful.proofs.Numbers.{changes_more}
-use Rattle.mv_audit.proofs.Counting.{get_last, get_set, neither_left, neither_right}
+use Rattle.mv_audit.proofs.Counting.{get_last, get_set}
 use Rattle.mv_audit.proofs.Standing.{tells_more, tells_other, fresh_tells, again_tells, finished_tells, answered_tells, turns_more}
 use Rattle.mv_audit.proofs.Refusing.{live_seen, drop_later, since_kept}
 
@@ -209,11 +209,11 @@ committed_kept infos w s c l own new reply db k live free is told left sound = r
   neither = sym (k.orderly.done c (live_of l) (live_seen s c l live)) ∙ ap is_some live.live
 
   apart : (n : ℕ) → slice_get s.order n ≡ Some c → ⊥
-  apart n at = let both : false ≡ true = sym (neither_right (stands c s.answered) (stands c s.order) neither) ∙ stands_at s.order n c at in search (rules, both)
+  apart n at = let both : false ≡ true = sym (none_right (stands c s.answered) (stands c s.order) neither) ∙ stands_at s.order n c at in search (rules, both)
 
   this : TellsCall w (s.order ++ c ∷ []) s.answered c (finished own l new s.commits reply)
   this =
-      finished_tells w s.order s.answered c own l new s.commits reply (k.tells c l live.at) live.live (neither_left (stands c s.answered) (stands c s.order) neither) apart is (since_kept infos w s c l k live)
+      finished_tells w s.order s.answered c own l new s.commits reply (k.tells c l live.at) live.live (none_left (stands c s.answered) (stands c s.order) neither) apart is (since_kept infos w s c l k live)
       (told ∙ ap (λ x. (w.run c x).reply) k.tables)
 
   by : (d : ℕ) (x : Kept) → ((d ≡ c) × (finished own l new s.commits reply ≡ x)) ⊎ ((d ≡ c → ⊥) × (slice_get s.calls d ≡ Some x)) → TellsCall w (s.order ++ c ∷ []) s.answered d x

@@ -18,7 +18,7 @@ use Rattle.mv_lawful.specs.Outcomes.{IsReply}
 use Rattle.mv_audit.specs.Courses.{count_by, more_rounds, TellsRun, TellsCall, AreSince, fresh, restarted, finished, answered}
 use Rattle.mv_lawful.proofs.Serial.{stands}
 use Rattle.mv_lawful.proofs.Numbers.{turns_closed, table_stays, within_more, within_end, rounds_stay, rounds_more}
-use Rattle.mv_audit.proofs.Counting.{before_stays, before_commit, before_answer, before_other}
+use Rattle.mv_lawful.proofs.Before.{before_stays, before_commit, before_answered, before_kept}
 
 -- A commit more
 
@@ -47,7 +47,7 @@ tells_more w order answers d c l t = record {
 
 run_other : (w : Work) (order answers : List ℕ) (d c : ℕ) (l : Kept) (o : Option Reply) → (d ≡ c → ⊥) → TellsRun w order answers c l o → TellsRun w order (answers ++ d ∷ []) c l o
 run_other w order answers d c l None apart h = h
-run_other w order answers d c l (Some reply) apart h = (h.0, before_other order answers l.start c d apart ∙ h.1, h.2, h.3)
+run_other w order answers d c l (Some reply) apart h = (h.0, before_kept order answers l.start c d apart ∙ h.1, h.2, h.3)
 
 pub tells_other : (w : Work) (order answers : List ℕ) (d c : ℕ) (l : Kept) → (d ≡ c → ⊥) → TellsCall w order answers c l → TellsCall w order (answers ++ d ∷ []) c l
 tells_other w order answers d c l apart t = record {
@@ -70,7 +70,7 @@ answered_tells w order answers c l t live = record {
   past = t.past;
   within = t.within;
   rounds = t.rounds;
-  run = (l.start, before_answer order answers l.start c, t.past, given);
+  run = (l.start, before_answered order answers l.start c, t.past, given);
 } where
   given : l.given ≡ (w.run c (table_at w order l.start)).reply
   given = (subst (TellsRun w order answers c l) live t.run).1

@@ -1,12 +1,9 @@
 -- What holds of the calls and commits of a journal of which no event is refused.
-use Rattle.std.proofs.Common.{◌≡◌, ◌⊎◌, inl, inr, ℕ, zero, suc, ◌+◌, ◌<◌, ◌≤◌, Bool, true, false, not, cond, List, [], ◌∷◌, ◌++◌, Option, Some, None, length, slice_set, if◌then◌else◌, refl, sym, ap, subst, ◌∙◌, arith, length-append, rules}
-use Rattle.std.specs.Prelude.{◌==◌, ◌&&◌, ◌||◌, nat_lt, slice_get}
-use Rattle.std.specs.List.{position, position_or_len}
+use Rattle.std.proofs.Common.{◌≡◌, ◌⊎◌, inl, inr, ℕ, zero, suc, ◌+◌, ◌<◌, ◌≤◌, Bool, true, false, not, List, [], ◌∷◌, ◌++◌, Option, Some, None, length, slice_set, if◌then◌else◌, refl, sym, ap, subst, ◌∙◌, arith, length-append, rules}
+use Rattle.std.specs.Prelude.{◌==◌, ◌&&◌, nat_lt, slice_get}
 use Rattle.std.proofs.lemmas.Bool.Decides.{eqb_tells}
-use Rattle.std.proofs.lemmas.Bool.{eqb-true, eq-eqb, ne_eqb}
 use Rattle.std.proofs.lemmas.List.{length-set}
-use Rattle.mv_lawful.proofs.Serial.{open_done, stands}
-use Rattle.mv_lawful.specs.Outcomes.{commits_before}
+use Rattle.mv_lawful.proofs.Serial.{open_done}
 use Rattle.mv_journal.specs.declared.event.Event.{Event}
 use Rattle.mv_journal.specs.declared.event.Event.TheVariants.{B, S, A, M, C, X, R, G}
 use Rattle.mv_journal.specs.declared.outcome.Mark.{Mark}
@@ -339,91 +336,12 @@ all_done w s h c less = open_done 0 s.calls c (below (first_open 0 s.calls) (shu
   below : (n : ℕ) → nat_lt n w.count ≡ false → 0 + c < n
   below n k = grind (arith, k, less)
 
--- Places in the order
+-- Where calls stand
 
--- a live call isn't there
+-- a live call isn't in the order
 pub live_apart : (w : Work) (e : ℕ) (s : Course) (c : ℕ) (l : Live) → Facts w e s → IsLive s c l → (k : ℕ) → slice_get s.order k ≡ Some c → ⊥
 live_apart w e s c l f live k at = not_live s.calls c c l (f.back k c at) live.at live.live refl
 
 -- nor among the answered ones
 pub live_unanswered : (w : Work) (e : ℕ) (s : Course) (c : ℕ) (l : Live) → Facts w e s → IsLive s c l → (k : ℕ) → slice_get s.answered k ≡ Some c → ⊥
 live_unanswered w e s c l f live k at = not_live s.calls c c l (f.replied k c at) live.at live.live refl
-
-abbrev place : List ℕ → ℕ → ℕ
-place cs c = position_or_len (λ d. d == c) cs
-
-last_place : (cs : List ℕ) (c : ℕ) → ((k : ℕ) → slice_get cs k ≡ Some c → ⊥) → place (cs ++ c ∷ []) c ≡ length cs
-last_place [] c none = ap (λ b. cond (not b) 1 0) (eq-eqb c c refl)
-last_place (x ∷ cs) c none = by (x == c) refl (last_place cs c (λ k at. none (suc k) at)) where
-  by : (b : Bool) → (x == c) ≡ b → place (cs ++ c ∷ []) c ≡ length cs → cond (not b) (1 + place (cs ++ c ∷ []) c) 0 ≡ suc (length cs)
-  by true e h = absurd (none 0 (ap Some (eqb-true x c e)))
-  by false e h = omega (arith, h)
-
-same_place : (cs : List ℕ) (c d : ℕ) → place cs c < length cs → place (cs ++ d ∷ []) c ≡ place cs c
-same_place [] c d lt = absurd (omega (arith, lt))
-same_place (x ∷ cs) c d lt = by (x == c) lt (same_place cs c d) where
-  by : (b : Bool) → cond (not b) (1 + place cs c) 0 < suc (length cs) → (place cs c < length cs → place (cs ++ d ∷ []) c ≡ place cs c) → cond (not b) (1 + place (cs ++ d ∷ []) c) 0 ≡ cond (not b) (1 + place cs c) 0
-  by true h go = refl
-  by false h go = ap (λ n. 1 + n) (go (omega (arith, h)))
-
-at_place : (cs : List ℕ) (c k : ℕ) → position (λ d. d == c) cs ≡ Some k → (place cs c ≡ k) × (place cs c < length cs)
-at_place cs c k is = by (nat_lt (place cs c) (length cs)) refl is where
-  less : nat_lt (place cs c) (length cs) ≡ true → place cs c < length cs
-  less h = grind (arith, h)
-
-  by : (b : Bool) → nat_lt (place cs c) (length cs) ≡ b → cond b (Some (place cs c)) None ≡ Some k → (place cs c ≡ k) × (place cs c < length cs)
-  by true e h = (search (rules, h), less e)
-  by false e h = absurd (search (rules, h))
-
-found_at : (cs : List ℕ) (c k : ℕ) → place cs c ≡ k → k < length cs → position (λ d. d == c) cs ≡ Some k
-found_at cs c k is lt = ap (λ b. cond b (Some (place cs c)) None) within ∙ ap Some is where
-  within : nat_lt (place cs c) (length cs) ≡ true
-  within = grind (arith, is, lt)
-
-pub found_last : (cs : List ℕ) (c : ℕ) → ((k : ℕ) → slice_get cs k ≡ Some c → ⊥) → position (λ d. d == c) (cs ++ c ∷ []) ≡ Some (length cs)
-found_last cs c none = found_at (cs ++ c ∷ []) c (length cs) (last_place cs c none) (let n = length-append cs (c ∷ []) in omega (arith, n))
-
-pub found_stays : (cs : List ℕ) (c d k : ℕ) → position (λ x. x == c) cs ≡ Some k → position (λ x. x == c) (cs ++ d ∷ []) ≡ Some k
-found_stays cs c d k is =
-    let p = at_place cs c k is in
-    found_at (cs ++ d ∷ []) c k (same_place cs c d p.1 ∙ p.0) (let n = length-append cs (d ∷ []) in let a = p.0 in let b = p.1 in omega (arith, n, a, b))
-
--- Commits before a call
-
-none_in : (cs : List ℕ) (c : ℕ) → ((k : ℕ) → slice_get cs k ≡ Some c → ⊥) → stands c cs ≡ false
-none_in [] c none = refl
-none_in (x ∷ cs) c none = by (x == c) refl (none_in cs c (λ k at. none (suc k) at)) where
-  by : (b : Bool) → (x == c) ≡ b → stands c cs ≡ false → (b || stands c cs) ≡ false
-  by true e h = absurd (none 0 (ap Some (eqb-true x c e)))
-  by false e h = h
-
-in_last : (cs : List ℕ) (c : ℕ) → stands c (cs ++ c ∷ []) ≡ true
-in_last [] c = ap (λ b. b || false) (eq-eqb c c refl)
-in_last (x ∷ cs) c = by (x == c) (in_last cs c) where
-  by : (b : Bool) → stands c (cs ++ c ∷ []) ≡ true → (b || stands c (cs ++ c ∷ [])) ≡ true
-  by true h = refl
-  by false h = h
-
-in_more : (cs : List ℕ) (c d : ℕ) → (d ≡ c → ⊥) → stands c (cs ++ d ∷ []) ≡ stands c cs
-in_more [] c d ne = ap (λ b. b || false) (ne_eqb d c ne)
-in_more (x ∷ cs) c d ne = ap (λ b. (x == c) || b) (in_more cs c d ne)
-
--- a call that commits
-pub before_last : (order answered : List ℕ) (start c : ℕ) → ((k : ℕ) → slice_get order k ≡ Some c → ⊥) → ((k : ℕ) → slice_get answered k ≡ Some c → ⊥) → commits_before (order ++ c ∷ []) answered start c ≡ Some (length order)
-before_last order answered start c none apart =
-    ap (λ b. if b then Some start else position (λ d. d == c) (order ++ c ∷ [])) (none_in answered c apart) ∙ found_last order c none
-
--- another call commits
-pub before_stays : (order answered : List ℕ) (start c d k : ℕ) → commits_before order answered start c ≡ Some k → commits_before (order ++ d ∷ []) answered start c ≡ Some k
-before_stays order answered start c d k is = by (stands c answered) is where
-  by : (b : Bool) → (if b then Some start else position (λ x. x == c) order) ≡ Some k → (if b then Some start else position (λ x. x == c) (order ++ d ∷ [])) ≡ Some k
-  by true h = h
-  by false h = found_stays order c d k h
-
--- a call that is answered
-pub before_answered : (order answered : List ℕ) (start c : ℕ) → commits_before order (answered ++ c ∷ []) start c ≡ Some start
-before_answered order answered start c = ap (λ b. if b then Some start else position (λ d. d == c) order) (in_last answered c)
-
--- another call is answered
-pub before_kept : (order answered : List ℕ) (start c d k : ℕ) → (d ≡ c → ⊥) → commits_before order answered start c ≡ Some k → commits_before order (answered ++ d ∷ []) start c ≡ Some k
-before_kept order answered start c d k ne is = ap (λ b. if b then Some start else position (λ x. x == c) order) (in_more answered c d ne) ∙ is

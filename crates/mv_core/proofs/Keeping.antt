@@ -28,7 +28,9 @@ use Rattle.mv_lawful.proofs.Numbers.{turns_numbered, turns_closed, last_numbered
 use Rattle.mv_core.proofs.Numbers.{closes, settled, settles, rounds_end, rounds_begun}
 use Rattle.mv_core.specs.Lives.{live_numbers, without}
 use Rattle.mv_core.proofs.Lives.{live_kept, live_gone, live_begun, live_below}
-use Rattle.mv_core.proofs.Journals.{get_last, get_set, set_there, facts_of, Facts, CallFacts, live_at, changed_at, done_in, done_within, done_below, reach_more, allowed_more, live_apart, live_unanswered, before_last, before_stays, before_answered, before_kept}
+use Rattle.mv_lawful.proofs.Before.{before_commit, before_stays, before_answered, before_kept}
+use Rattle.mv_lawful.proofs.Serial.{stands_none}
+use Rattle.mv_core.proofs.Journals.{get_last, get_set, set_there, facts_of, Facts, CallFacts, live_at, changed_at, done_in, done_within, done_below, reach_more, allowed_more, live_apart, live_unanswered}
 
 abbrev pub the_course : List ℕ → ℕ → List ℕ → List Live → Course
 the_course order low answered ls = record { order = order; calls = ls; low = low; answered = answered }
@@ -54,7 +56,7 @@ grows_by w order answered start d c kept (Some reply) h t = (t.0 ∙ sym (rounds
 -- and when another one is answered
 stays_by : (w : Work) (order answered : List ℕ) (start d c : ℕ) (kept : List Round) (o : Option Reply) → (d ≡ c → ⊥) → TellsBy w order answered start c kept o → TellsBy w order (answered ++ d ∷ []) start c kept o
 stays_by w order answered start d c kept None ne are = are
-stays_by w order answered start d c kept (Some reply) ne t = let r = t.1 in (t.0, (r.0, before_kept order answered start c d r.0 ne r.1, r.2, r.3))
+stays_by w order answered start d c kept (Some reply) ne t = let r = t.1 in (t.0, (r.0, before_kept order answered start c d ne ∙ r.1, r.2, r.3))
 
 -- Events
 
@@ -163,8 +165,8 @@ kept_commit s order orders low answered c ps journal longer e f p q reply k free
       is_reply : IsReply (work_of s) (order ++ c ∷ []) answered q.start c reply
       is_reply = (
         length order,
-        before_last order answered q.start c (live_apart (work_of s) (length journal) (the_course order low answered (map live_of ps)) c (live_of p) known going)
-            (live_unanswered (work_of s) (length journal) (the_course order low answered (map live_of ps)) c (live_of p) known going),
+        before_commit order answered q.start c (stands_none answered c (live_unanswered (work_of s) (length journal) (the_course order low answered (map live_of ps)) c (live_of p) known going))
+            (live_apart (work_of s) (length journal) (the_course order low answered (map live_of ps)) c (live_of p) known going),
         omega (arith, longer_order),
         told ∙ ap (λ db. ((work_of s).run c db).reply) (sym (table_stays (work_of s) order c (length order) (omega arith))),
       )

@@ -1,3 +1,4 @@
+pub mod Before
 pub mod Collections
 pub mod Lows
 pub mod Numbers

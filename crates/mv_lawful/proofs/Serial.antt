@@ -46,6 +46,14 @@ stands_at (d ∷ cs) (suc k) c is = by (d == c) (stands_at cs k c is)
     by true h = refl
     by false h = h
 
+pub stands_none : (cs : List ℕ) (c : ℕ) → ((k : ℕ) → slice_get cs k ≡ Some c → ⊥) → stands c cs ≡ false
+stands_none [] c none = refl
+stands_none (x ∷ cs) c none = by (x == c) refl (stands_none cs c (λ k at. none (suc k) at))
+  where
+    by : (b : Bool) → (x == c) ≡ b → stands c cs ≡ false → (b || stands c cs) ≡ false
+    by true e h = absurd (none 0 (ap Some (eqb-true x c e)))
+    by false e h = h
+
 -- it is at some place
 pub found_in : (c : ℕ) (cs : List ℕ) → stands c cs ≡ true → (k : ℕ) × (slice_get cs k ≡ Some c)
 found_in c [] h = cc
@@ -168,11 +176,11 @@ pub record Orderly (w : Work) (order answered : List ℕ) (calls : List Live) : 
   pub readers : (c : ℕ) → stands c answered ≡ true → w.read_only c ≡ true
 
 -- neither of them
-none_left : (a b : Bool) → (a || b) ≡ false → a ≡ false
+pub none_left : (a b : Bool) → (a || b) ≡ false → a ≡ false
 none_left true b h = cc
 none_left false b h = refl
 
-none_right : (a b : Bool) → (a || b) ≡ false → b ≡ false
+pub none_right : (a b : Bool) → (a || b) ≡ false → b ≡ false
 none_right true b h = cc
 none_right false b h = h
 
