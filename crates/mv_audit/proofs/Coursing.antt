@@ -38,7 +38,7 @@ use Rattle.mv_audit.specs.declared.course.Course.{Course as State}
 use Rattle.mv_lawful.specs.Rounds.{turns_in}
 use Rattle.mv_audit.specs.Courses.{audited, live_of, course_of, fresh, restarted, finished, answered, round_event, mark_of, commit_event, begun_state, again_state, committed_state, answered_state, left_by, TellsRun, TellsCall, IsTrimmed, IsLive, IsLiveCall, IsCourse}
 use Rattle.mv_lawful.proofs.Numbers.{changes_more}
-use Rattle.mv_audit.proofs.Counting.{get_last, get_set}
+use Rattle.mv_lawful.proofs.Lists.{get_last, get_set}
 use Rattle.mv_audit.proofs.Standing.{tells_more, tells_other, fresh_tells, again_tells, finished_tells, answered_tells, turns_more}
 use Rattle.mv_audit.proofs.Refusing.{live_seen, drop_later, since_kept}
 

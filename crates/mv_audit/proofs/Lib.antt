@@ -1,7 +1,6 @@
 pub mod Bytes
 pub mod Columns
 pub mod Comparing
-pub mod Counting
 pub mod Coursing
 pub mod Dropping
 pub mod Ending

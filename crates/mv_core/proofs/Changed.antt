@@ -38,7 +38,8 @@ use Rattle.mv_core.specs.Drives.{HasMade, HasTaken, TellsRound, of_view}
 use Rattle.mv_core.specs.declared.drive.Refusal.TheVariants as drive
 use Rattle.mv_core.specs.Cores.{Cored, IsAllowedIfFresh, IsHitAt, IsStaleAt, IsLiveTask, IsRunningIn, HasTurns, HasStep, MayStep, HasTried, HasCommitted, HasRefused, HasRepaired, IsStoreOf, IsCore}
 use Rattle.mv_lawful.proofs.Numbers.{repair_stays}
-use Rattle.mv_core.proofs.Journals.{changed_at, set_there}
+use Rattle.mv_lawful.proofs.Lists.{set_there}
+use Rattle.mv_core.proofs.Journals.{changed_at}
 use Rattle.mv_core.proofs.Keeping.{restart_after}
 use Rattle.mv_core.proofs.Numbered.{numbers_same}
 use Rattle.mv_core.proofs.Stored.{stored_same}

@@ -30,7 +30,8 @@ use Rattle.mv_core.specs.Lives.{live_numbers, without}
 use Rattle.mv_core.proofs.Lives.{live_kept, live_gone, live_begun, live_below}
 use Rattle.mv_lawful.proofs.Before.{before_commit, before_stays, before_answered, before_kept}
 use Rattle.mv_lawful.proofs.Serial.{stands_none}
-use Rattle.mv_core.proofs.Journals.{get_last, get_set, set_there, facts_of, Facts, CallFacts, live_at, changed_at, done_in, done_within, done_below, reach_more, allowed_more, live_apart, live_unanswered}
+use Rattle.mv_lawful.proofs.Lists.{get_last, get_set, set_there}
+use Rattle.mv_core.proofs.Journals.{facts_of, Facts, CallFacts, live_at, changed_at, done_in, done_within, done_below, reach_more, allowed_more, live_apart, live_unanswered}
 
 abbrev pub the_course : List ℕ → ℕ → List ℕ → List Live → Course
 the_course order low answered ls = record { order = order; calls = ls; low = low; answered = answered }

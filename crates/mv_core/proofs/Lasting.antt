@@ -13,7 +13,7 @@ use Rattle.mv_core.specs.declared.tasks.Running.{Running}
 use Rattle.mv_core.specs.Books.{Booked, work_in, Made, IsSame, AreLastOf}
 use Rattle.mv_core.specs.Cores.{HasTasks, KeepsLast, HasCollected}
 use Rattle.mv_core.specs.Calls.{IsLiveCall}
-use Rattle.mv_core.proofs.Journals.{set_there}
+use Rattle.mv_lawful.proofs.Lists.{set_there}
 
 -- the same of the order, in a script
 Lasts : Script → List ℕ → Option Running → Type 0

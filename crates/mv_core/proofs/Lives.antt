@@ -14,7 +14,7 @@ use Rattle.mv_lawful.proofs.Lows.{oldest_most}
 use Rattle.mv_lawful.specs.Lawful.{Live, begin, oldest}
 use Rattle.mv_core.specs.declared.progress.Progress.{Progress}
 use Rattle.mv_core.specs.Calls.{live_of}
-use Rattle.mv_core.proofs.Journals.{get_last, get_set}
+use Rattle.mv_lawful.proofs.Lists.{get_last, get_set}
 use Rattle.mv_core.specs.Lives.{live_from, live_numbers, without, start_by, start_in, least_start}
 
 above : (c d : ℕ) → d < c → nat_cmp c d ≡ Greater

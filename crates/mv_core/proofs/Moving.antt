@@ -19,7 +19,8 @@ use Rattle.mv_lawful.proofs.Numbers.{last_of_end, rounds_more}
 use Rattle.mv_core.proofs.Lives.{live_kept}
 use Rattle.mv_core.proofs.Refusing.{may_commit}
 use Rattle.mv_core.proofs.Turning.{none_hit}
-use Rattle.mv_core.proofs.Journals.{changed_at, set_there}
+use Rattle.mv_lawful.proofs.Lists.{set_there}
+use Rattle.mv_core.proofs.Journals.{changed_at}
 use Rattle.mv_core.proofs.Changed.{live_restarted, due_after}
 
 pub apart : Moved ≢ Exclusive

@@ -11,7 +11,7 @@ use Rattle.mv_lawful.specs.Rounds.{is_round}
 use Rattle.mv_lawful.proofs.Turns.{none_at}
 use Rattle.mv_core.specs.Calls.{IsLive}
 use Rattle.mv_core.specs.Books.{Booked, work_in, Made, IsSame, IsSettled, BeginsRound, HaveNumbers}
-use Rattle.mv_core.proofs.Journals.{get_last, get_set}
+use Rattle.mv_lawful.proofs.Lists.{get_last, get_set}
 
 -- before any event
 pub numbers_begin : (b : Booked) → b.course ≡ beginning → HaveNumbers b

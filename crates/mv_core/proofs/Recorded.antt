@@ -1,5 +1,5 @@
 -- The records of running calls, as contracts see them.
-use Rattle.std.proofs.Common.{◌≡◌, ℕ, zero, suc, ◌<◌, ◌≤◌, List, [], ◌∷◌, ◌++◌, Option, Some, None, length, get_or, slice_set, refl, sym, ap, subst, ◌∙◌}
+use Rattle.std.proofs.Common.{◌≡◌, ℕ, zero, suc, ◌<◌, ◌≤◌, List, [], ◌∷◌, ◌++◌, Option, Some, length, get_or, slice_set, refl, sym, ap, subst, ◌∙◌}
 use Rattle.std.specs.Prelude.{slice_get, ◌≢◌}
 use Rattle.std.proofs.lemmas.Option.{slice_get_read}
 use mathlib.Core.List.{IsPrefix}
@@ -18,11 +18,11 @@ use Rattle.mv_core.specs.declared.tasks.Running.{Running}
 use Rattle.mv_script.specs.Scripts.{work_of, IsCallOf, IsScript}
 use Rattle.mv_core.specs.Calls.{IsLive, IsLiveCall}
 use Rattle.mv_core.specs.Books.{Booked, work_in, Made, round_event, AreRecordsOf}
-use Rattle.mv_core.specs.Cores.{Cored, HasTasks, IsLiveTask, HasRunOne, KeepsOtherTasks, RunsOne, AreFirstOf, records_by, records_in}
+use Rattle.mv_core.specs.Cores.{Cored, HasTasks, IsLiveTask, HasRunOne, RunsOne, AreFirstOf, records_by}
 use Rattle.mv_core.proofs.Stored.{run_is}
-use Rattle.mv_core.proofs.Journals.{set_there, set_apart}
+use Rattle.mv_lawful.proofs.Lists.{set_there, set_apart, get_end}
 use Rattle.mv_core.proofs.Keeping.{restart_after}
-use Rattle.mv_core.proofs.Taking.{get_end, task_within, one_live}
+use Rattle.mv_core.proofs.Taking.{task_within, one_live}
 use Rattle.mv_core.proofs.Changed.{live_restarted}
 
 -- The tasks of other calls

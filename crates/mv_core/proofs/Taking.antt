@@ -1,5 +1,5 @@
 -- The tasks of live calls, and what events leave of them.
-use Rattle.std.proofs.Common.{◌≡◌, ◌⊎◌, inl, inr, ℕ, zero, suc, ◌+◌, ◌<◌, ◌≤◌, Bool, true, false, List, [], ◌∷◌, ◌++◌, Option, Some, None, length, get_or, slice_set, refl, sym, ap, subst, ◌∙◌, arith, eq-eqb, append-nil, length-append, rules}
+use Rattle.std.proofs.Common.{◌≡◌, ◌⊎◌, inl, inr, ℕ, ◌+◌, ◌<◌, ◌≤◌, Bool, true, false, List, [], ◌∷◌, ◌++◌, Option, Some, None, length, get_or, slice_set, refl, sym, ap, subst, ◌∙◌, arith, eq-eqb, append-nil, length-append, rules}
 use Rattle.std.specs.Prelude.{slice_get, ◌==◌, ◌&&◌, ◌↔◌, ◌≢◌, nat_lt, not}
 use Rattle.std.specs.List.{flat_map}
 use Rattle.std.proofs.lemmas.Option.{slice_get_within, slice_get_read}
@@ -37,7 +37,8 @@ use Rattle.mv_core.specs.Cores.{RunsOn, IsTaskFor, HasRunOne, CountsAll, HasTurn
 use Rattle.mv_lawful.proofs.Numbers.{last_end, last_is_or, last_of_end, rounds_more, rounds_stay, table_stays, within_more, within_end}
 use Rattle.mv_core.proofs.Stored.{run_is, changes_to_last}
 use Rattle.mv_core.proofs.Keeping.{commit_after, restart_after}
-use Rattle.mv_core.proofs.Journals.{changed_at, get_last, get_front, get_set, set_there, set_apart}
+use Rattle.mv_lawful.proofs.Lists.{get_last, get_front, get_set, set_there, set_apart, get_end}
+use Rattle.mv_core.proofs.Journals.{changed_at}
 
 -- The call of a number
 
@@ -268,12 +269,6 @@ task_grows s order d c l running t = record {
 
 pub tasks_same : (s t : Script) (course new : Course) (ts : List (Option Running)) → HasTasks s course ts → t ≡ s → new ≡ course → HasTasks t new ts
 tasks_same s t course new ts k a b = subst (λ (x : Script). HasTasks x new ts) (sym a) (subst (λ (x : Course). HasTasks s x ts) (sym b) k)
-
-pub get_end : {A : Type 0} (xs : List A) (y : A) (n : ℕ) → n ≡ length xs → slice_get (xs ++ y ∷ []) n ≡ Some y
-get_end [] y zero is = refl
-get_end [] y (suc n) is = absurd (omega (arith, is))
-get_end (x ∷ xs) y zero is = absurd (omega (arith, is))
-get_end (x ∷ xs) y (suc n) is = get_end xs y n (omega (arith, is))
 
 -- the next call begins
 tasks_begun : (s : Script) (course : Course) (ts : List (Option Running)) (t : Running) → HasTasks s course ts → length course.calls < length s.calls

@@ -21,7 +21,8 @@ use Rattle.mv_lawful.specs.Work.{Work, changes_after, records_at, hit_of}
 use Rattle.mv_lawful.specs.Lawful.{Live, Course, beginning, begin, finish, change_live, unless, refusal, after, reach, open_call, wrong_from}
 use Rattle.mv_lawful.specs.Outcomes.{ending, turn, in_turn, is_of_call, without_collections, IsOutcomeInTurn, outcome_of}
 use Rattle.mv_lawful.proofs.Collections.{collections_unseen}
-use Rattle.mv_lawful.proofs.Turns.{at_end, turned, turns_reach, closed, no_commits, only_open}
+use Rattle.mv_lawful.proofs.Lists.{get_end, get_last}
+use Rattle.mv_lawful.proofs.Turns.{turned, turns_reach, closed, no_commits, only_open}
 use Rattle.mv_core.specs.declared.engine.Attempt.{Attempt}
 use Rattle.mv_core.specs.declared.engine.Attempt.TheVariants.{Committed, Hit as Hits, Stale}
 use Rattle.mv_script.specs.declared.script.Script.{Script}
@@ -32,7 +33,7 @@ use Rattle.mv_core.specs.declared.drive.DriveFault.{DriveFault}
 use Rattle.mv_core.specs.declared.drive.DriveFault.TheVariants as fault
 use Rattle.mv_core.specs.Drives.{HasMade, HasTurned, Driven, Stops, HasReplayed}
 use Rattle.mv_core.specs.Cores.{HasTried, HasTriedToEnd, IsStaleAt, IsHitAt}
-use Rattle.mv_core.proofs.Journals.{get_last, live_at}
+use Rattle.mv_core.proofs.Journals.{live_at}
 use Rattle.mv_core.proofs.Lows.{low_within}
 use Rattle.mv_core.proofs.Driving.{made_more, made_none}
 use Rattle.mv_core.proofs.Refusing.{begun_number, same_made}
@@ -64,7 +65,7 @@ pub begun_live : (c : ℕ) (old new : Booked) → Made (B c) old new → IsLiveC
 begun_live c old new made = (
   begin (length old.course.order),
   record {
-    at = ap (λ (s : Course). slice_get s.calls c) made.course ∙ at_end old.course.calls (begin (length old.course.order)) c (sym (begun_number c old new made));
+    at = ap (λ (s : Course). slice_get s.calls c) made.course ∙ get_end old.course.calls (begin (length old.course.order)) c (begun_number c old new made);
     live = refl;
   },
 )

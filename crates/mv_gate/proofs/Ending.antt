@@ -25,7 +25,8 @@ use Rattle.mv_core.specs.Books.{Booked, work_in, Made, IsSame}
 use Rattle.mv_core.specs.Cores.{HasCommitted, HasMovedAndCommitted}
 use Rattle.mv_core.proofs.Moving.{live_moved}
 use Rattle.mv_core.proofs.Turning.{many_begun}
-use Rattle.mv_core.proofs.Journals.{get_front, set_there, set_apart, changed_at}
+use Rattle.mv_lawful.proofs.Lists.{get_front, set_there, set_apart}
+use Rattle.mv_core.proofs.Journals.{changed_at}
 use Rattle.mv_gate.specs.Gates.{IsDesk, Waiting, HandsOut, HasMovedAndAnswered, IsOutcome, IsDone, GoesOn}
 
 pub outcome_told : (s : BoardScript) (b : Booked) (ledger : Entered) (starts : List (Option (List ℕ))) (o : Outcome) → IsDesk s b ledger starts → Lawful (work_in b) b.journal → o ≡ outcome_of (work_in b) b.journal → IsOutcome (work s) o

@@ -1,5 +1,5 @@
 -- What the gate's lock keeps of the readers of its shards, after an event.
-use Rattle.std.proofs.Common.{◌≡◌, ◌⊎◌, inl, inr, ℕ, ◌<◌, ◌≤◌, ◌+◌, ◌*◌, true, false, List, [], ◌∷◌, ◌++◌, Option, Some, None, length, get_or, slice_set, refl, sym, ap, subst, ◌∙◌, arith, rules, length-append}
+use Rattle.std.proofs.Common.{◌≡◌, ◌⊎◌, inl, inr, ℕ, ◌<◌, ◌≤◌, ◌+◌, true, false, List, [], ◌∷◌, ◌++◌, Option, Some, None, length, get_or, slice_set, refl, sym, ap, subst, ◌∙◌, arith, rules, length-append}
 use Rattle.std.specs.Prelude.{slice_get, IfSome, Result, Ok, Err, IfOk, OnOk, OnErr}
 use Rattle.std.proofs.lemmas.List.{length-set, set-set}
 use Rattle.std.proofs.lemmas.Option.{slice_get_within, slice_get-get_or, get_or_from_slice_get}
@@ -19,8 +19,8 @@ use Rattle.mv_shards.specs.Scripts.{script_in}
 use Rattle.mv_shards.specs.Leaves.{NeedPins, IsLeave, start_shown}
 use Rattle.mv_core.specs.Calls.{IsLive, IsLiveCall}
 use Rattle.mv_core.specs.Books.{Booked, Made, IsSame}
-use Rattle.mv_core.proofs.Journals.{get_last, get_front, get_set, set_there, set_apart, changed_at, live_at}
-use Rattle.mv_core.proofs.Taking.{get_end}
+use Rattle.mv_lawful.proofs.Lists.{get_last, get_front, get_set, set_there, set_apart, get_end}
+use Rattle.mv_core.proofs.Journals.{changed_at, live_at}
 use Rattle.mv_core.proofs.Keeping.{round_live, commit_live}
 use Rattle.mv_gate.specs.declared.answers.Answer.{Answer}
 use Rattle.mv_gate.specs.declared.answers.Answer.TheVariants.{Committed, Answered, Repaired, Moved as GoesUp, Lost}

@@ -14,8 +14,8 @@ use Rattle.mv_shards.specs.Ledgers.{Entered, AreLastChanges}
 use Rattle.mv_shards.proofs.Histories.{touch_front}
 use Rattle.mv_core.specs.Calls.{IsLive, IsLiveCall}
 use Rattle.mv_core.specs.Books.{Booked, Made}
-use Rattle.mv_core.proofs.Journals.{get_last, get_front, get_set, set_there, set_apart, changed_at}
-use Rattle.mv_core.proofs.Taking.{get_end}
+use Rattle.mv_lawful.proofs.Lists.{get_last, get_front, get_set, set_there, set_apart, get_end}
+use Rattle.mv_core.proofs.Journals.{changed_at}
 use Rattle.mv_gate.specs.Gates.{HaveTurns, HaveTouched}
 
 -- what a live call has

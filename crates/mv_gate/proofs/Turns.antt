@@ -9,7 +9,7 @@ use Rattle.mv_lawful.specs.Lawful.{Live, Course, begin, again, finish, change_li
 use Rattle.mv_lawful.specs.Rounds.{WithinRounds, last_turn}
 use Rattle.mv_core.specs.Cores.{HasTurns}
 use Rattle.mv_core.proofs.Taking.{turns_again, turns_begin, turns_grown}
-use Rattle.mv_core.proofs.Journals.{get_last, get_set}
+use Rattle.mv_lawful.proofs.Lists.{get_last, get_set}
 use Rattle.mv_gate.specs.Gates.{HaveTurns}
 
 turns_same : (n : ℕ) (l m : Live) → m.turns ≡ l.turns → m.start ≡ l.start → HasTurns n l → HasTurns n m

@@ -11,7 +11,8 @@ use Rattle.mv_lawful.specs.Work.{Work}
 use Rattle.mv_lawful.specs.Lawful.{Live, Course, begin, again, finish, change_live, used, is_stale, is_hit, has_round, unless, refusal, after}
 use Rattle.mv_lawful.specs.Rounds.{is_round}
 use Rattle.mv_core.specs.Calls.{IsLive}
-use Rattle.mv_core.proofs.Journals.{get_last, get_set, live_at}
+use Rattle.mv_lawful.proofs.Lists.{get_last, get_set}
+use Rattle.mv_core.proofs.Journals.{live_at}
 use Rattle.mv_gate.specs.Gates.{UseRounds}
 
 -- no other live call has used more

@@ -1,5 +1,6 @@
 pub mod Before
 pub mod Collections
+pub mod Lists
 pub mod Lows
 pub mod Numbers
 pub mod Placing

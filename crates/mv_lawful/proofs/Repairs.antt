@@ -14,6 +14,7 @@ use Rattle.mv_lawful.specs.declared.fault.Wrong.{Wrong}
 use Rattle.mv_lawful.specs.Work.{Work}
 use Rattle.mv_lawful.specs.Lawful.{Live, Course, beginning, change_live, begin, again, finish, is_stale, is_hit, has_round, unless, of_live, refusal, after, or_refused, wrong_from, Lawful}
 use Rattle.mv_lawful.specs.Rounds.{is_repair}
+use Rattle.mv_lawful.proofs.Lists.{set_there}
 
 -- Journals without a fault
 
@@ -56,11 +57,6 @@ more_turns n mark l = length-append l.turns (record { start = n; mark = mark } �
 again_grows : (n : ℕ) (mark : Mark) → Grows (again n mark)
 again_grows n mark l = let e = more_turns n mark l in omega (arith, e)
 
-pub get_set : (ls : List Live) (c : ℕ) (l m : Live) → slice_get ls c ≡ Some l → slice_get (slice_set ls c m) c ≡ Some m
-get_set [] c l m is = cc
-get_set (x ∷ ls) zero l m is = refl
-get_set (x ∷ ls) (suc c) l m is = get_set ls c l m is
-
 -- a repair that is allowed takes one of the rounds that are left
 one_taken : (w : Work) (s : Course) (c : ℕ) → refusal w s (A c) ≡ None → left w.options.rounds (slice_get (after w s (A c)).calls c) + 1 ≤ left w.options.rounds (slice_get s.calls c)
 one_taken w s c h = by (slice_get s.calls c) refl h
@@ -82,7 +78,7 @@ one_taken w s c h = by (slice_get s.calls c) refl h
     by (Some l) e g =
         let room = less l (allowed (not l.done) (not (w.read_only c)) (not (is_stale s l)) (is_hit w s c l) (has_round w l) g) in
         let more = more_turns (length s.order) Plain l in
-        let it = get_set s.calls c l (again (length s.order) Plain l) e in
+        let it = set_there s.calls c (again (length s.order) Plain l) l e in
         subst (λ o. left w.options.rounds o + 1 ≤ (w.options.rounds + 1) - length l.turns) (sym it) (omega (arith, room, more))
 
 no_more : (w : Work) (s : Course) (e : Event) (c : ℕ) → left w.options.rounds (slice_get (after w s e).calls c) ≤ left w.options.rounds (slice_get s.calls c)

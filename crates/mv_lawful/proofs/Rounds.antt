@@ -17,7 +17,8 @@ use Rattle.mv_lawful.specs.Lawful.{Live, Course, beginning, change_live, begin, 
 use Rattle.mv_lawful.specs.Rounds.{is_round, IsPast, MayMove, IsBounded}
 use Rattle.mv_lawful.specs.Laws.{RoundsAreCounted}
 use Rattle.mv_lawful.proofs.Lows.{stale_is_past}
-use Rattle.mv_lawful.proofs.Repairs.{get_set, more_turns}
+use Rattle.mv_lawful.proofs.Lists.{set_there}
+use Rattle.mv_lawful.proofs.Repairs.{more_turns}
 use Rattle.mv_lawful.proofs.Turns.{moves_join}
 
 -- The count
@@ -72,7 +73,7 @@ counts_again ls c n k mark there h = by (slice_get ls c) refl h
     by : (o : Option Live) → slice_get ls c ≡ o → Counts o k → Counts (slice_get (change_live o (again n mark) ls c) c) (k + 1)
     by None e g = absurd (there e)
     by (Some l) e g =
-        subst (λ o. Counts o (k + 1)) (sym (get_set ls c l (again n mark l) e))
+        subst (λ o. Counts o (k + 1)) (sym (set_there ls c (again n mark l) l e))
         (λ d. let many = g d in let more = more_turns n mark l in omega (arith, many, more))
 
 -- an event that is no round of the call

@@ -6,6 +6,7 @@ use Rattle.std.specs.Option.{option_map}
 use Rattle.std.proofs.lemmas.List.Elements.{All-nil, All-cons}
 use Rattle.std.proofs.lemmas.Option.{slice_get_within}
 use Rattle.std.proofs.lemmas.Bool.{eqb-true, both_ways, eq-eqb, ne_eqb}
+use Rattle.std.proofs.lemmas.List.{length-set}
 use Rattle.mv_journal.specs.declared.event.Event.{Event}
 use Rattle.mv_journal.specs.declared.event.Event.TheVariants.{B, S, A, M, C, X, R, G}
 use Rattle.mv_journal.specs.declared.outcome.Mark.{Mark}
@@ -17,6 +18,7 @@ use Rattle.mv_lawful.specs.Work.{Work}
 use Rattle.mv_lawful.specs.Lawful.{Turn, Live, Course, beginning, change_live, begin, again, finish, is_stale, unless, of_live, refusal, after, reach, first_open, open_call, wrong_from, Lawful}
 use Rattle.mv_lawful.specs.Laws.{first_start, IsOfCalls}
 use Rattle.mv_lawful.specs.Rounds.{WithinRounds, last_turn}
+use Rattle.mv_lawful.proofs.Lists.{get_last, get_set}
 use Rattle.mv_lawful.proofs.Numbers.{within_more, within_end, last_end}
 use Rattle.mv_lawful.proofs.Repairs.{first_allowed}
 
@@ -74,16 +76,6 @@ contains_it c (d ∷ cs) h = by (d == c) refl h (contains_it c cs)
     by true e h go = (zero, omega arith, eqb-true d c e)
     by false e h go = later (go h)
 
-get_end : (cs : List ℕ) (c k x : ℕ) → slice_get (cs ++ c ∷ []) k ≡ Some x → (slice_get cs k ≡ Some x) ⊎ ((k ≡ length cs) × (c ≡ x))
-get_end [] c zero x is = let same : c ≡ x = cc in inr (refl, same)
-get_end [] c (suc k) x is = cc
-get_end (d ∷ cs) c zero x is = inl is
-get_end (d ∷ cs) c (suc k) x is = by (get_end cs c k x is)
-  where
-    by : (slice_get cs k ≡ Some x) ⊎ ((k ≡ length cs) × (c ≡ x)) → (slice_get cs k ≡ Some x) ⊎ ((suc k ≡ suc (length cs)) × (c ≡ x))
-    by (inl h) = inl h
-    by (inr h) = inr (ap suc h.0, h.1)
-
 -- each once
 abbrev pub Once : List ℕ → Type 0
 Once [] = Unit {0}
@@ -98,32 +90,6 @@ once_more (d ∷ cs) c h k = by (d == c) refl k (once_more cs c h.1)
     by false e k go = (stands_other d c cs (λ same. both_ways (d == c) e (subst (λ x. (d == x) ≡ true) (sym same) (eq-eqb d d refl))) ∙ h.0, go k)
 
 -- Calls
-
-get_cases : (ls : List Live) (c d : ℕ) (m x : Live) → slice_get (slice_set ls c m) d ≡ Some x → ((d ≡ c) × (m ≡ x)) ⊎ ((d ≡ c → ⊥) × (slice_get ls d ≡ Some x))
-get_cases [] c d m x is = cc
-get_cases (y ∷ ls) zero zero m x is = let same : m ≡ x = cc in inl (refl, same)
-get_cases (y ∷ ls) zero (suc d) m x is = inr ((λ e. omega (arith, e)), is)
-get_cases (y ∷ ls) (suc c) zero m x is = inr ((λ e. omega (arith, e)), is)
-get_cases (y ∷ ls) (suc c) (suc d) m x is = by (get_cases ls c d m x is)
-  where
-    by : ((d ≡ c) × (m ≡ x)) ⊎ ((d ≡ c → ⊥) × (slice_get ls d ≡ Some x)) → ((suc d ≡ suc c) × (m ≡ x)) ⊎ ((suc d ≡ suc c → ⊥) × (slice_get ls d ≡ Some x))
-    by (inl h) = inl (ap suc h.0, h.1)
-    by (inr h) = inr ((λ e. h.0 (omega (arith, e))), h.1)
-
-get_last : (ls : List Live) (l : Live) (d : ℕ) (x : Live) → slice_get (ls ++ l ∷ []) d ≡ Some x → (slice_get ls d ≡ Some x) ⊎ ((d ≡ length ls) × (l ≡ x))
-get_last [] l zero x is = let same : l ≡ x = cc in inr (refl, same)
-get_last [] l (suc d) x is = cc
-get_last (y ∷ ls) l zero x is = inl is
-get_last (y ∷ ls) l (suc d) x is = by (get_last ls l d x is)
-  where
-    by : (slice_get ls d ≡ Some x) ⊎ ((d ≡ length ls) × (l ≡ x)) → (slice_get ls d ≡ Some x) ⊎ ((suc d ≡ suc (length ls)) × (l ≡ x))
-    by (inl h) = inl h
-    by (inr h) = inr (ap suc h.0, h.1)
-
-same_length : (ls : List Live) (c : ℕ) (m : Live) → length (slice_set ls c m) ≡ length ls
-same_length [] c m = refl
-same_length (y ∷ ls) zero m = refl
-same_length (y ∷ ls) (suc c) m = ap suc (same_length ls c m)
 
 -- a call that is live
 record LiveAt (ls : List Live) (c : ℕ) : Type 0 where
@@ -192,14 +158,14 @@ or_true false b h = h
 changed : (w : Work) (order answered : List ℕ) (calls : List Live) (c : ℕ) (l m : Live) → Orderly w order answered calls → slice_get calls c ≡ Some l → l.done ≡ false → m.done ≡ false → StartsIn (length order) m
     → Orderly w order answered (slice_set calls c m)
 changed w order answered calls c l m o is live still low = record {
-  count = let n = same_length calls c m in let k = o.count in omega (arith, n, k);
+  count = let n = length-set calls c m in let k = o.count in omega (arith, n, k);
   once = o.once;
   replied = o.replied;
   apart = o.apart;
-  done = λ d x got. done_by d x (get_cases calls c d m x got);
-  within = λ d past. o.within d (let n = same_length calls c m in omega (arith, n, past));
-  starts = λ d x got. starts_by d x (get_cases calls c d m x got);
-  after_begin = λ k d x at got. begin_by k d x at (get_cases calls c d m x got);
+  done = λ d x got. done_by d x (get_set calls c d m x got);
+  within = λ d past. o.within d (let n = length-set calls c m in omega (arith, n, past));
+  starts = λ d x got. starts_by d x (get_set calls c d m x got);
+  after_begin = λ k d x at got. begin_by k d x at (get_set calls c d m x got);
   readers = o.readers;
 }
   where
@@ -222,14 +188,14 @@ changed w order answered calls c l m o is live still low = record {
 committed : (w : Work) (order answered : List ℕ) (calls : List Live) (c : ℕ) (l m : Live) → Orderly w order answered calls → slice_get calls c ≡ Some l → l.done ≡ false → m.done ≡ true → StartsIn (length order) m
     → Orderly w (order ++ c ∷ []) answered (slice_set calls c m)
 committed w order answered calls c l m o is live finished low = record {
-  count = let n = same_length calls c m in let k = o.count in omega (arith, n, k);
+  count = let n = length-set calls c m in let k = o.count in omega (arith, n, k);
   once = once_more order c o.once away;
   replied = o.replied;
   apart = λ d there. apart_by d (d == c) refl there;
-  done = λ d x got. done_by d x (get_cases calls c d m x got);
-  within = λ d past. within_by d (let n = same_length calls c m in omega (arith, n, past));
-  starts = λ d x got. starts_later (length order) (length (order ++ c ∷ [])) x (let n = longer in omega (arith, n)) (starts_by d x (get_cases calls c d m x got));
-  after_begin = λ k d x at got. begin_by k d x (get_end order c k d at) (get_cases calls c d m x got);
+  done = λ d x got. done_by d x (get_set calls c d m x got);
+  within = λ d past. within_by d (let n = length-set calls c m in omega (arith, n, past));
+  starts = λ d x got. starts_later (length order) (length (order ++ c ∷ [])) x (let n = longer in omega (arith, n)) (starts_by d x (get_set calls c d m x got));
+  after_begin = λ k d x at got. begin_by k d x (get_last order c k d at) (get_set calls c d m x got);
   readers = o.readers;
 }
   where
@@ -275,14 +241,14 @@ committed w order answered calls c l m o is live finished low = record {
 replied : (w : Work) (order answered : List ℕ) (calls : List Live) (c : ℕ) (l m : Live) → Orderly w order answered calls → slice_get calls c ≡ Some l → l.done ≡ false → m.done ≡ true → StartsIn (length order) m
     → w.read_only c ≡ true → Orderly w order (answered ++ c ∷ []) (slice_set calls c m)
 replied w order answered calls c l m o is live finished low reads = record {
-  count = let n = same_length calls c m in let k = o.count in omega (arith, n, k);
+  count = let n = length-set calls c m in let k = o.count in omega (arith, n, k);
   once = o.once;
   replied = once_more answered c o.replied away;
   apart = λ d there. apart_by d (d == c) refl there;
-  done = λ d x got. done_by d x (get_cases calls c d m x got);
-  within = λ d past. within_by d (let n = same_length calls c m in omega (arith, n, past));
-  starts = λ d x got. starts_by d x (get_cases calls c d m x got);
-  after_begin = λ k d x at got. begin_by k d x at (get_cases calls c d m x got);
+  done = λ d x got. done_by d x (get_set calls c d m x got);
+  within = λ d past. within_by d (let n = length-set calls c m in omega (arith, n, past));
+  starts = λ d x got. starts_by d x (get_set calls c d m x got);
+  after_begin = λ k d x at got. begin_by k d x at (get_set calls c d m x got);
   readers = λ d there. readers_by d (d == c) refl there;
 }
   where

@@ -24,11 +24,12 @@ use Rattle.mv_lawful.specs.Rounds.{WithinRounds, last_turn, last_turn_or, unless
 use Rattle.mv_lawful.specs.Outcomes.{commits_before, reply_in, reply_after, turns_of, history_line}
 use Rattle.mv_lawful.specs.Laws.{IsSerial}
 use Rattle.mv_lawful.specs.Serializable.{begins_in, commits_in, ends_in, order_of, commits_of, commits_to, IsPlaced, start_of, LawfulIsSerializable}
+use Rattle.mv_lawful.proofs.Lists.{get_front, get_below, get_end, set_there, set_apart}
 use Rattle.mv_lawful.proofs.Numbers.{last_is_or}
 use Rattle.mv_lawful.proofs.Placing.{is_commit, commits_to_place, StandsBy, place_at, commits_are, readers, tables_standing, all_commits, place_of, ended_at, standing_below, start_at, serial_of}
 use Rattle.mv_lawful.proofs.Repairs.{first_allowed}
 use Rattle.mv_lawful.proofs.Serial.{stands, stands_same, stands_at, contains_it, Once, OrderlyAt, Ended, orderly_after, ended_from, all_done, at_beginning, next_below}
-use Rattle.mv_lawful.proofs.Turns.{length_numbers, at_end}
+use Rattle.mv_lawful.proofs.Turns.{length_numbers}
 
 -- The place of a call
 
@@ -52,24 +53,13 @@ position_is cs c k o is = ap (λ b. cond b (Some (position_or_len (λ d. d == c)
 
 -- Replies
 
-number_front : (cs : List ℕ) (n k : ℕ) → k < length cs → slice_get (cs ++ n ∷ []) k ≡ slice_get cs k
-number_front [] n k lt = absurd (omega (arith, lt))
-number_front (c ∷ cs) n zero lt = refl
-number_front (c ∷ cs) n (suc k) lt = number_front cs n k (omega (arith, lt))
-
-number_end : (cs : List ℕ) (n k : ℕ) → length cs ≡ k → slice_get (cs ++ n ∷ []) k ≡ Some n
-number_end [] n zero h = refl
-number_end [] n (suc k) h = absurd (omega (arith, h))
-number_end (c ∷ cs) n zero h = absurd (omega (arith, h))
-number_end (c ∷ cs) n (suc k) h = number_end cs n k (omega (arith, h))
-
 pub number_at : (n c : ℕ) → c < n → slice_get (first_numbers n) c ≡ Some c
 number_at zero c lt = absurd (omega (arith, lt))
 number_at (suc n) c lt =
     let long = length_numbers n in
     elim (cases_lt c n) [
-      | inl less ↦ number_front (first_numbers n) n c (omega (arith, long, less)) ∙ number_at n c less
-      | inr past ↦ (let same : c ≡ n = omega (arith, past, lt) in subst (λ k. slice_get (first_numbers n ++ n ∷ []) k ≡ Some k) (sym same) (number_end (first_numbers n) n n long))
+      | inl less ↦ get_below (first_numbers n) n c (omega (arith, long, less)) ∙ number_at n c less
+      | inr past ↦ (let same : c ≡ n = omega (arith, past, lt) in subst (λ k. slice_get (first_numbers n ++ n ∷ []) k ≡ Some k) (sym same) (get_end (first_numbers n) n n (sym long)))
     ]
 
 -- the reply of a call after so many commits
@@ -277,18 +267,6 @@ KeepsFirst f = (l : Live) (t : Turn) (ts : List Turn) → l.turns ≡ t ∷ ts �
 keeps_again : (n : ℕ) (mark : Mark) → KeepsFirst (again n mark)
 keeps_again n mark l t ts is = (ts ++ record { start = n; mark = mark } ∷ [], ap (λ (us : List Turn). us ++ record { start = n; mark = mark } ∷ []) is)
 
-set_same : (ls : List Live) (d : ℕ) (m x : Live) → slice_get ls d ≡ Some m → slice_get (slice_set ls d x) d ≡ Some x
-set_same [] d m x is = cc
-set_same (l ∷ ls) zero m x is = refl
-set_same (l ∷ ls) (suc d) m x is = set_same ls d m x is
-
-set_other : (ls : List Live) (d c : ℕ) (x : Live) → (c ≡ d → ⊥) → slice_get (slice_set ls d x) c ≡ slice_get ls c
-set_other [] d c x ne = refl
-set_other (l ∷ ls) zero zero x ne = absurd (ne refl)
-set_other (l ∷ ls) zero (suc c) x ne = refl
-set_other (l ∷ ls) (suc d) zero x ne = refl
-set_other (l ∷ ls) (suc d) (suc c) x ne = set_other ls d c x (λ e. ne (ap suc e))
-
 began_changed : (n : ℕ) (ls : List Live) (c d : ℕ) (f : Live → Live) → KeepsFirst f → BeganAt n ls c → BeganAt n (change_live (slice_get ls d) f ls d) c
 began_changed n ls c d f keeps b = by (slice_get ls d) refl
   where
@@ -297,20 +275,15 @@ began_changed n ls c d f keeps b = by (slice_get ls d) refl
         let same : c ≡ d = eqb-true c d e in
         let one : b.l ≡ m = same_Some b.l m (sym b.is ∙ (ap (slice_get ls) same ∙ at)) in
         let kept = keeps m (record { start = n; mark = Plain }) b.later (subst (λ (x : Live). x.turns ≡ record { start = n; mark = Plain } ∷ b.later) one b.turns) in
-        record { l = f m; is = ap (slice_get (slice_set ls d (f m))) same ∙ set_same ls d m (f m) at; later = kept.0; turns = kept.1 }
-    set m false e at = record { l = b.l; is = set_other ls d c (f m) (λ same. both_ways (c == d) e (eq-eqb c d same)) ∙ b.is; later = b.later; turns = b.turns }
+        record { l = f m; is = ap (slice_get (slice_set ls d (f m))) same ∙ set_there ls d (f m) m at; later = kept.0; turns = kept.1 }
+    set m false e at = record { l = b.l; is = set_apart ls d c (f m) (λ same. both_ways (c == d) e (eq-eqb c d same)) ∙ b.is; later = b.later; turns = b.turns }
 
     by : (o : Option Live) → slice_get ls d ≡ o → BeganAt n (change_live o f ls d) c
     by None at = b
     by (Some m) at = set m (c == d) refl at
 
-pushed : (ls : List Live) (x l : Live) (c : ℕ) → slice_get ls c ≡ Some l → slice_get (ls ++ x ∷ []) c ≡ Some l
-pushed [] x l c is = cc
-pushed (y ∷ ls) x l zero is = is
-pushed (y ∷ ls) x l (suc c) is = pushed ls x l c is
-
 began_after : (w : Work) (s : Course) (e : Event) (n c : ℕ) → BeganAt n s.calls c → BeganAt n (after w s e).calls c
-began_after w s (B d) n c b = record { l = b.l; is = pushed s.calls (begin (length s.order)) b.l c b.is; later = b.later; turns = b.turns }
+began_after w s (B d) n c b = record { l = b.l; is = get_front s.calls (begin (length s.order)) c b.l b.is; later = b.later; turns = b.turns }
 began_after w s (S d) n c b = began_changed n s.calls c d (λ l. record l { steps = l.steps + 1 }) (λ l t ts is. (ts, is)) b
 began_after w s (A d) n c b = began_changed n s.calls c d (again (length s.order) Plain) (keeps_again (length s.order) Plain) b
 began_after w s (M d) n c b = began_changed n s.calls c d (again (length s.order) Moved) (keeps_again (length s.order) Moved) b
@@ -374,7 +347,7 @@ begun_by_events w before later c free ended = record {
     there : BeganAt (length (commits_in before)) (after w mid (B c)).calls c
     there = record {
       l = begin (length (commits_in before));
-      is = at_end mid.calls (begin (length mid.order)) c (sym next) ∙ ap (λ (cs : List ℕ). Some (begin (length cs))) early;
+      is = get_end mid.calls (begin (length mid.order)) c next ∙ ap (λ (cs : List ℕ). Some (begin (length cs))) early;
       later = [];
       turns = refl;
     }
@@ -406,7 +379,7 @@ rounds_at w s c l is = ap (λ (o : Option Live). rounds_of w s.order c (turns_of
 -- a call that is live changes, and no other
 kept_set : (ls : List Live) (d c : ℕ) (l m x : Live) → slice_get ls c ≡ Some l → l.done ≡ true → slice_get ls d ≡ Some m → m.done ≡ false → slice_get (slice_set ls d x) c ≡ Some l
 kept_set ls d c l m x is done at live =
-    set_other ls d c x (λ same. both_ways m.done live (ap (λ (y : Live). y.done) (same_Some m l (sym at ∙ (ap (slice_get ls) (sym same) ∙ is))) ∙ done)) ∙ is
+    set_apart ls d c x (λ same. both_ways m.done live (ap (λ (y : Live). y.done) (same_Some m l (sym at ∙ (ap (slice_get ls) (sym same) ∙ is))) ∙ done)) ∙ is
 
 kept_call : (ls : List Live) (d c : ℕ) (l : Live) (f : Live → Live) (g : Live → Option Fault) → slice_get ls c ≡ Some l → l.done ≡ true → of_live (slice_get ls d) g ≡ None
     → slice_get (change_live (slice_get ls d) f ls d) c ≡ Some l
@@ -422,7 +395,7 @@ kept_call ls d c l f g is done free = by (slice_get ls d) refl free
 
 -- a call that is done stays as it is
 done_after : (w : Work) (s : Course) (e : Event) (c : ℕ) (l : Live) → refusal w s e ≡ None → slice_get s.calls c ≡ Some l → l.done ≡ true → slice_get (after w s e).calls c ≡ Some l
-done_after w s (B d) c l free is done = pushed s.calls (begin (length s.order)) l c is
+done_after w s (B d) c l free is done = get_front s.calls (begin (length s.order)) c l is
 done_after w s (S d) c l free is done = kept_call s.calls d c l _ _ is done free
 done_after w s (A d) c l free is done = kept_call s.calls d c l _ _ is done free
 done_after w s (M d) c l free is done = kept_call s.calls d c l _ _ is done free
@@ -473,7 +446,7 @@ answered_by_events w before later c free =
     }
       where
         now : slice_get (after w mid (R c)).calls c ≡ Some (finish l)
-        now = ap (λ (o : Option Live). slice_get (change_live o finish mid.calls c) c) is ∙ set_same mid.calls c l (finish l) is
+        now = ap (λ (o : Option Live). slice_get (change_live o finish mid.calls c) c) is ∙ set_there mid.calls c (finish l) l is
 
         there : slice_get (reach w (after w mid (R c)) later).calls c ≡ Some (finish l)
         there = done_reach w (after w mid (R c)) later c (finish l) both.1.1 now refl

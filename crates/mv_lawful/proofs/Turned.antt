@@ -1,19 +1,20 @@
 -- The journal of one worker has the call order.
-use Rattle.std.proofs.Common.{◌≡◌, ◌≤◌, ◌<◌, ℕ, zero, suc, ◌+◌, Bool, true, false, cond, List, [], ◌∷◌, ◌++◌, Some, None, map, length, refl, sym, ap, subst, ◌∙◌, arith, append-nil, append_assoc, length-append}
-use Rattle.std.specs.Prelude.{◌==◌, slice_get}
+use Rattle.std.proofs.Common.{◌≡◌, ◌≤◌, ◌<◌, ℕ, zero, suc, ◌+◌, Bool, true, false, cond, List, [], ◌∷◌, ◌++◌, map, length, refl, sym, ap, subst, ◌∙◌, arith, append-nil, append_assoc, length-append}
+use Rattle.std.specs.Prelude.{◌==◌}
 use Rattle.std.specs.List.{filter}
 use Rattle.std.proofs.lemmas.Bool.{eq-eqb, ne_eqb}
 use Rattle.std.proofs.lemmas.List.Elements.{filter-append}
 use Rattle.mv_values.specs.Counts.{first_numbers}
 use Rattle.mv_lawful.specs.Work.{Work}
-use Rattle.mv_lawful.specs.Lawful.{Live, Course, beginning, begin, finish, reach, open_call}
+use Rattle.mv_lawful.specs.Lawful.{Live, Course, beginning, begin, finish, open_call}
 use Rattle.mv_lawful.specs.declared.fault.Wrong.TheVariants.{Open}
-use Rattle.mv_lawful.specs.Places.{Place, start_by, start_in, answered_at, answer_place, places_from, calls_at, standing}
+use Rattle.mv_lawful.specs.Places.{start_by, start_in, answered_at, answer_place, places_from, calls_at, standing}
 use Rattle.mv_lawful.specs.Outcomes.{in_turn}
 use Rattle.mv_lawful.specs.Laws.{IsInTurn}
 use Rattle.std.specs.Option.{option_map}
 use Rattle.mv_lawful.proofs.Placing.{plain, calls_more}
-use Rattle.mv_lawful.proofs.Turns.{more_commits, more_answers, commits_of, answers_of, done_calls, length_calls, at_end, get_front, turned, turns_reach, turns_free, turns_late, no_rounds, only_open, closed}
+use Rattle.mv_lawful.proofs.Lists.{get_below, get_end}
+use Rattle.mv_lawful.proofs.Turns.{more_commits, more_answers, commits_of, answers_of, done_calls, length_calls, turned, turns_reach, turns_free, turns_late, no_rounds, only_open, closed}
 
 -- Answered calls
 
@@ -24,10 +25,10 @@ Before ls n most (c ∷ cs) = ((c < n) × (start_in ls c ≤ most)) × Before ls
 
 -- a call more leaves the starts of the others as they are
 front_start : (ls : List Live) (x : Live) (c : ℕ) → c < length ls → start_in (ls ++ x ∷ []) c ≡ start_in ls c
-front_start ls x c less = ap start_by (get_front ls x c less)
+front_start ls x c less = ap start_by (get_below ls x c less)
 
 last_start_is : (ls : List Live) (x : Live) (n : ℕ) → length ls ≡ n → start_in (ls ++ x ∷ []) n ≡ x.start
-last_start_is ls x n is = ap start_by (at_end ls x n is)
+last_start_is ls x n is = ap start_by (get_end ls x n (sym is))
 
 front_answered : (ls : List Live) (x : Live) (n most k : ℕ) (cs : List ℕ) → length ls ≡ n → Before ls n most cs → filter (λ c. start_in (ls ++ x ∷ []) c == k) cs ≡ filter (λ c. start_in ls c == k) cs
 front_answered ls x n most k [] is h = refl

@@ -11,7 +11,7 @@ use Rattle.mv_values.specs.Tables.{Tables}
 use Rattle.mv_values.specs.Counts.{first_numbers}
 use Rattle.mv_record.specs.declared.record.Record.{Record}
 use Rattle.mv_journal.specs.declared.event.Event.{Event}
-use Rattle.mv_journal.specs.declared.event.Event.TheVariants.{B, C, R}
+use Rattle.mv_journal.specs.declared.event.Event.TheVariants.{B}
 use Rattle.mv_history.specs.declared.change.Change.{Change}
 use Rattle.mv_history.specs.Hits.{first_hit}
 use Rattle.mv_lawful.specs.declared.fault.Fault.TheVariants.{Order, Kind, Stale, Conflict}
@@ -20,6 +20,7 @@ use Rattle.mv_lawful.specs.Work.{Work, tables_after, changes_after, since, hit_o
 use Rattle.mv_lawful.specs.Lawful.{Live, Course, beginning, change_live, begin, finish, unless, of_live, refusal, after, reach, first_open, open_call, or_refused, wrong_from, AllAllowed}
 use Rattle.mv_lawful.specs.Rounds.{is_round, MovesLate}
 use Rattle.mv_lawful.specs.Outcomes.{ending, turn, in_turn}
+use Rattle.mv_lawful.proofs.Lists.{get_end}
 
 -- Journals one after another
 
@@ -75,12 +76,6 @@ pub length_calls : (w : Work) (n : ℕ) → length (done_calls w n) ≡ n
 length_calls w zero = refl
 length_calls w (suc n) = let l = length-append (done_calls w n) (finish (begin (length (commits_of w n))) ∷ []) in let k = length_calls w n in omega (arith, l, k)
 
-pub at_end : (ls : List Live) (l : Live) (k : ℕ) → length ls ≡ k → slice_get (ls ++ l ∷ []) k ≡ Some l
-at_end [] l zero h = refl
-at_end [] l (suc k) h = absurd (omega (arith, h))
-at_end (x ∷ ls) l zero h = absurd (omega (arith, h))
-at_end (x ∷ ls) l (suc k) h = at_end ls l k (omega (arith, h))
-
 set_end : (ls : List Live) (l m : Live) (k : ℕ) → length ls ≡ k → slice_set (ls ++ l ∷ []) k m ≡ ls ++ m ∷ []
 set_end [] l m zero h = refl
 set_end [] l m (suc k) h = absurd (omega (arith, h))
@@ -130,11 +125,6 @@ pub tables_more : (w : Work) (db : Tables) (cs : List ℕ) (c : ℕ) → tables_
 tables_more w db [] c = refl
 tables_more w db (d ∷ cs) c = tables_more w (w.run d db).tables cs c
 
-pub get_front : (ls : List Live) (l : Live) (k : ℕ) → k < length ls → slice_get (ls ++ l ∷ []) k ≡ slice_get ls k
-get_front [] l k h = absurd (omega (arith, h))
-get_front (x ∷ ls) l zero h = refl
-get_front (x ∷ ls) l (suc k) h = get_front ls l k (omega (arith, h))
-
 abbrev pub course : List ℕ → List ℕ → List Live → Course
 course order answered calls = record { order = order; calls = calls; low = 0; answered = answered }
 
@@ -158,18 +148,18 @@ begin_free w n less = ap (λ b. unless (b && nat_lt n w.count) Order None) next 
 -- the event that ends the call is allowed
 end_free : (w : Work) (n : ℕ) (b : Bool) → w.read_only n ≡ b → refusal w (one_live w n) (ending b n) ≡ None
 end_free w n true reads =
-    ap (λ o. of_live o (λ l. unless (w.read_only n) Kind (unless (not (nat_lt l.start 0)) Stale None))) (at_end (done_calls w n) (begin (length (commits_of w n))) n (length_calls w n))
+    ap (λ o. of_live o (λ l. unless (w.read_only n) Kind (unless (not (nat_lt l.start 0)) Stale None))) (get_end (done_calls w n) (begin (length (commits_of w n))) n (sym (length_calls w n)))
     ∙ (ap (λ b. unless b Kind (unless (not (nat_lt (length (commits_of w n)) 0)) Stale None)) reads ∙ ap (λ b. unless (not b) Stale None) (le-ltb (length (commits_of w n)) 0 (omega arith)))
 end_free w n false reads =
     let order = commits_of w n in
-    ap (λ o. of_live o (λ l. unless (not (w.read_only n)) Kind (unless (not (nat_lt l.start 0)) Stale (unless (not (is_some (hit_of w order l.start n))) Conflict None)))) (at_end (done_calls w n) (begin (length order)) n (length_calls w n))
+    ap (λ o. of_live o (λ l. unless (not (w.read_only n)) Kind (unless (not (nat_lt l.start 0)) Stale (unless (not (is_some (hit_of w order l.start n))) Conflict None)))) (get_end (done_calls w n) (begin (length order)) n (sym (length_calls w n)))
     ∙ (ap (λ b. unless (not b) Kind (unless (not (nat_lt (length order) 0)) Stale (unless (not (is_some (hit_of w order (length order) n))) Conflict None))) reads
     ∙ (ap (λ b. unless (not b) Stale (unless (not (is_some (hit_of w order (length order) n))) Conflict None)) (le-ltb (length order) 0 (omega arith)) ∙ ap (λ h. unless (not (is_some h)) Conflict None) (no_hit w order n)))
 
 finished : (w : Work) (n : ℕ) → change_live (slice_get (done_calls w n ++ begin (length (commits_of w n)) ∷ []) n) finish (done_calls w n ++ begin (length (commits_of w n)) ∷ []) n ≡ done_calls w (suc n)
 finished w n =
     let l : Live = begin (length (commits_of w n)) in
-    ap (λ o. change_live o finish (done_calls w n ++ l ∷ []) n) (at_end (done_calls w n) l n (length_calls w n)) ∙ set_end (done_calls w n) l (finish l) n (length_calls w n)
+    ap (λ o. change_live o finish (done_calls w n ++ l ∷ []) n) (get_end (done_calls w n) l n (sym (length_calls w n))) ∙ set_end (done_calls w n) l (finish l) n (length_calls w n)
 
 end_done : (w : Work) (n : ℕ) (b : Bool) → w.read_only n ≡ b → after w (one_live w n) (ending b n) ≡ turned w (suc n)
 end_done w n true reads =

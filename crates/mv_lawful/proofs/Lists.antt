@@ -1,10 +1,8 @@
--- Lists, and the commits before a call.
-use Rattle.std.proofs.Common.{◌≡◌, ◌⊎◌, inl, inr, ℕ, zero, suc, ◌+◌, ◌-◌, ◌<◌, true, false, List, [], ◌∷◌, ◌++◌, Option, Some, None, length, slice_set, refl, ap, subst, arith, rules}
-use Rattle.std.specs.Prelude.{◌↔◌, IsSome, slice_get, option_to_list}
-use Rattle.mv_journal.specs.declared.outcome.Round.{Round}
-use Rattle.mv_lawful.specs.Rounds.{round, numbered}
+-- What is at a place of a list, where one more item comes or one is set.
+use Rattle.std.proofs.Common.{◌≡◌, ◌⊎◌, inl, inr, ℕ, zero, suc, ◌<◌, List, [], ◌∷◌, ◌++◌, Some, length, slice_set, refl, ap, arith, rules}
+use Rattle.std.specs.Prelude.{slice_get}
 
--- Lists
+-- One more item
 
 pub get_last : {A : Type 0} (xs : List A) (y : A) (c : ℕ) (x : A) → slice_get (xs ++ y ∷ []) c ≡ Some x → (slice_get xs c ≡ Some x) ⊎ ((c ≡ length xs) × (y ≡ x))
 get_last [] y zero x is = let same : y ≡ x = search (rules, is) in inr (refl, same)
@@ -19,6 +17,19 @@ pub get_front : {A : Type 0} (xs : List A) (y : A) (c : ℕ) (x : A) → slice_g
 get_front [] y c x is = absurd (search (rules, is))
 get_front (z ∷ xs) y zero x is = is
 get_front (z ∷ xs) y (suc c) x is = get_front xs y c x is
+
+pub get_below : {A : Type 0} (xs : List A) (y : A) (k : ℕ) → k < length xs → slice_get (xs ++ y ∷ []) k ≡ slice_get xs k
+get_below [] y k h = absurd (omega (arith, h))
+get_below (x ∷ xs) y zero h = refl
+get_below (x ∷ xs) y (suc k) h = get_below xs y k (omega (arith, h))
+
+pub get_end : {A : Type 0} (xs : List A) (y : A) (n : ℕ) → n ≡ length xs → slice_get (xs ++ y ∷ []) n ≡ Some y
+get_end [] y zero is = refl
+get_end [] y (suc n) is = absurd (omega (arith, is))
+get_end (x ∷ xs) y zero is = absurd (omega (arith, is))
+get_end (x ∷ xs) y (suc n) is = get_end xs y n (omega (arith, is))
+
+-- An item that is set
 
 pub get_set : {A : Type 0} (xs : List A) (c d : ℕ) (m x : A) → slice_get (slice_set xs c m) d ≡ Some x → ((d ≡ c) × (m ≡ x)) ⊎ ((d ≡ c → ⊥) × (slice_get xs d ≡ Some x))
 get_set [] c d m x is = absurd (search (rules, is))
@@ -41,9 +52,3 @@ set_apart (y ∷ xs) zero zero m ne = absurd (ne refl)
 set_apart (y ∷ xs) zero (suc d) m ne = refl
 set_apart (y ∷ xs) (suc c) zero m ne = refl
 set_apart (y ∷ xs) (suc c) (suc d) m ne = set_apart xs c d m (λ e. ne (ap suc e))
-
--- Rounds without their last number: where no last round is found there is none
-pub unnumbered_none : (old new : List Round) (o : Option Round) → old ≡ new ++ option_to_list o → o ≡ None → IsSome o ↔ (0 < length old) → new ≡ numbered None old
-unnumbered_none [] [] o is none found = refl
-unnumbered_none [] (x ∷ xs) o is none found = cc
-unnumbered_none (r ∷ rs) new o is none found = let some : false ≡ true = subst IsSome none (found.1 (omega arith)) in absurd (search (rules, some))
