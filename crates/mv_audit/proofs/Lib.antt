@@ -1,5 +1,4 @@
 pub mod Bytes
-pub mod Columns
 pub mod Comparing
 pub mod Coursing
 pub mod Dropping

@@ -5,7 +5,7 @@ use Rattle.std.specs.Ordering.{is_eq}
 use Rattle.mv_values.specs.declared.pred.Test.{Test}
 use Rattle.mv_values.specs.Columns.{column_of}
 use Rattle.mv_values.specs.Order.{value_order}
-use Rattle.mv_audit.proofs.Columns.{names_same}
+use Rattle.mv_changes.proofs.Comparing.{names_same}
 use Rattle.mv_audit.proofs.hit.names_same.Goals as goal
 
 pub returns-then-selects_same : goal.returns-then-selects_same
