@@ -1,31 +1,16 @@
 -- The lines of events are read as these events.
-use Rattle.std.proofs.Common.{◌≡◌, ◌<◌, ℕ, Bool, true, false, List, [], ◌∷◌, Option, Some, None, All, map, refl, ap, subst, ◌∙◌, arith, if◌then◌else◌}
-use Rattle.std.specs.Prelude.{decimal, ◌^◌}
+use Rattle.std.proofs.Common.{◌≡◌, ℕ, Bool, true, false, List, [], ◌∷◌, Option, Some, None, All, map, refl, ap, subst, ◌∙◌, if◌then◌else◌}
 use Rattle.std.specs.Option.{option_and_then}
-use Rattle.std.proofs.lemmas.Fmt.{decimal_is_IsNumeral}
 use Rattle.std.proofs.lemmas.List.Elements.{All-head, All-tail}
 use Rattle.std.proofs.lemmas.Option.{same_Some}
 use Rattle.mv_journal.specs.declared.event.Event.{Event}
 use Rattle.mv_journal.specs.declared.event.Event.TheVariants.{B, S, A, M, C, X, R, G}
 use Rattle.mv_journal.specs.Events.{event_text, IsInRange}
-use Rattle.mv_journal.specs.Lines.{IsNumber, IsEventLine}
 use Rattle.mv_journal.specs.Reading.{event_in}
+use Rattle.mv_journal.proofs.Lines.{written_is}
 use Rattle.mv_journal.proofs.Reading.{found}
 use Rattle.mv_lawful.specs.Outcomes.{has_line, shown}
 use Rattle.mv_audit.specs.Verdicts.{shown_event, leading, events_of}
-
-is_number : (call : ℕ) → call < 2 ^ 32 → IsNumber (decimal call) call
-is_number call small = let d = decimal_is_IsNumeral call (omega arith) in (d.0, d.1, small)
-
-written_is : (e : Event) → IsInRange e → IsEventLine (event_text e) e
-written_is (B call) small = (decimal call, refl, is_number call small)
-written_is (S call) small = (decimal call, refl, is_number call small)
-written_is (A call) small = (decimal call, refl, is_number call small)
-written_is (M call) small = (decimal call, refl, is_number call small)
-written_is (C call) small = (decimal call, refl, is_number call small)
-written_is (X call) small = (decimal call, refl, is_number call small)
-written_is (R call) small = (decimal call, refl, is_number call small)
-written_is G small = refl
 
 abbrev only_shown : Event → Option Event
 only_shown event = if has_line event then Some event else None

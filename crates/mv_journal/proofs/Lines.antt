@@ -90,7 +90,7 @@ event_clean G small = All-cons (λ b. 32 ≤ b) 71 [] (omega arith) (All-nil (λ
 is_number : (call : ℕ) → call < 2 ^ 32 → IsNumber (decimal call) call
 is_number call small = let d = decimal_is_IsNumeral call (omega arith) in (d.0, d.1, small)
 
-written_is : (event : Event) → IsInRange event → IsEventLine (event_text event) event
+pub written_is : (event : Event) → IsInRange event → IsEventLine (event_text event) event
 written_is (B call) small = (decimal call, refl, is_number call small)
 written_is (S call) small = (decimal call, refl, is_number call small)
 written_is (A call) small = (decimal call, refl, is_number call small)
