@@ -5,6 +5,7 @@ ghost use Rattle.mv_values.specs.Columns.{column_of, columns_of};
 ghost use Rattle.mv_alone.specs.Env.{turn_at, turns_at, padded, truth, with_held, with_value, with_values, with_found, ArePartlySet};
 
 use crate::state::{Content, Env};
+use mv_values::columns::value_at;
 use mv_values::copied::Copied;
 use mv_values::list::List;
 use mv_values::memory::NoMemory;
@@ -42,10 +43,7 @@ pub fn copied_turns(alloc: Global, env: &Env, x: u16) -> Result<List<Row>, NoMem
 pub fn column_value(alloc: Global, row: &[Value], c: u16) -> Result<Value, NoMemory>
     ensures { IfOk result (λ v. v ≡ column_of row.now c) }
 {
-    match row.get(c as usize) {
-        Some(v) => v.copy(alloc),
-        None => Ok(Value::Int(0)),
-    }
+    value_at(alloc, row, c as usize)
 }
 
 /// Adds unset variables until there are this many.

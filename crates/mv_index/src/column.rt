@@ -1,17 +1,16 @@
 //! The index of one column.
 
-ghost use Rattle.std.specs.Prelude.{◌≡◌, ◌<◌, ◌==◌, ◌||◌, ◌&&◌, [], not, true, pos, length, List, IfSome, OnOk, OnErr};
+ghost use Rattle.std.specs.Prelude.{◌≡◌, ◌<◌, ◌==◌, ◌||◌, ◌&&◌, [], not, true, length, List, IfSome, OnOk, OnErr};
 ghost use Rattle.std.specs.List.{position};
 ghost use Rattle.std.specs.BTreeMap.{is_at};
 ghost use Rattle.std.specs.Map.{lookup};
 ghost use Rattle.std.specs.Option.{option_copied};
 ghost use Rattle.mv_values.specs.declared.value.Value.{Value};
-ghost use Rattle.mv_values.specs.declared.value.Value.TheVariants.{Int};
-ghost use Rattle.mv_values.specs.Columns.{column_of};
 ghost use Rattle.mv_values.specs.Order.{value_order};
 ghost use Rattle.mv_index.specs.Indexing.{keys_at, has_key, is_pair, is_of, no_pair, Gains, Grows, HasKey, Shrinks};
 
 use crate::keys::Keys;
+use mv_values::columns::value_in;
 use mv_values::copied::Copied;
 use mv_values::memory::NoMemory;
 use mv_values::tested::Tested;
@@ -82,17 +81,6 @@ fn take_key(values: &mut BTreeMap<Value, Keys>, value: &Value, key: &Key)
 {
     if take_there(values, value, key) {
         remove_value(values, value);
-    }
-}
-
-/// Returns a row's value in a column, or the given zero if the row has no such column.
-fn value_in<'a>(row: &'a [Value], column: u8, zero: &'a Value) -> &'a Value
-    requires { zero.now ≡ Int (pos 0) }
-    ensures { result.now ≡ column_of row.now column }
-{
-    match row.get(column as usize) {
-        Some(value) => value,
-        None => zero,
     }
 }
 

@@ -3,7 +3,6 @@
 ghost use Rattle.std.specs.Prelude.{◌≡◌, ◌∷◌, [], ◌+◌, IfOk};
 ghost use Rattle.std.specs.List.{AllByRecursion, list_any};
 ghost use Rattle.std.specs.Option.{is_some};
-ghost use Rattle.mv_values.specs.Columns.{column_of};
 ghost use Rattle.mv_values.specs.Patching.{row_of};
 ghost use Rattle.mv_values.specs.References.{Reference, reference, references, references_from, is_there, HaveOneKey, ParentsHaveOneKey, orphans_in, orphans_of, orphans};
 ghost use Rattle.mv_values.specs.Tables.{columns_at, rows_at};
@@ -11,6 +10,7 @@ ghost use Rattle.mv_opening.specs.Parents.{TellsOrphan, TellsOrphans};
 
 use crate::fault::ParentFault;
 use mv_record::applying::find_row;
+use mv_values::columns::value_at;
 use mv_values::copied::Copied;
 use mv_values::list::List;
 use mv_values::memory::NoMemory;
@@ -159,21 +159,11 @@ fn check_value(
     requires { HaveOneKey (rows_at opening.now parent) }
     ensures { TellsOrphans (orphans_in opening.now (record { table = table; column = at; parent = parent } ∷ []) number item.now) result }
 {
-    let value = value_of(alloc, item.row.as_slice(), at)?;
+    let value = value_at(alloc, item.row.as_slice(), at)?;
     if is_there(alloc, opening, parent, &value)? {
         Ok(())
     } else {
         Err(missing(table, number, at))
-    }
-}
-
-/// Returns the value of a column. A column that the row lacks counts as 0.
-fn value_of(alloc: Global, row: &[Value], column: usize) -> Result<Value, NoMemory>
-    ensures { IfOk result (λ v. v ≡ column_of row.now column) }
-{
-    match row.get(column) {
-        Some(value) => value.copy(alloc),
-        None => Ok(Value::Int(0)),
     }
 }
 

@@ -3,7 +3,6 @@
 ghost use Rattle.std.specs.Prelude.{◌≡◌, ◌∷◌, [], IfOk};
 ghost use Rattle.std.specs.List.{AllByRecursion};
 ghost use Rattle.std.specs.Option.{is_some};
-ghost use Rattle.mv_values.specs.Columns.{column_of};
 ghost use Rattle.mv_values.specs.Patching.{row_of};
 ghost use Rattle.mv_values.specs.References.{Reference, reference, references, references_from, is_there, HaveOneKey, ParentsHaveOneKey};
 ghost use Rattle.mv_values.specs.Tables.{rows_at};
@@ -16,6 +15,7 @@ use mv_alone::made::fit_at;
 use mv_alone::state::Stop;
 use mv_table::table::{Table, Tables};
 use mv_values::calls::End;
+use mv_values::columns::value_at;
 use mv_values::copied::Copied;
 use mv_values::memory::NoMemory;
 use mv_values::rows::Keyed;
@@ -51,16 +51,6 @@ fn is_there(alloc: Global, tables: &Tables, table: u8, value: &Value) -> Result<
 
 // INSERT
 
-/// Returns the value of a column. A column that the row lacks counts as 0.
-fn value_of(alloc: Global, row: &[Value], column: usize) -> Result<Value, NoMemory>
-    ensures { IfOk result (λ v. v ≡ column_of row.now column) }
-{
-    match row.get(column) {
-        Some(value) => value.copy(alloc),
-        None => Ok(Value::Int(0)),
-    }
-}
-
 /// Whether a column of a new row of a table has its parent. The row counts as its own.
 fn has_parent(
     alloc: Global,
@@ -73,7 +63,7 @@ fn has_parent(
     requires { HaveOneKey (rows_at tables.now parent) }
     ensures { IfOk result (λ b. b ≡ has_parents (record { table = table; column = column; parent = parent } ∷ []) item.now tables.now) }
 {
-    let value = value_of(alloc, item.row.as_slice(), column)?;
+    let value = value_at(alloc, item.row.as_slice(), column)?;
     if parent as u16 == table && is_under(item, &value) {
         return Ok(true);
     }

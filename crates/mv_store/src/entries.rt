@@ -1,10 +1,8 @@
 //! The entries that an index has of the versions under a key.
 
-ghost use Rattle.std.specs.Prelude.{◌≡◌, ◌==◌, ◌&&◌, pos, Some, map, IfOk, OnOk};
+ghost use Rattle.std.specs.Prelude.{◌≡◌, ◌==◌, ◌&&◌, Some, map, IfOk, OnOk};
 ghost use Rattle.std.specs.List.{list_any};
 ghost use Rattle.std.specs.Option.{option_copied};
-ghost use Rattle.mv_values.specs.declared.value.Value.TheVariants.{Int};
-ghost use Rattle.mv_values.specs.Columns.{column_of};
 ghost use Rattle.mv_values.specs.Testing.{are_tested};
 ghost use Rattle.mv_chain.specs.Versions.{Versions, collected};
 ghost use Rattle.mv_chain.specs.Having.{is_value, row_has, item_has, patch_has, call_has, undos_have, has_value};
@@ -18,6 +16,7 @@ use mv_chain::pending::Pending;
 use mv_chain::undo::Undo;
 use mv_index::cover::cover;
 use mv_index::index::Index;
+use mv_values::columns::value_in;
 use mv_values::copied::Copied;
 use mv_values::list::List;
 use mv_values::memory::NoMemory;
@@ -110,17 +109,6 @@ fn forget_items<K: Valued>(index: &mut Index, table: u8, key: &Key, items: &[Ass
 {
     for item in items {
         forget_value(index, table, key, item.column, &item.value, kept);
-    }
-}
-
-/// Returns a row's value in a column, or the given zero if the row has no such column.
-fn value_in<'a>(row: &'a [Value], column: u8, zero: &'a Value) -> &'a Value
-    requires { zero.now ≡ Int (pos 0) }
-    ensures { result.now ≡ column_of row.now column }
-{
-    match row.get(column as usize) {
-        Some(value) => value,
-        None => zero,
     }
 }
 

@@ -5,7 +5,7 @@ ghost use Rattle.mv_values.specs.Columns.{column_of, columns_of, number};
 ghost use Rattle.mv_tpccsum.specs.Tables.{table_place, found_columns, found_rows, rows_of, is_int, column_place, column_places, entries, column, sum_of};
 ghost use Rattle.mv_tpccsum.specs.Grouping.{entries_of};
 
-use mv_values::copied::Copied;
+use mv_values::columns::value_at;
 use mv_values::list::List;
 use mv_values::memory::NoMemory;
 use mv_values::rows::{Keyed, Rows};
@@ -180,14 +180,4 @@ pub(crate) fn key_at(alloc: Global, row: &[Value], columns: &[usize]) -> Result<
         key.push(alloc, value_at(alloc, row, *column)?)?;
     }
     Ok(key)
-}
-
-/// Returns a copy of a column's value, or 0 if the row has no such column.
-fn value_at(alloc: Global, row: &[Value], column: usize) -> Result<Value, NoMemory>
-    ensures { IfOk result (λ v. v ≡ column_of row.now column) }
-{
-    match row.get(column) {
-        Some(value) => value.copy(alloc),
-        None => Ok(Value::Int(0)),
-    }
 }
