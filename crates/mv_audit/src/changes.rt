@@ -1,7 +1,6 @@
 //! The changes that a call makes when it commits.
 
 ghost use Rattle.std.specs.Prelude.{◌≡◌, ◌∷◌, ◌++◌, [], List as Seq, All, pos, IfOk, OnOk};
-ghost use Rattle.std.specs.Option.{option_copied};
 ghost use Rattle.mv_values.specs.declared.value.Value.TheVariants.{Int};
 ghost use Rattle.mv_values.specs.declared.patch.Write.{Write as AWrite};
 ghost use Rattle.mv_values.specs.Patching.{applied, row_of};
@@ -16,7 +15,7 @@ use mv_history::change::Change;
 use mv_record::applying::patch_row;
 use mv_record::record::Record;
 use mv_table::key_map::KeyMap;
-use mv_table::table::Tables;
+use mv_table::table::{Tables, row_at};
 use mv_values::copied::Copied;
 use mv_values::key::key_after;
 use mv_values::list::List;
@@ -30,16 +29,6 @@ fn place_of(alloc: Global, table: u8, key: &Key) -> Result<Key, NoMemory>
     ensures { IfOk result (λ place. place ≡ Int (pos table) ∷ key.now) }
 {
     Ok(key_after(alloc, table as i64, key)?)
-}
-
-/// Returns the row under a key of a table, if there is one.
-fn row_at<'a>(tables: &'a Tables, table: u8, key: &Key) -> Option<&'a Row>
-    ensures { option_copied result ≡ row_of (rows_at tables.now table) key.now }
-{
-    match tables.as_slice().get(table as usize) {
-        None => None,
-        Some(rows) => rows.get(key),
-    }
 }
 
 /// Returns a copy of the row under a key of a table, if there is one.

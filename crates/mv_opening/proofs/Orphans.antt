@@ -4,21 +4,15 @@ use Rattle.std.specs.Prelude.{◌||◌}
 use Rattle.std.specs.List.{list_any}
 use Rattle.std.specs.Option.{is_some}
 use Rattle.std.proofs.lemmas.List.{drop_more}
-use Rattle.mv_values.specs.declared.value.Value.{Value}
 use Rattle.mv_values.specs.declared.rows.Keyed.{Keyed}
 use Rattle.mv_values.specs.declared.schema.Column.{Column}
 use Rattle.mv_values.specs.declared.schema.TableInfo.{TableInfo}
 use Rattle.mv_values.specs.Columns.{column_of}
-use Rattle.mv_values.specs.Patching.{row_of}
-use Rattle.mv_values.specs.References.{Reference, reference, references, references_from, is_there, HaveOneKey, Orphan, orphans_in, orphans_of, orphans_from}
+use Rattle.mv_values.specs.References.{Reference, reference, references, references_from, is_there, Orphan, orphans_in, orphans_of, orphans_from}
 use Rattle.mv_values.specs.Tables.{rows_at, Tables}
-use Rattle.mv_values.proofs.There.{there_by_key}
 use Rattle.mv_opening.specs.declared.fault.ParentFault.{ParentFault}
 use Rattle.mv_opening.specs.declared.fault.ParentFault.TheVariants.{Missing, NoMemory}
 use Rattle.mv_opening.specs.Parents.{TellsOrphan}
-
-pub found : (v : Value) (rows : List Keyed) → HaveOneKey rows → is_some (row_of rows (v ∷ [])) ≡ is_there v rows
-found v rows h = sym (there_by_key v rows h)
 
 -- where the first of two lists is empty, the second is the whole
 pub none_then : (first rest whole : List Orphan) → first ≡ [] → first ++ rest ≡ whole → rest ≡ whole

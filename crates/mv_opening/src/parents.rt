@@ -168,7 +168,7 @@ fn check_value(
 }
 
 /// Whether a table whose keys have one column has a row with this value as its key. Costs one look-up.
-#[tactic(auto, using(crate::proofs::Orphans::found))]
+#[tactic(auto, using(mv_values::proofs::There::found))]
 fn is_there(alloc: Global, opening: &Database, table: u8, value: &Value) -> Result<bool, NoMemory>
     requires { HaveOneKey (rows_at opening.now table) }
     ensures { IfOk result (λ b. b ≡ is_there value.now (rows_at opening.now table)) }

@@ -1,20 +1,13 @@
 -- The parents of the values of a row, one column after another.
 use Rattle.std.proofs.Common.{◌≡◌, ℕ, Bool, true, false, List, [], ◌∷◌, ◌++◌, Option, Some, None, refl, sym, subst}
 use Rattle.std.specs.Prelude.{◌&&◌, ◌||◌}
-use Rattle.std.specs.Option.{is_some}
-use Rattle.mv_values.specs.declared.value.Value.{Value}
 use Rattle.mv_values.specs.declared.rows.Keyed.{Keyed}
 use Rattle.mv_values.specs.declared.schema.TableInfo.{TableInfo}
 use Rattle.mv_values.specs.Columns.{column_of}
-use Rattle.mv_values.specs.Patching.{row_of}
-use Rattle.mv_values.specs.References.{Reference, parent_of, is_there, HaveOneKey, ParentsHaveOneKey}
+use Rattle.mv_values.specs.References.{Reference, parent_of, is_there, ParentsHaveOneKey}
 use Rattle.mv_values.specs.Tables.{rows_at, Tables}
-use Rattle.mv_values.proofs.There.{there_by_key}
 use Rattle.mv_alone.specs.References.{is_own_parent, has_parents}
 use Rattle.mv_serial.specs.Referring.{IsOneKeyed}
-
-pub found : (v : Value) (rows : List Keyed) → HaveOneKey rows → is_some (row_of rows (v ∷ [])) ≡ is_there v rows
-found v rows h = sym (there_by_key v rows h)
 
 pub both : (xs ys : List Reference) (new : Keyed) (db : Tables) → has_parents (xs ++ ys) new db ≡ (has_parents xs new db && has_parents ys new db)
 both [] ys new db = refl

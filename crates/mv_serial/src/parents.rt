@@ -13,7 +13,7 @@ ghost use Rattle.mv_serial.specs.Referring.{IsOneKeyed};
 use mv_alone::find::{columns_in, is_under, parent_in};
 use mv_alone::made::fit_at;
 use mv_alone::state::Stop;
-use mv_table::table::{Table, Tables};
+use mv_table::table::{Tables, row_at};
 use mv_values::calls::End;
 use mv_values::columns::value_at;
 use mv_values::copied::Copied;
@@ -27,20 +27,11 @@ use std::alloc::Global;
 fn is_in(tables: &Tables, table: u8, key: &Key) -> bool
     ensures { result ≡ is_some (row_of (rows_at tables.now table) key.now) }
 {
-    match tables.as_slice().get(table as usize) {
-        Some(rows) => has_row(rows, key),
-        None => false,
-    }
-}
-
-fn has_row(table: &Table, key: &Key) -> bool
-    ensures { result ≡ is_some (row_of table.now key.now) }
-{
-    table.get(key).is_some()
+    row_at(tables, table, key).is_some()
 }
 
 /// Whether a table whose keys have one column has a row with this value as its key. Costs one look-up.
-#[tactic(auto, using(crate::proofs::There::found))]
+#[tactic(auto, using(mv_values::proofs::There::found))]
 fn is_there(alloc: Global, tables: &Tables, table: u8, value: &Value) -> Result<bool, NoMemory>
     requires { HaveOneKey (rows_at tables.now table) }
     ensures { IfOk result (λ b. b ≡ is_there value.now (rows_at tables.now table)) }

@@ -5,6 +5,7 @@ ghost use Rattle.std.specs.List.{filter};
 ghost use Rattle.std.specs.Option.{option_copied, option_map};
 ghost use Rattle.mv_values.specs.Keys.{IsRising, stored};
 ghost use Rattle.mv_values.specs.Patching.{row_of, placed, standing};
+ghost use Rattle.mv_values.specs.Tables.{rows_at};
 ghost use Rattle.mv_table.specs.Entries.{seen};
 ghost use Rattle.mv_table.specs.Spans.{is_within, IsForward};
 
@@ -84,6 +85,16 @@ impl Model for Table {
 
 /// The tables of a database, in the order of the script.
 pub type Tables = List<Table>;
+
+/// Returns the row under a key of a table; none if there is no such table. Costs one look-up.
+pub fn row_at<'a>(tables: &'a Tables, table: u8, key: &Key) -> Option<&'a Row>
+    ensures { option_copied result ≡ row_of (rows_at tables.now table) key.now }
+{
+    match tables.as_slice().get(table as usize) {
+        None => None,
+        Some(rows) => rows.get(key),
+    }
+}
 
 impl Table {
     /// Returns a table without rows. It allocates no memory.

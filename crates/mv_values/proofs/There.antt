@@ -29,13 +29,16 @@ one_key v (w ∷ []) h = by (value_order w v)
 one_key v (w ∷ x ∷ key) h = absurd (omega (arith, h))
 
 -- where keys have one column, a row with a key is found by look-up
-pub there_by_key : (v : Value) (rows : List Keyed) → HaveOneKey rows → is_there v rows ≡ is_some (row_of rows (v ∷ []))
+there_by_key : (v : Value) (rows : List Keyed) → HaveOneKey rows → is_there v rows ≡ is_some (row_of rows (v ∷ []))
 there_by_key v [] h = refl
 there_by_key v (r ∷ rs) h = ap (λ b. b || is_there v rs) (one_key v r.key h.0) ∙ by (is_eq (key_order r.key (v ∷ []))) (there_by_key v rs h.1)
   where
     by : (b : Bool) → is_there v rs ≡ is_some (row_of rs (v ∷ [])) → (b || is_there v rs) ≡ is_some (cond b (Some r.row) (row_of rs (v ∷ [])))
     by true k = refl
     by false k = k
+
+pub found : (v : Value) (rows : List Keyed) → HaveOneKey rows → is_some (row_of rows (v ∷ [])) ≡ is_there v rows
+found v rows h = sym (there_by_key v rows h)
 
 -- rows under their own values of one column
 have_one_key : (columns : List ℕ) (rows : List Keyed) → length columns ≡ 1 → All (StandsUnder columns) rows → HaveOneKey rows
