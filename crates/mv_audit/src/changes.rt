@@ -8,10 +8,10 @@ ghost use Rattle.mv_values.specs.Tables.{rows_at};
 ghost use Rattle.mv_record.specs.Runs.{writes_in};
 ghost use Rattle.mv_record.specs.Writes.{AreRising};
 ghost use Rattle.mv_table.specs.Entries.{KeysRise};
-ghost use Rattle.mv_history.specs.Changes.{changes_between, is_same, place};
-ghost use Rattle.mv_changes.specs.Drafting.{IsDraft, change_of_write, changed_more, changed_by, differing};
+ghost use Rattle.mv_history.specs.Changes.{changes_between, place};
+ghost use Rattle.mv_changes.specs.Drafting.{IsDraft, change_of_write, changed_by, differing};
 
-use mv_history::change::Change;
+use mv_history::change::{Change, is_same, next_change};
 use mv_record::applying::patch_row;
 use mv_record::record::Record;
 use mv_table::key_map::KeyMap;
@@ -21,7 +21,7 @@ use mv_values::key::key_after;
 use mv_values::list::List;
 use mv_values::memory::NoMemory;
 use mv_values::patch::Write;
-use mv_values::value::{Key, Row, compare_keys};
+use mv_values::value::{Key, Row};
 use std::alloc::Global;
 
 /// Returns a key with its table in front.
@@ -57,19 +57,6 @@ fn first_change(alloc: Global, write: &Write, tables: &Tables) -> Result<Change,
         table: write.table,
         key,
         before,
-        after,
-    })
-}
-
-/// Returns the change with one more write.
-fn next_change(alloc: Global, change: Change, write: &Write) -> Result<Change, NoMemory>
-    ensures { IfOk result (λ next. next ≡ changed_more write.now change) }
-{
-    let after = patch_row(alloc, &write.patch, change.after.as_ref())?;
-    Ok(Change {
-        table: change.table,
-        key: change.key,
-        before: change.before,
         after,
     })
 }
@@ -123,17 +110,6 @@ fn add_writes(
         add_write(alloc, changes, write, tables)?;
     }
     Ok(())
-}
-
-/// Whether the row is unchanged.
-fn is_same(before: &Option<Row>, after: &Option<Row>) -> bool
-    ensures { result ≡ is_same before.now after.now }
-{
-    match (before, after) {
-        (Some(before), Some(after)) => compare_keys(before.as_slice(), after.as_slice()).is_eq(),
-        (None, None) => true,
-        _ => false,
-    }
 }
 
 /// Returns the changes whose rows differ.

@@ -15,15 +15,11 @@ use Rattle.mv_undo.specs.Owning.{touches}
 use Rattle.mv_view.specs.declared.view.Refused.{Refused}
 use Rattle.mv_view.specs.Viewing.{Sight, answered, MayAnswer}
 use Rattle.mv_history.specs.declared.change.Change.{Change}
-use Rattle.mv_history.specs.Changes.{is_same, place}
+use Rattle.mv_history.specs.Changes.{changed_more, is_same, place}
 
 -- the change of a key by one write of its row
 abbrev pub change_of_write : Write → Option (List Value) → Change
 change_of_write w before = record { table = w.table; key = w.key; before = before; after = patched w.patch before }
-
--- the change of a key with one more write
-abbrev pub changed_more : Write → Change → Change
-changed_more w c = record c { after = patched w.patch c.after }
 
 -- the same, given the key's change by the writes before, if any
 abbrev pub changed_by : Write → Option Change → Option (List Value) → Change

@@ -10,10 +10,10 @@ ghost use Rattle.mv_record.specs.Writes.{AreRising};
 ghost use Rattle.mv_values.specs.declared.patch.Write.{Write};
 ghost use Rattle.mv_history.specs.Changes.{InOrder, changes_between, is_same, place};
 ghost use Rattle.mv_changes.specs.Tables.{IsCut};
-ghost use Rattle.mv_changes.specs.Drafting.{IsDraft, HasAsked, by_place, written, is_before, is_there, change_of_write, changed_more, differing};
+ghost use Rattle.mv_changes.specs.Drafting.{IsDraft, HasAsked, by_place, written, is_before, is_there, change_of_write, differing};
 
 use crate::changes::Changes;
-use mv_history::change::Change;
+use mv_history::change::{Change, is_same, next_change};
 use mv_log::records::Records;
 use mv_record::applying::patch_row;
 use mv_values::copied::Copied;
@@ -21,7 +21,7 @@ use mv_values::lent::own;
 use mv_values::list::List;
 use mv_values::memory::NoMemory;
 use mv_values::patch::Write;
-use mv_values::value::{Key, Row, compare_keys};
+use mv_values::value::Key;
 use mv_view::view::{Refused, View};
 use std::alloc::Global;
 use std::cmp::Ordering;
@@ -92,19 +92,6 @@ fn first_change<'s, V: View<'s>>(
     })
 }
 
-/// Returns the change with one more write.
-fn next_change(alloc: Global, change: Change, write: &Write) -> Result<Change, NoMemory>
-    ensures { IfOk result (λ next. next ≡ changed_more write.now change) }
-{
-    let after = patch_row(alloc, &write.patch, change.after.as_ref())?;
-    Ok(Change {
-        table: change.table,
-        key: change.key,
-        before: change.before,
-        after,
-    })
-}
-
 /// Adds a write to the changes, unless it is to a table that the database lacks.
 fn add_write<'s, V: View<'s>>(
     alloc: Global,
@@ -154,17 +141,6 @@ fn add_writes<'s, V: View<'s>>(
         add_write(alloc, tables, changes, write, view)?;
     }
     Ok(())
-}
-
-/// Whether the row is unchanged.
-fn is_same(before: &Option<Row>, after: &Option<Row>) -> bool
-    ensures { result ≡ is_same before.now after.now }
-{
-    match (before, after) {
-        (Some(before), Some(after)) => compare_keys(before.as_slice(), after.as_slice()).is_eq(),
-        (None, None) => true,
-        _ => false,
-    }
 }
 
 /// Whether one of the changes leaves its row as it was.

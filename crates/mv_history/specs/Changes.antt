@@ -8,8 +8,9 @@ use Rattle.std.specs.declared.cmp.Ordering.TheVariants.{Less}
 use Rattle.mv_values.specs.declared.value.Value.{Value}
 use Rattle.mv_values.specs.declared.value.Value.TheVariants.{Int}
 use Rattle.mv_values.specs.declared.rows.Keyed.{Keyed}
+use Rattle.mv_values.specs.declared.patch.Write.{Write}
 use Rattle.mv_values.specs.Order.{key_order}
-use Rattle.mv_values.specs.Patching.{row_of, placed}
+use Rattle.mv_values.specs.Patching.{row_of, placed, patched}
 use Rattle.mv_values.specs.Tables.{rows_at}
 use Rattle.mv_history.specs.declared.change.Change.{Change}
 
@@ -44,6 +45,12 @@ changes_upwards t (o ∷ os) (n ∷ ns) = changes_of t o n ++ changes_upwards (t
 -- Change: the changes between two databases
 abbrev pub changes_between : List (List Keyed) → List (List Keyed) → List Change
 changes_between old new = changes_upwards 0 old new
+
+-- Writes
+
+-- the change of a key with one more write of its row
+abbrev pub changed_more : Write → Change → Change
+changed_more w c = record c { after = patched w.patch c.after }
 
 -- Lists of changes
 

@@ -1,10 +1,13 @@
 //! Changes between databases, and the hits that validation finds.
 
 ghost use Rattle.std.specs.Prelude.{◌≡◌, IfOk};
+ghost use Rattle.mv_history.specs.Changes.{changed_more, is_same};
 
+use mv_record::applying::patch_row;
 use mv_values::copied::Copied;
 use mv_values::memory::NoMemory;
-use mv_values::value::{Key, Row};
+use mv_values::patch::Write;
+use mv_values::value::{Key, Row, compare_keys};
 use std::alloc::Global;
 
 /// A key whose row a commit changed, with the row before and the row after the commit. The two rows differ. At most one
@@ -32,6 +35,30 @@ fn copy_row(row: &Option<Row>, alloc: Global) -> Result<Option<Row>, NoMemory>
         None => Ok(None),
         Some(row) => Ok(Some(row.copy(alloc)?)),
     }
+}
+
+/// Whether a row is unchanged: both are absent, or both are there with the same values.
+pub fn is_same(before: &Option<Row>, after: &Option<Row>) -> bool
+    ensures { result ≡ is_same before.now after.now }
+{
+    match (before, after) {
+        (Some(before), Some(after)) => compare_keys(before.as_slice(), after.as_slice()).is_eq(),
+        (None, None) => true,
+        _ => false,
+    }
+}
+
+/// Returns the change with one more write of its row. Fails if memory runs out.
+pub fn next_change(alloc: Global, change: Change, write: &Write) -> Result<Change, NoMemory>
+    ensures { IfOk result (λ next. next ≡ changed_more write.now change) }
+{
+    let after = patch_row(alloc, &write.patch, change.after.as_ref())?;
+    Ok(Change {
+        table: change.table,
+        key: change.key,
+        before: change.before,
+        after,
+    })
 }
 
 impl Copied for Change {
