@@ -5,7 +5,6 @@ pub mod Unwritten
 pub mod Few
 pub mod Ends
 pub mod Moving
-pub mod WellNamed
 pub mod AllRows
 pub mod Different
 pub mod Told

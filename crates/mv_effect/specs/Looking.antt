@@ -17,7 +17,7 @@ use Rattle.mv_undo.specs.Owning.{touches}
 use Rattle.mv_view.specs.Viewing.{Sight, MayAnswer}
 use Rattle.mv_view.specs.declared.view.Refused.{Refused}
 use Rattle.mv_view.specs.declared.view.Refused.TheVariants.{NoMemory, Stale}
-use Rattle.mv_effect.specs.Naming.{NamesColumns}
+use Rattle.mv_recorded.specs.Naming.{NamesColumns}
 
 -- the tables of a program, and a database of them before these writes and after them
 pub record AreSoundTables (tables : List TableInfo) (ws : List Write) (db : List (List Keyed)) : Type 0 where

@@ -19,7 +19,7 @@ ghost use Rattle.mv_effect.specs.Asking.{asked, AsksOne};
 ghost use Rattle.mv_effect.specs.Logging.{BeginsPred, IsBlank, without_effect, with_preds, with_sets, with_writes};
 ghost use Rattle.mv_effect.specs.Stops.{leaving};
 ghost use Rattle.mv_effect.specs.Looking.{AreSoundTables, OnlyAsks, AskedBy, AskedFor};
-ghost use Rattle.mv_effect.specs.Naming.{Tests, Sets};
+ghost use Rattle.mv_recorded.specs.Naming.{Tests, Sets};
 
 use crate::asking::{end, stop, stop_after, stop_unasked};
 use crate::checks::run_checks;

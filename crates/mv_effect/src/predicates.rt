@@ -11,7 +11,7 @@ ghost use Rattle.mv_recorded.specs.Asking.{columns_in, column_in, with_sorts, Kn
 ghost use Rattle.mv_recorded.specs.Effects.{asks};
 ghost use Rattle.mv_effect.specs.Asking.{asked, AsksOne, all_once, with_columns};
 ghost use Rattle.mv_effect.specs.Logging.{IsBlank, without_effect};
-ghost use Rattle.mv_effect.specs.Naming.{Tests, AreColumns};
+ghost use Rattle.mv_recorded.specs.Naming.{Tests, AreColumns};
 ghost use Rattle.mv_effect.specs.Stops.{leaving};
 
 use crate::asking::ask;

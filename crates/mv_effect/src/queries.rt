@@ -19,7 +19,7 @@ ghost use Rattle.mv_effect.specs.Asking.{asked, asked_with, AsksOne};
 ghost use Rattle.mv_effect.specs.Logging.{IsBlank, without_effect};
 ghost use Rattle.mv_effect.specs.Stops.{GivesOrEnds};
 ghost use Rattle.mv_effect.specs.Looking.{AreSoundTables, OnlyAsks, different, AskedAtMost, AskedBy};
-ghost use Rattle.mv_effect.specs.Naming.{Tests, AreColumns};
+ghost use Rattle.mv_recorded.specs.Naming.{Tests, AreColumns};
 ghost use Rattle.mv_effect.specs.Totalling.{total_asked};
 
 use crate::asking::{asked_pred, stop, stop_after};

@@ -16,7 +16,7 @@ use Rattle.mv_recorded.specs.Effects.{IsEffect}
 use Rattle.mv_view.specs.Viewing.{Sight}
 use Rattle.mv_effect.specs.Choosing.{Chooses}
 use Rattle.mv_effect.specs.Looking.{AskedBy}
-use Rattle.mv_effect.specs.Naming.{NamesColumns}
+use Rattle.mv_recorded.specs.Naming.{NamesColumns}
 use Rattle.mv_graph.specs.declared.graph.Step.{Step}
 use Rattle.mv_graph.specs.Steps.{own_part, skip_by, TellsOf}
 use Rattle.mv_graph.proofs.Sizes.{some_size}

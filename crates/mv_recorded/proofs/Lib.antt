@@ -26,6 +26,7 @@ pub mod Fronts
 pub mod Held
 pub mod Inverting
 pub mod Wellness
+pub mod WellNamed
 pub mod Values
 pub mod Alike
 pub mod Checked

@@ -1,5 +1,6 @@
 pub mod Reading
 pub mod Asking
+pub mod Naming
 pub mod Doing
 pub mod Effects
 pub mod Recorded

@@ -10,9 +10,9 @@ use Rattle.mv_catalog.proofs.Typed.{well_by}
 use Rattle.mv_recorded.specs.Effect.{HasColumns}
 use Rattle.mv_recorded.proofs.Effects.{columns_there}
 use Rattle.mv_recorded.proofs.Unrolled.{size_is}
-use Rattle.mv_recorder.specs.Naming.{NamesColumns}
+use Rattle.mv_recorded.specs.Naming.{NamesColumns}
 use Rattle.mv_recorder.specs.Running.{IsFit, AreFit, IsBranchFit, HoldsFit}
-use Rattle.mv_recorder.proofs.WellNamed.{well_named}
+use Rattle.mv_recorded.proofs.WellNamed.{well_named}
 
 pub fit_named : (tables : List TableInfo) (s : RStmt) → IsFit tables s → NamesColumns tables (out-RStmt s)
 fit_named tables s fit = well_named tables s fit.0 fit.1

@@ -10,6 +10,5 @@ pub mod Reading
 pub mod Telling
 pub mod Turning
 pub mod Undoing
-pub mod WellNamed
 pub mod Whole
 pub mod Writing

@@ -1,5 +1,4 @@
 pub mod Adding
-pub mod Naming
 pub mod Sites
 pub mod Scenes
 pub mod Undoing

@@ -7,7 +7,7 @@ ghost use Rattle.mv_record.specs.declared.record.Record.{Record as LeftRecord};
 ghost use Rattle.mv_recorded.specs.Doing.{itself};
 ghost use Rattle.mv_recorded.specs.Effect.{behind};
 ghost use Rattle.mv_recorded.specs.Recorded.{own_record};
-ghost use Rattle.mv_recorder.specs.Naming.{NamesColumns};
+ghost use Rattle.mv_recorded.specs.Naming.{NamesColumns};
 ghost use Rattle.mv_recorder.specs.Scenes.{IsSound};
 ghost use Rattle.mv_recorder.specs.Sites.{site_of};
 ghost use Rattle.mv_recorder.specs.Undoing.{KeepsBack, StaysBack};

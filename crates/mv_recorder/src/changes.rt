@@ -11,7 +11,7 @@ ghost use Rattle.mv_recorded.specs.Asking.{first_fault, preds_up_to, delete_chec
 ghost use Rattle.mv_recorded.specs.Doing.{set_patch, write};
 ghost use Rattle.mv_recorded.specs.Effects.{IsEffect, changes, effect_of_writes, effect_unless, new_of};
 ghost use Rattle.mv_checks.specs.Checking.{meant, row_checks};
-ghost use Rattle.mv_recorder.specs.Naming.{Tests, Sets};
+ghost use Rattle.mv_recorded.specs.Naming.{Tests, Sets};
 ghost use Rattle.mv_recorder.specs.Scenes.{IsSound, Finds};
 ghost use Rattle.mv_table.specs.Entries.{seen};
 

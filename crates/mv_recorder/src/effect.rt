@@ -3,7 +3,7 @@
 ghost use Rattle.std.specs.Prelude.{IfOk};
 ghost use Rattle.mv_catalog.specs.declared.resolved.RStmt.{out-RStmt};
 ghost use Rattle.mv_recorded.specs.Effects.{IsEffect};
-ghost use Rattle.mv_recorder.specs.Naming.{NamesColumns};
+ghost use Rattle.mv_recorded.specs.Naming.{NamesColumns};
 ghost use Rattle.mv_recorder.specs.Scenes.{IsSound, Finds};
 
 use crate::asked::ended;

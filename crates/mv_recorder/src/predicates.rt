@@ -6,7 +6,7 @@ ghost use Rattle.mv_alone.specs.Outcome.{Gives};
 ghost use Rattle.mv_recorded.specs.Asking.{columns_in, column_in, with_sorts, KnowsKey};
 ghost use Rattle.mv_catalog.specs.Text.{IsTable};
 ghost use Rattle.mv_recorded.specs.Effects.{asks};
-ghost use Rattle.mv_recorder.specs.Naming.{Tests, AreColumns};
+ghost use Rattle.mv_recorded.specs.Naming.{Tests, AreColumns};
 
 use crate::numbers::{narrow, narrow_all};
 use crate::reads::once_each;

@@ -7,7 +7,7 @@ ghost use Rattle.mv_catalog.specs.declared.resolved.RStmt.TheOpen as layer;
 ghost use Rattle.mv_alone.specs.Alone.{is_turn};
 ghost use Rattle.mv_recorded.specs.Asking.{column_in, with_sorts};
 ghost use Rattle.mv_recorded.specs.Effects.{IsEffect, effect_of_select, effect_of_aggregate, effect_of_loop};
-ghost use Rattle.mv_recorder.specs.Naming.{Tests, AreColumns};
+ghost use Rattle.mv_recorded.specs.Naming.{Tests, AreColumns};
 ghost use Rattle.mv_recorder.specs.Scenes.{IsSound, Finds};
 ghost use Rattle.mv_table.specs.Entries.{seen};
 

@@ -8,7 +8,7 @@ use Rattle.mv_log.specs.Logged.{Logged}
 use Rattle.mv_undo.specs.Owning.{earlier}
 use Rattle.mv_recorded.specs.Effects.{IsEffect}
 use Rattle.mv_effect.specs.Looking.{IsExecutable}
-use Rattle.mv_effect.proofs.WellNamed.{well_named}
+use Rattle.mv_recorded.proofs.WellNamed.{well_named}
 use Rattle.mv_exec.specs.declared.recording.Origin.TheVariants.{Executed}
 use Rattle.mv_exec.specs.Recording.{foreseen}
 use Rattle.mv_exec.specs.Tasks.{places_of}

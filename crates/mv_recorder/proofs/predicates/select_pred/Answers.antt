@@ -4,7 +4,7 @@ use Rattle.mv_catalog.specs.declared.resolved.RSort.{RSort}
 use Rattle.mv_alone.specs.Outcome.{Gives}
 use Rattle.mv_recorded.specs.Asking.{with_sorts}
 use Rattle.mv_recorded.specs.Effects.{asks}
-use Rattle.mv_recorder.specs.Naming.{AreColumns}
+use Rattle.mv_recorded.specs.Naming.{AreColumns}
 use Rattle.mv_recorder.proofs.predicates.select_pred.Goals as goal
 
 -- without ORDER BY no other columns are selected

@@ -1,7 +1,7 @@
 use Rattle.std.proofs.Common.{sym, subst, ◌∙◌}
 use Rattle.mv_alone.specs.Outcome.{Gives}
 use Rattle.mv_recorded.specs.Effects.{asks}
-use Rattle.mv_recorder.specs.Naming.{AreColumns}
+use Rattle.mv_recorded.specs.Naming.{AreColumns}
 use Rattle.mv_recorder.proofs.predicates.update_pred.Goals as goal
 
 pub pred_from-requires-clause-columns : goal.pred_from-requires-clause-columns

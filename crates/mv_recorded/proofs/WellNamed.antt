@@ -22,7 +22,7 @@ use Rattle.mv_catalog.specs.Statements.{stmt_step, IsWell, kinds_of, Takes, IsTe
 use Rattle.mv_catalog.proofs.Typed.{well_by}
 use Rattle.mv_catalog.proofs.Named.{named_by, AtEachKind}
 use Rattle.mv_recorded.specs.Asking.{kind_columns, columns_in as columns_of_expr, column_in, with_sorts}
-use Rattle.mv_effect.specs.Naming.{NamesColumns, AreColumns, Tests, Sets}
+use Rattle.mv_recorded.specs.Naming.{NamesColumns, AreColumns, Tests, Sets}
 
 -- Expressions
 
