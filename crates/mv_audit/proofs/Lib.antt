@@ -10,7 +10,6 @@ pub mod Hitting
 pub mod Judging
 pub mod Keeping
 pub mod Lining
-pub mod Moving
 pub mod Refusing
 pub mod Shown
 pub mod Standing

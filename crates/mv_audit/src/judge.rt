@@ -16,12 +16,11 @@ use mv_catalog::resolved::Program;
 use mv_journal::event::Event;
 use mv_journal::outcome::{HistoryLine, Outcome, Round};
 use mv_lawful::places::{Place, places_of};
-use mv_table::table::{Table, Tables};
+use mv_table::databases::{database_of, tables_of};
 use mv_values::calls::Reply;
 use mv_values::copied::Copied;
 use mv_values::list::List;
 use mv_values::memory::NoMemory;
-use mv_values::rows::Database;
 use std::alloc::Global;
 
 /// What a journal comes to.
@@ -33,30 +32,6 @@ pub(crate) enum Judged {
     Open,
     /// It is lawful, and this is its outcome.
     Lawful(Outcome),
-}
-
-/// Returns the tables of a database. Copies its rows.
-fn tables_of(alloc: Global, database: &Database) -> Result<Tables, NoMemory>
-    ensures { IfOk result (λ tables. tables ≡ database.now) }
-{
-    let mut tables = List::new(alloc);
-    for rows in database.as_slice() {
-        tables.push(Table::of(alloc, rows)?)?;
-    }
-    Ok(tables)
-}
-
-/// Returns the database of these tables. Moves their rows.
-fn database_of(alloc: Global, tables: Tables) -> Result<Database, NoMemory>
-    ensures { IfOk result (λ database. database ≡ tables) }
-{
-    let mut tables = tables;
-    let mut database = List::new(alloc);
-    for at in 0..tables.len() {
-        let rows = tables.replace(at, Table::new(alloc));
-        database.push(rows.into_rows(alloc)?)?;
-    }
-    Ok(database)
 }
 
 /// Returns the state before any event.

@@ -1,6 +1,5 @@
 //! Calls that run alone, one after another, and the full runs of all calls between them.
 
-ghost use Rattle.std.specs.Prelude.{◌≡◌, IfOk};
 ghost use Rattle.mv_record.specs.Databases.{IsProgram};
 
 use crate::hits::Point;
@@ -10,25 +9,13 @@ use mv_record::record::Record;
 use mv_recorded::laws::databases_are_kept;
 use mv_recorder::calls::run_call;
 use mv_serial::calls::{Serial, run_alone};
-use mv_table::table::{Table, Tables};
+use mv_table::databases::tables_of;
 use mv_values::calls::Reply;
 use mv_values::copied::Copied;
 use mv_values::list::List;
 use mv_values::memory::NoMemory;
-use mv_values::rows::Database;
 use std::alloc::Global;
 use std::test::Fail;
-
-/// Returns the tables of a database.
-fn tables_of(alloc: Global, database: &Database) -> Result<Tables, NoMemory>
-    ensures { IfOk result (λ tables. tables ≡ database.now) }
-{
-    let mut tables = List::new(alloc);
-    for rows in database.as_slice() {
-        tables.push(Table::of(alloc, rows)?)?;
-    }
-    Ok(tables)
-}
 
 /// Returns the records of a call that runs alone on the opening tables of its program.
 fn full_run(alloc: Global, program: &Program, call: u32) -> Result<List<Record>, NoMemory>

@@ -1,7 +1,6 @@
 pub mod Changing
 pub mod Tabling
 pub mod Renewing
-pub mod Moving
 pub mod InTurn
 pub mod Standing
 pub mod Lawful

@@ -11,10 +11,10 @@ ghost use Rattle.mv_alone.specs.TableAfter.{no_reply, outcome, begun, tables_lef
 
 use crate::change::{RowChange, undo_all};
 use crate::statements::run_all;
-use crate::tables::{database_of, tables_of};
 use mv_alone::enter::variables_for;
 use mv_alone::state::{State, Stop};
 use mv_catalog::resolved::{ProcInfo, Program};
+use mv_table::databases::{database_of, tables_of};
 use mv_table::table::Tables;
 use mv_values::calls::{Call, End, Reply};
 use mv_values::list::List;

@@ -9,6 +9,5 @@ mod inserting;
 mod parents;
 mod run;
 mod statements;
-mod tables;
 mod totals;
 mod updating;

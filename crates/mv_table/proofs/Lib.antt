@@ -3,6 +3,7 @@ pub mod Spanning
 pub mod Points
 pub mod Parting
 pub mod Storing
+pub mod Moving
 pub mod Covering
 pub mod Changing
 pub mod Picking

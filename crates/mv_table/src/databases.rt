@@ -1,15 +1,15 @@
-//! Converts databases to tables by key, and back.
+//! From databases to tables by key, and back.
 
 ghost use Rattle.std.specs.Prelude.{◌≡◌, IfOk};
 
-use mv_table::table::{Table, Tables};
+use crate::table::{Table, Tables};
 use mv_values::list::List;
 use mv_values::memory::NoMemory;
 use mv_values::rows::Database;
 use std::alloc::Global;
 
-/// Returns the tables of a database. Copies its rows.
-pub(crate) fn tables_of(alloc: Global, database: &Database) -> Result<Tables, NoMemory>
+/// Returns the tables of a database. Copies its rows. Fails if memory runs out.
+pub fn tables_of(alloc: Global, database: &Database) -> Result<Tables, NoMemory>
     ensures { IfOk result (λ tables. tables ≡ database.now) }
 {
     let mut tables = List::new(alloc);
@@ -19,8 +19,8 @@ pub(crate) fn tables_of(alloc: Global, database: &Database) -> Result<Tables, No
     Ok(tables)
 }
 
-/// Returns the database of these tables. Moves their rows.
-pub(crate) fn database_of(alloc: Global, tables: Tables) -> Result<Database, NoMemory>
+/// Returns the database of these tables. Moves their rows. Fails if memory runs out.
+pub fn database_of(alloc: Global, tables: Tables) -> Result<Database, NoMemory>
     ensures { IfOk result (λ database. database ≡ tables) }
 {
     let mut tables = tables;

@@ -1,7 +1,7 @@
 use Rattle.std.proofs.Common.{length, ap, ◌∙◌, arith}
 use Rattle.std.proofs.lemmas.List.{length-set}
-use Rattle.mv_audit.proofs.Moving.{one_moved}
-use Rattle.mv_audit.proofs.judge.database_of.Goals as goal
+use Rattle.mv_table.proofs.Moving.{one_moved}
+use Rattle.mv_table.proofs.databases.database_of.Goals as goal
 
 pub replace-rows-requires : goal.replace-rows-requires
 replace-rows-requires c = omega (arith, c.loop-at-test.true, c.len-at-end.ensures, c.loop-at.invariant.len)

@@ -1,8 +1,0 @@
-use Rattle.std.proofs.Common.{◌≡◌, ◌++◌, drop, length}
-use Rattle.mv_audit.proofs.judge.database_of.Given as goal
-
-abbrev pub invariant-loop-at : goal.invariant-loop-at
-invariant-loop-at l = record {
-  len : length l.tables ≡ length l.fn.tables;
-  moved : l.database ++ drop l.at l.tables ≡ l.fn.tables;
-}
