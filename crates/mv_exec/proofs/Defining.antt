@@ -1,16 +1,16 @@
 -- Who last set each variable, and the writes of records.
-use Rattle.std.proofs.Common.{◌≡◌, ◌⊎◌, inl, inr, ℕ, zero, suc, ◌+◌, ◌==◌, ◌<◌, ◌≤◌, Bool, true, false, ◌||◌, List, [], ◌∷◌, ◌++◌, Option, Some, None, All, length, slice_set, refl, sym, ap, ◌∙◌, arith, append-nil, append_assoc, if◌then◌else◌, eq-eqb}
+use Rattle.std.proofs.Common.{◌≡◌, ◌⊎◌, inl, inr, ℕ, zero, suc, ◌+◌, ◌==◌, ◌<◌, ◌≤◌, Bool, true, false, ◌||◌, List, [], ◌∷◌, ◌++◌, Option, Some, None, All, length, slice_set, refl, sym, ap, ◌∙◌, arith, if◌then◌else◌, eq-eqb}
 use Rattle.std.specs.List.{list_any}
 use Rattle.std.specs.Option.{option_or}
 use Rattle.std.proofs.lemmas.Bool.{ne_eqb, cases_eq, lt-ltb, le-ltb}
-use Rattle.std.proofs.lemmas.List.Elements.{All-nil, All-cons, All-head, All-tail, All-append, All-weaker}
+use Rattle.std.proofs.lemmas.List.Elements.{All-head, All-tail, All-weaker}
 use Rattle.mv_values.specs.declared.patch.Write.{Write}
 use Rattle.mv_undo.specs.declared.owned.Owned.{Owned}
-use Rattle.mv_undo.specs.Owning.{before}
+use Rattle.mv_undo.specs.Owning.{before, undo_of}
 use Rattle.mv_record.specs.declared.record.Record.{Record}
 use Rattle.mv_record.specs.declared.record.Slot.{Slot}
 use Rattle.mv_recorded.specs.Reading.{last_place}
-use Rattle.mv_exec.specs.Keeping.{undo_of, undo_of_all, with_room, define, slot_room}
+use Rattle.mv_exec.specs.Keeping.{with_room, define, slot_room}
 use Rattle.mv_exec.specs.Tasks.{definer_in}
 
 -- Longer lists
@@ -32,13 +32,6 @@ none_behind (d ∷ ds) zero = refl
 none_behind (d ∷ ds) (suc x) = none_behind ds x
 
 -- Writes
-
-undo_most : (number : ℕ) (ws : List Write) → All (λ o. o.number ≤ number) (undo_of number ws)
-undo_most number [] = All-nil (λ o. o.number ≤ number)
-undo_most number (w ∷ ws) = All-cons (λ o. o.number ≤ number) (record { number = number; write = w }) (undo_of number ws) (omega arith) (undo_most number ws)
-
-pub most_behind : (number : ℕ) (old : List Owned) (ws : List Write) → All (λ o. o.number ≤ number) old → All (λ o. o.number ≤ number) (old ++ undo_of number ws)
-most_behind number old ws h = All-append (λ o. o.number ≤ number) old (undo_of number ws) h (undo_most number ws)
 
 pub below_most : (number : ℕ) (old : List Owned) → All (λ o. o.number < number) old → All (λ o. o.number ≤ number) old
 below_most number old h = All-weaker (λ (o : Owned). o.number < number) (λ o. o.number ≤ number) (λ o lt. omega (arith, lt)) old h
@@ -120,17 +113,3 @@ last_more test n (q ∷ rs) r =
         ≡ (if b then Some (n + length (q ∷ rs)) else option_or (last_place test (n + 1) rs) (if test q then Some n else None))
     by true = ap Some (let e : n + 1 + length rs ≡ n + length (q ∷ rs) = omega arith in e)
     by false = refl
-
-pub undo_more : (n : ℕ) (rs : List Record) (r : Record) → undo_of_all n (rs ++ r ∷ []) ≡ undo_of_all n rs ++ undo_of (n + length rs) r.writes
-undo_more n [] r = append-nil (undo_of n r.writes) ∙ ap (λ m. undo_of m r.writes) (let e : n ≡ n + 0 = omega arith in e)
-undo_more n (q ∷ rs) r =
-    ap (λ os. undo_of n q.writes ++ os) (undo_more (n + 1) rs r)
-    ∙ (sym (append_assoc (undo_of n q.writes) (undo_of_all (n + 1) rs) (undo_of (n + 1 + length rs) r.writes))
-    ∙ ap (λ m. (undo_of n q.writes ++ undo_of_all (n + 1) rs) ++ undo_of m r.writes) (let e : n + 1 + length rs ≡ n + length (q ∷ rs) = omega arith in e))
-
-pub undo_below : (n : ℕ) (rs : List Record) → All (λ o. o.number < n + length rs) (undo_of_all n rs)
-undo_below n [] = All-nil (λ (o : Owned). o.number < n + 0)
-undo_below n (r ∷ rs) =
-    All-append (λ (o : Owned). o.number < n + length (r ∷ rs)) (undo_of n r.writes) (undo_of_all (n + 1) rs)
-    (All-weaker (λ (o : Owned). o.number ≤ n) (λ o. o.number < n + length (r ∷ rs)) (λ o le. omega (arith, le)) (undo_of n r.writes) (undo_most n r.writes))
-    (All-weaker (λ (o : Owned). o.number < n + 1 + length rs) (λ o. o.number < n + length (r ∷ rs)) (λ o lt. omega (arith, lt)) (undo_of_all (n + 1) rs) (undo_below (n + 1) rs))

@@ -17,7 +17,7 @@ use Rattle.mv_exec.specs.declared.recording.OpenStatement.{OpenStatement}
 use Rattle.mv_exec.specs.declared.recording.Origin.{Origin}
 use Rattle.mv_exec.specs.declared.recording.Origin.TheVariants.{Executed, Kept}
 use Rattle.mv_exec.specs.declared.task.Task.{Task}
-use Rattle.mv_exec.specs.Keeping.{undo_of_all}
+use Rattle.mv_undo.specs.Owning.{undo_of_all}
 use Rattle.mv_exec.specs.Left.{left}
 use Rattle.mv_exec.specs.Places.{EndsLeft, jobs_left, site_in, site_of}
 use Rattle.mv_exec.specs.Recording.{IsAtRest, MayCome, IsRecordOf, opened, kept_after, closed, cut}

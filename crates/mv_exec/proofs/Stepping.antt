@@ -18,7 +18,7 @@ use Rattle.mv_values.specs.Patching.{applied}
 use Rattle.mv_values.specs.Tables.{KeysStand, Tables}
 use Rattle.mv_record.specs.Runs.{writes_in}
 use Rattle.mv_undo.specs.declared.owned.Owned.{Owned}
-use Rattle.mv_undo.specs.Owning.{before}
+use Rattle.mv_undo.specs.Owning.{before, undo_of_all, undo_of}
 use Rattle.mv_exec.specs.declared.places.Holder.{Holder}
 use Rattle.mv_exec.specs.declared.places.Holder.TheVariants as by
 use Rattle.mv_effect.specs.Choosing.{Chooses}
@@ -27,7 +27,7 @@ use Rattle.mv_exec.specs.declared.recording.Origin.{Origin}
 use Rattle.mv_exec.specs.declared.recording.Origin.TheVariants.{Executed}
 use Rattle.mv_exec.specs.declared.task.Task.{Task}
 use Rattle.mv_exec.specs.Left.{left}
-use Rattle.mv_exec.specs.Keeping.{undo_of_all, undo_of, with_room, define, slot_room}
+use Rattle.mv_exec.specs.Keeping.{with_room, define, slot_room}
 use Rattle.mv_exec.specs.Moves.{branch_place, loop_place, inner_places, place_after}
 use Rattle.mv_exec.specs.Places.{body_in, branch_in, block_in, holder_of, AreFilled, IsNumbered, AreNumbered, HoldsPlace}
 use Rattle.mv_exec.specs.Tasks.{none_in, places_of, beginning, state_of, left_of, definer_in, IsTask, IsHeldBefore, AreHeldBefore, IsTrimmed}
@@ -40,7 +40,8 @@ use Rattle.mv_exec.proofs.Placing.{no_last}
 use Rattle.mv_exec.proofs.Turning.{filled_last, filled_outer, filled_more, held_last, held_outer, held_more}
 use Rattle.mv_exec.proofs.Trimming.{every_front, filled_front, held_front}
 use Rattle.mv_exec.proofs.Numbering.{numbered_on}
-use Rattle.mv_exec.proofs.Defining.{define_at, room_same, room_long, last_more, undo_more, undo_below, before_undo}
+use Rattle.mv_undo.proofs.Writing.{undo_more, undo_below}
+use Rattle.mv_exec.proofs.Defining.{define_at, room_same, room_long, last_more, before_undo}
 use Rattle.mv_exec.proofs.Adding.{held_statement, goes_on, ends_all}
 
 -- Lists

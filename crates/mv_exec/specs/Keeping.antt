@@ -1,18 +1,9 @@
 -- Defines what a call derives from its records.
-use Rattle.std.specs.Prelude.{◌≡◌, ℕ, zero, suc, ◌+◌, max, List, [], ◌∷◌, ◌++◌, Option, Some, None, map, slice_set}
+use Rattle.std.specs.Prelude.{◌≡◌, ℕ, zero, suc, ◌+◌, max, List, [], ◌∷◌, ◌++◌, Option, Some, None, slice_set}
 use Rattle.mv_values.specs.declared.patch.Write.{Write}
-use Rattle.mv_record.specs.declared.record.Record.{Record}
 use Rattle.mv_record.specs.declared.record.Slot.{Slot}
 use Rattle.mv_undo.specs.declared.owned.Owned.{Owned}
-
--- the writes of a record with this number
-abbrev pub undo_of : ℕ → List Write → List Owned
-undo_of number ws = map (λ w. record { number = number; write = w }) ws
-
--- the writes of records, of which the first has this number
-abbrev pub undo_of_all : ℕ → List Record → List Owned
-undo_of_all n [] = []
-undo_of_all n (r ∷ rs) = undo_of n r.writes ++ undo_of_all (n + 1) rs
+use Rattle.mv_undo.specs.Owning.{undo_of}
 
 -- only writes of a record with this number were added
 abbrev pub HasMore : ℕ → List Owned → List Owned → Type 0

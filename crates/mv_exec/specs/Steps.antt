@@ -17,7 +17,8 @@ use Rattle.mv_exec.specs.declared.task.Task.{Task}
 use Rattle.mv_exec.specs.declared.recording.Origin.{Origin}
 use Rattle.mv_exec.specs.declared.recording.Origin.TheVariants.{Executed}
 use Rattle.mv_exec.specs.Ahead.{ForeseesLeft, ahead_in}
-use Rattle.mv_exec.specs.Keeping.{undo_of, HasMore, with_room, define, slot_room}
+use Rattle.mv_undo.specs.Owning.{undo_of}
+use Rattle.mv_exec.specs.Keeping.{HasMore, with_room, define, slot_room}
 use Rattle.mv_exec.specs.Moves.{after_empty_loop}
 use Rattle.mv_exec.specs.Recording.{closed}
 use Rattle.mv_exec.specs.Running.{HasContent}

@@ -19,7 +19,7 @@ use Rattle.mv_exec.specs.declared.places.Place.{Place}
 use Rattle.mv_exec.specs.declared.task.Task.{Task}
 use Rattle.mv_exec.specs.Left.{left}
 use Rattle.mv_exec.specs.Env.{at_beginning}
-use Rattle.mv_exec.specs.Keeping.{undo_of_all}
+use Rattle.mv_undo.specs.Owning.{undo_of_all}
 use Rattle.mv_exec.specs.Places.{jobs_left, AreFilled, AreNumbered, EndsLeft, with_next_row}
 
 -- the variables with which the call began

@@ -1,7 +1,8 @@
 //! What a call derives from its records: its own writes, and which record last set each variable.
 
 ghost use Rattle.std.specs.Prelude.{◌≡◌, ◌≤◌, ◌++◌, All, ℕ, Some, slice_set, OnOk, OnErr};
-ghost use Rattle.mv_exec.specs.Keeping.{undo_of, HasMore, define, with_room};
+ghost use Rattle.mv_undo.specs.Owning.{undo_of};
+ghost use Rattle.mv_exec.specs.Keeping.{HasMore, define, with_room};
 ghost use Rattle.mv_exec.specs.Tasks.{definer_in};
 
 use mv_record::record::Slot;

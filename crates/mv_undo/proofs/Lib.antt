@@ -9,3 +9,4 @@ pub mod Linking
 pub mod Growing
 pub mod Shrinking
 pub mod Taking
+pub mod Writing

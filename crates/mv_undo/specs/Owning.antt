@@ -1,5 +1,5 @@
 -- The writes of a running call, each with the number of its record.
-use Rattle.std.specs.Prelude.{◌≡◌, ◌≤◌, ℕ, Bool, true, false, ◌&&◌, nat_lt, List, map, AllPairs, length, take}
+use Rattle.std.specs.Prelude.{◌≡◌, ◌≤◌, ◌+◌, ℕ, Bool, true, false, ◌&&◌, nat_lt, List, [], ◌∷◌, ◌++◌, map, AllPairs, length, take}
 use Rattle.std.specs.List.{filter, list_any}
 use Rattle.std.specs.Ordering.{is_eq}
 use Rattle.std.specs.declared.cmp.Ordering.TheVariants.{Less}
@@ -14,6 +14,15 @@ use Rattle.mv_record.specs.declared.record.Record.{Record}
 use Rattle.mv_record.specs.Runs.{writes_in}
 pub use Rattle.mv_record.specs.Writes.{touches}
 use Rattle.mv_undo.specs.declared.owned.Owned.{Owned}
+
+-- the writes of a record with this number
+abbrev pub undo_of : ℕ → List Write → List Owned
+undo_of number ws = map (λ w. record { number = number; write = w }) ws
+
+-- the writes of records, of which the first has this number
+abbrev pub undo_of_all : ℕ → List Record → List Owned
+undo_of_all n [] = []
+undo_of_all n (r ∷ rs) = undo_of n r.writes ++ undo_of_all (n + 1) rs
 
 -- the numbers never decrease
 abbrev pub IsInOrder : List Owned → Type 0

@@ -12,7 +12,6 @@ use Rattle.mv_record.specs.declared.record.Spot.{Spot}
 use Rattle.mv_record.specs.Paths.{inside, nests_behind, paths, IsEarlierPath, PathsRise}
 use Rattle.mv_recorded.specs.Own.{Each}
 use Rattle.mv_undo.specs.Owning.{HasWritesOf}
-use Rattle.mv_undo.specs.declared.owned.Owned.{Owned}
 use Rattle.mv_history.specs.declared.change.Change.{Change}
 use Rattle.mv_history.specs.Hits.{touches_predicate}
 use Rattle.mv_history.specs.Kept.{Path, Placed, with_paths, is_path, among, same_path, kept_paths}
@@ -71,15 +70,6 @@ reading_by kept os ns [] (b ∷ bs) = Some (Reads None b.definer)
 reading_by kept os ns (a ∷ as') [] = Some (Reads a.definer None)
 
 -- Writes
-
--- the writes of a record with this number
-abbrev pub undo_of : ℕ → List Write → List Owned
-undo_of number ws = map (λ w. record { number = number; write = w }) ws
-
--- the writes of records, of which the first has this number
-abbrev pub undo_of_all : ℕ → List Record → List Owned
-undo_of_all n [] = []
-undo_of_all n (r ∷ rs) = undo_of n r.writes ++ undo_of_all (n + 1) rs
 
 abbrev pub writes_of : Option Record → List Write
 writes_of None = []

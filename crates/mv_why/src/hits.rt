@@ -3,10 +3,9 @@
 ghost use Rattle.std.specs.Prelude.{◌≡◌, ◌≤◌, ◌++◌, [], List as Seq, All, map, take, IfOk, OnOk};
 ghost use Rattle.mv_record.specs.declared.record.Record.{Record};
 ghost use Rattle.mv_record.specs.Runs.{writes_in};
-ghost use Rattle.mv_undo.specs.Owning.{earlier, HasWritesOf};
+ghost use Rattle.mv_undo.specs.Owning.{earlier, HasWritesOf, undo_of};
 ghost use Rattle.mv_why.specs.declared.cause.Reason.TheVariants.{Hit};
 ghost use Rattle.mv_why.specs.Causes.{hit_in, hit};
-ghost use Rattle.mv_why.specs.Walking.{undo_of};
 
 use crate::cause::Reason;
 use mv_changes::hit::hit;

@@ -1,5 +1,5 @@
 use Rattle.std.proofs.Common.{◌≡◌, ◌++◌, take}
-use Rattle.mv_exec.specs.Keeping.{undo_of}
+use Rattle.mv_undo.specs.Owning.{undo_of}
 use Rattle.mv_exec.proofs.keeping.add_writes.Given as goal
 
 abbrev pub invariant-loop-write : goal.invariant-loop-write

@@ -1,5 +1,5 @@
 use Rattle.std.proofs.Common.{◌≡◌, ◌++◌, take}
-use Rattle.mv_why.specs.Walking.{undo_of}
+use Rattle.mv_undo.specs.Owning.{undo_of}
 use Rattle.mv_why.proofs.hits.add_writes.Given as goal
 
 abbrev pub invariant-loop-write : goal.invariant-loop-write

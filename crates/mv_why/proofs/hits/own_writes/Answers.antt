@@ -1,8 +1,9 @@
 use Rattle.std.proofs.Common.{◌≤◌, List, length, ap, subst, ◌∙◌}
 use Rattle.std.proofs.lemmas.List.{take_all}
 use Rattle.mv_record.specs.declared.record.Record.{Record}
-use Rattle.mv_why.specs.Walking.{undo_of_all}
-use Rattle.mv_why.proofs.Writing.{front_below, written_more, has_writes}
+use Rattle.mv_undo.specs.Owning.{undo_of_all}
+use Rattle.mv_undo.proofs.Writing.{has_writes}
+use Rattle.mv_why.proofs.Writing.{front_below, written_more}
 use Rattle.mv_why.proofs.hits.own_writes.Goals as goal
 
 pub add_writes-requires : goal.add_writes-requires
