@@ -1,5 +1,5 @@
 -- Records of two runs among others, by their paths.
-use Rattle.std.proofs.Common.{◌≡◌, ℕ, zero, suc, true, false, List, [], ◌∷◌, ◌++◌, Option, Some, None, map, length, refl, sym, ap, subst, ◌∙◌, arith, append_assoc, append-nil}
+use Rattle.std.proofs.Common.{◌≡◌, ℕ, zero, suc, true, false, List, [], ◌∷◌, ◌++◌, Option, Some, None, map, length, refl, sym, ap, subst, ◌∙◌, arith, append_assoc, append-nil, length-append, ◌+◌}
 use Rattle.std.specs.Prelude.{slice_get}
 use Rattle.std.specs.Option.{option_map, option_and_then}
 use Rattle.std.specs.Ordering.{is_eq, nat_cmp}
@@ -9,13 +9,16 @@ use Rattle.std.specs.declared.cmp.Ordering.TheVariants.{Less, Equal, Greater}
 use Rattle.std.proofs.lemmas.Cmp.{tied_itself, nat_list_cmp_total}
 use Rattle.std.proofs.lemmas.Map.Lookups.{exact_bytes}
 use Rattle.std.proofs.lemmas.Bool.{false_from_ne_true}
+use Rattle.std.proofs.lemmas.List.{length-map, nil_from_length}
 use Rattle.mv_record.specs.declared.record.Record.{Record}
-use Rattle.mv_record.specs.Paths.{Nest, path, nests_behind, paths, IsEarlierPath}
+use Rattle.mv_record.specs.Paths.{path, nests_behind, paths, IsEarlierPath}
 use Rattle.mv_recorded.specs.Own.{Stated, Ground, HasStatements, IsOwn, AllOwn}
 use Rattle.mv_recorded.specs.Posts.{IsRecordAt}
 use Rattle.mv_recorded.proofs.Held.{get_last}
 use Rattle.mv_recorded.proofs.Nesting.{many_nests}
-use Rattle.mv_history.specs.Kept.{Path, Placed, zip_paths, with_paths, path_at, is_path}
+use Rattle.mv_history.specs.Kept.{Path, Placed, zip_paths, with_paths, next_placed, path_at, is_path}
+use Rattle.mv_history.proofs.Joining.{placed_front}
+use Rattle.mv_history.proofs.Zipping.{long_zip, zip_its, zip_firsts}
 
 -- Paths
 
@@ -42,6 +45,25 @@ apart a b h = ap is_eq h
 pub apart_back : (a b : Path) → IsEarlierPath a b → is_path b a ≡ false
 apart_back a b h = false_from_ne_true (is_path b a) (λ e. not_itself a b (sym (path_is b a e)) h)
 
+-- The paths of records
+
+pub many_paths : (rs : List Record) → length (paths rs) ≡ length rs
+many_paths rs = length-map (nests_behind [] rs) path ∙ many_nests [] rs
+
+pub many_placed : (rs : List Record) → length (with_paths rs) ≡ length rs
+many_placed rs = long_zip (paths rs) rs (many_paths rs)
+
+pub placed_paths : (rs : List Record) → map (λ (p : Placed). p.path) (with_paths rs) ≡ paths rs
+placed_paths rs = zip_firsts (paths rs) rs (many_paths rs)
+
+-- one record more
+pub placed_more : (xs : List Record) (r : Record) → with_paths (xs ++ r ∷ []) ≡ with_paths xs ++ next_placed xs r ∷ []
+placed_more xs r =
+    let it = placed_front xs r [] in
+    let long : length (with_paths xs ++ next_placed xs r ∷ it.0) ≡ length xs + 1 = ap length (sym it.1) ∙ (many_placed (xs ++ r ∷ []) ∙ length-append xs (r ∷ [])) in
+    let none : it.0 ≡ [] = nil_from_length it.0 (omega (arith, long, length-append (with_paths xs) (next_placed xs r ∷ it.0), many_placed xs)) in
+    it.1 ∙ ap (λ l. with_paths xs ++ next_placed xs r ∷ l) none
+
 -- A record among others
 
 pub own_at : (g : Ground) (before xs : List Record) (x : Record) (ys : List Record) → AllOwn g before (xs ++ x ∷ ys) → IsOwn g (before ++ xs) x
@@ -51,18 +73,8 @@ own_at g before (z ∷ xs) x ys h = subst (λ b. IsOwn g b x) (append_assoc befo
 abbrev pub its : List Placed → List Record
 its ps = map (λ (p : Placed). p.it) ps
 
-its_placed : (ps : List Path) (rs : List Record) → length ps ≡ length rs → its (zip_paths ps rs) ≡ rs
-its_placed [] [] h = refl
-its_placed [] (r ∷ rs) h = cc
-its_placed (p ∷ ps) [] h = cc
-its_placed (p ∷ ps) (r ∷ rs) h = ap (λ l. r ∷ l) (its_placed ps rs (let e : length ps ≡ length rs = omega (arith, h) in e))
-
-long_paths : (ns : List Nest) → length (map path ns) ≡ length ns
-long_paths [] = refl
-long_paths (n ∷ ns) = ap suc (long_paths ns)
-
 pub its_all : (rs : List Record) → its (with_paths rs) ≡ rs
-its_all rs = its_placed (paths rs) rs (long_paths (nests_behind [] rs) ∙ many_nests [] rs)
+its_all rs = zip_its (paths rs) rs (many_paths rs)
 
 zip_at : (ps : List Path) (rs : List Record) (fr : List Placed) (o : Placed) (back : List Placed) → zip_paths ps rs ≡ fr ++ o ∷ back → (slice_get rs (length fr) ≡ Some o.it) × (slice_get ps (length fr) ≡ Some o.path)
 zip_at [] rs [] o back is = cc
@@ -81,7 +93,7 @@ is_at rs fr o back is = let both = zip_at (paths rs) rs fr o back is in record {
 -- the path of a number
 pub at_paths : (rs : List Record) (n : Option ℕ) → option_and_then (slice_get (paths rs)) n ≡ path_at (with_paths rs) n
 at_paths rs None = refl
-at_paths rs (Some k) = got (paths rs) rs k (long_paths (nests_behind [] rs) ∙ many_nests [] rs)
+at_paths rs (Some k) = got (paths rs) rs k (many_paths rs)
   where
     got : (ps : List Path) (rs : List Record) (k : ℕ) → length ps ≡ length rs → slice_get ps k ≡ option_map (λ (r : Placed). r.path) (slice_get (zip_paths ps rs) k)
     got [] rs k h = refl

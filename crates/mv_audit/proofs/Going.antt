@@ -11,7 +11,8 @@ use Rattle.mv_record.specs.declared.record.Record.{Record}
 use Rattle.mv_record.specs.Paths.{IsEarlierPath}
 use Rattle.mv_recorded.specs.Own.{Each}
 use Rattle.mv_recorded.proofs.Inverting.{each_map, each_join}
-use Rattle.mv_history.specs.Kept.{Path, Placed, zip_paths, is_path, among, other_writes, stays, keep}
+use Rattle.mv_history.specs.Kept.{Path, Placed, is_path, among, other_writes, stays, keep}
+use Rattle.mv_history.proofs.Zipping.{zip_its, zip_firsts}
 use Rattle.mv_alike.proofs.Keeping.{Climbs, among_more, among_new}
 use Rattle.mv_alike.proofs.Placing.{apart, apart_back}
 use Rattle.mv_alike.proofs.Walking.{earlier_then, climbs_parts}
@@ -22,18 +23,6 @@ use Rattle.mv_audit.specs.Comparing.{placed_in, changes_in, IsWhole, AreSound, i
 
 -- Records with paths
 
-pub placed_its : (ps : List Path) (rs : List Record) → length ps ≡ length rs → map (λ (p : Placed). p.it) (zip_paths ps rs) ≡ rs
-placed_its [] [] h = refl
-placed_its [] (r ∷ rs) h = cc
-placed_its (p ∷ ps) [] h = cc
-placed_its (p ∷ ps) (r ∷ rs) h = ap (λ l. r ∷ l) (placed_its ps rs (let e : length ps ≡ length rs = omega (arith, h) in e))
-
-pub placed_paths : (ps : List Path) (rs : List Record) → length ps ≡ length rs → map (λ (p : Placed). p.path) (zip_paths ps rs) ≡ ps
-placed_paths [] [] h = refl
-placed_paths [] (r ∷ rs) h = cc
-placed_paths (p ∷ ps) [] h = cc
-placed_paths (p ∷ ps) (r ∷ rs) h = ap (λ l. p ∷ l) (placed_paths ps rs (let e : length ps ≡ length rs = omega (arith, h) in e))
-
 get_here : {A B : Type 0} (f : A → B) (xs ys : List A) → slice_get (map f (xs ++ ys)) (length xs) ≡ slice_get (map f ys) 0
 get_here f [] ys = refl
 get_here f (x ∷ xs) ys = get_here f xs ys
@@ -41,11 +30,11 @@ get_here f (x ∷ xs) ys = get_here f xs ys
 -- the path of the next record, and the record
 pub next_path : (r : Run) (xs ys : List Placed) → IsWhole r → placed_in r ≡ xs ++ ys → slice_get r.paths.now (length xs) ≡ slice_get (map (λ (p : Placed). p.path) ys) 0
 next_path r xs ys whole is =
-    ap (λ l. slice_get l (length xs)) (sym (placed_paths r.paths.now r.records.now whole) ∙ ap (map (λ (p : Placed). p.path)) is) ∙ get_here (λ (p : Placed). p.path) xs ys
+    ap (λ l. slice_get l (length xs)) (sym (zip_firsts r.paths.now r.records.now whole) ∙ ap (map (λ (p : Placed). p.path)) is) ∙ get_here (λ (p : Placed). p.path) xs ys
 
 pub next_record : (r : Run) (xs ys : List Placed) → IsWhole r → placed_in r ≡ xs ++ ys → slice_get r.records.now (length xs) ≡ slice_get (map (λ (p : Placed). p.it) ys) 0
 next_record r xs ys whole is =
-    ap (λ l. slice_get l (length xs)) (sym (placed_its r.paths.now r.records.now whole) ∙ ap (map (λ (p : Placed). p.it)) is) ∙ get_here (λ (p : Placed). p.it) xs ys
+    ap (λ l. slice_get l (length xs)) (sym (zip_its r.paths.now r.records.now whole) ∙ ap (map (λ (p : Placed). p.it)) is) ∙ get_here (λ (p : Placed). p.it) xs ys
 
 -- where there is a path, there is a record with it
 pub record First (p : Path) (ys : List Placed) : Type 0 where
@@ -270,7 +259,7 @@ begins runs = record {
 }
 
 many_placed : (r : Run) → IsWhole r → length (placed_in r) ≡ length r.records.now
-many_placed r whole = sym (length-map (placed_in r) (λ (p : Placed). p.it)) ∙ ap length (placed_its r.paths.now r.records.now whole)
+many_placed r whole = sym (length-map (placed_in r) (λ (p : Placed). p.it)) ∙ ap length (zip_its r.paths.now r.records.now whole)
 
 pub ends : (runs : Runs) (w : Walk) → AreSound runs → length w.flags ≡ length runs.new.records.now → IsAlong runs w → w.executed ≡ executed_by runs
 ends runs w s long u = by u.rest refl

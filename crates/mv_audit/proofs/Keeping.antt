@@ -13,10 +13,9 @@ use Rattle.std.proofs.lemmas.List.Folds.{list_any-append}
 use Rattle.std.proofs.lemmas.Option.{slice_get-map, slice_get_within, slice_get_read}
 use Rattle.mv_record.specs.declared.record.Read.{Read}
 use Rattle.mv_record.specs.declared.record.Record.{Record}
-use Rattle.mv_record.specs.Paths.{nests_behind, path, paths, IsEarlierPath}
+use Rattle.mv_record.specs.Paths.{path, paths, IsEarlierPath}
 use Rattle.mv_recorded.specs.Own.{Each}
 use Rattle.mv_recorded.proofs.Inverting.{each_map}
-use Rattle.mv_recorded.proofs.Nesting.{many_nests}
 use Rattle.mv_history.specs.Hits.{any_hits, touches}
 use Rattle.mv_history.specs.Kept.{Path, Placed, is_path, among, at, front, path_at, is_kept, same_path, reads_stay, other_writes, stays_with, stays}
 use Rattle.mv_alike.proofs.Keeping.{Climbs}
@@ -27,7 +26,8 @@ use Rattle.mv_audit.specs.declared.walk.Run.{Run}
 use Rattle.mv_audit.specs.declared.walk.Runs.{Runs}
 use Rattle.mv_audit.specs.declared.walk.Walk.{Walk}
 use Rattle.mv_audit.specs.Comparing.{nest_in, placed_in, changes_in, IsWhole, AreSound, is_before, is_there, flag_of, is_flagged, read_stays, both_stay, reads_by, writes_at, touched_by, stays_by, stays_both, stays_at, ComeBefore, IsAlong, kept_more, other_more}
-use Rattle.mv_audit.proofs.Going.{placed_its, placed_paths, next_path, next_record, First, next_of, many_flags, after_all, kept_on, renewed_on}
+use Rattle.mv_history.proofs.Zipping.{zip_its, zip_firsts}
+use Rattle.mv_audit.proofs.Going.{next_path, next_record, First, next_of, many_flags, after_all, kept_on, renewed_on}
 
 -- Nests
 
@@ -153,13 +153,13 @@ module _ (runs : Runs) (w : Walk) (n : ℕ) (s : AreSound runs) (u : IsAlong run
   number = long ∙ many_flags u.kept u.done w.flags u.flags
 
   old_paths : runs.old.paths.now ≡ map (λ (r : Placed). r.path) (placed_in runs.old)
-  old_paths = sym (placed_paths runs.old.paths.now runs.old.records.now s.old_whole)
+  old_paths = sym (zip_firsts runs.old.paths.now runs.old.records.now s.old_whole)
 
   old_records : take w.at runs.old.records.now ≡ map (λ (r : Placed). r.it) u.passed
-  old_records = first_ones (λ (r : Placed). r.it) runs.old.records.now u.passed u.coming w.at (sym (placed_its runs.old.paths.now runs.old.records.now s.old_whole) ∙ ap its_in u.olds) u.at
+  old_records = first_ones (λ (r : Placed). r.it) runs.old.records.now u.passed u.coming w.at (sym (zip_its runs.old.paths.now runs.old.records.now s.old_whole) ∙ ap its_in u.olds) u.at
 
   new_paths : take n runs.new.paths.now ≡ map (λ (r : Placed). r.path) u.done
-  new_paths = first_ones (λ (r : Placed). r.path) runs.new.paths.now u.done u.rest n (sym (placed_paths runs.new.paths.now runs.new.records.now s.new_whole) ∙ ap paths_in u.news) number
+  new_paths = first_ones (λ (r : Placed). r.path) runs.new.paths.now u.done u.rest n (sym (zip_firsts runs.new.paths.now runs.new.records.now s.new_whole) ∙ ap paths_in u.news) number
 
   touched : (o : Record) → touched_by runs w o ≡ list_any (touches o) (other_writes u.kept u.passed ++ other_writes u.kept u.done)
   touched o =
@@ -263,9 +263,6 @@ there_within ps n p h = by (slice_get ps n) refl h
 pub next_there : (r : Run) (flags : List Bool) (n : ℕ) (x p : Path) → IsWhole r → n ≡ length flags → length flags < length r.records.now → x ≡ get_or r.paths.now n x → p ≡ x → slice_get r.paths.now (length flags) ≡ Some p
 next_there r flags n x p whole long more is same =
     ap (slice_get r.paths.now) (sym long) ∙ (slice_get_read r.paths.now (length r.paths.now) n x refl (omega (arith, whole, long, more)) is ∙ ap Some (sym same))
-
-pub many_paths : (rs : List Record) → length (paths rs) ≡ length rs
-many_paths rs = length-map (nests_behind [] rs) path ∙ many_nests [] rs
 
 -- what is said of a success
 pub on_ok_by : {A E : Type 0} (r : Result A E) (P Q : Type 0) → (P → Q) → OnOk r P → OnOk r Q

@@ -3,3 +3,4 @@ pub mod Listing
 pub mod Covering
 pub mod Judging
 pub mod Alike
+pub mod Zipping

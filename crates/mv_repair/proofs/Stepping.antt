@@ -1,5 +1,5 @@
 -- One record more of a repair.
-use Rattle.std.proofs.Common.{◌≡◌, ◌<◌, ◌≤◌, ◌*◌, inl, inr, ℕ, ◌+◌, Bool, true, false, List, [], ◌∷◌, ◌++◌, Option, Some, None, length, take, if◌then◌else◌, refl, sym, ap, subst, ◌∙◌, arith, append_assoc, append-nil, length-append}
+use Rattle.std.proofs.Common.{◌≡◌, ◌<◌, ◌≤◌, inl, inr, ℕ, ◌+◌, Bool, true, false, List, [], ◌∷◌, ◌++◌, Option, Some, None, length, take, if◌then◌else◌, refl, sym, ap, subst, ◌∙◌, arith, append_assoc, append-nil, length-append}
 use Rattle.std.specs.Prelude.{◌&&◌, slice_get}
 use Rattle.std.specs.Option.{option_map}
 use Rattle.std.proofs.lemmas.List.{append_cancel_left, take_all, length_push}
@@ -36,7 +36,7 @@ use Rattle.mv_history.proofs.Joining.{placed_front}
 use Rattle.mv_alike.specs.Laws.{AreAlike}
 use Rattle.mv_alike.proofs.Keeping.{Climbs, climbs_of, among_new}
 use Rattle.mv_alike.proofs.Meant.{next_same}
-use Rattle.mv_alike.proofs.Placing.{path_is, path_self}
+use Rattle.mv_alike.proofs.Placing.{path_is, path_self, many_placed, placed_more, placed_paths}
 use Rattle.mv_repair.specs.declared.walk.OldRun.{OldRun}
 use Rattle.mv_repair.specs.declared.walk.NewRun.{NewRun}
 use Rattle.mv_repair.specs.Keys.{TableKeys}
@@ -50,7 +50,7 @@ use Rattle.mv_alike.proofs.Walking.{climbs_parts}
 use Rattle.mv_repair.proofs.Lists.{writes_before, each_take}
 use Rattle.mv_repair.proofs.Marking.{not_among, marks_more, marks_still}
 use Rattle.mv_repair.proofs.Passing.{all_apart, behind_first, others_both, others_still, one_other, no_other, noted_writes, noted_below, noted_longer, noted_take, old_kept, old_left, old_met, behind_rest}
-use Rattle.mv_repair.proofs.Placing.{many_placed, path_got, placed_more, placed_paths}
+use Rattle.mv_repair.proofs.Placing.{path_got}
 
 -- The next record of the full run
 

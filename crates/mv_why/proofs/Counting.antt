@@ -18,7 +18,7 @@ use Rattle.mv_why.specs.declared.cause.Reason.{Reason}
 use Rattle.mv_why.specs.Causes.{why, changes_since, other_numbers, cause_of, causes_of}
 use Rattle.mv_why.specs.Laws.{AreFullRuns, CausesAreThese, OnlyTheseAreCauses, AsManyAsExecuted}
 use Rattle.mv_why.proofs.Fixed.{all_kept, fixed, one_more}
-use Rattle.mv_why.proofs.Placing.{many_placed}
+use Rattle.mv_alike.proofs.Placing.{many_placed}
 use Rattle.mv_why.proofs.Ruling.{points}
 
 -- Lists

@@ -7,7 +7,7 @@ use Rattle.mv_record.specs.Runs.{writes_in}
 use Rattle.mv_undo.specs.Owning.{earlier}
 use Rattle.mv_history.specs.Kept.{Path, Placed, with_paths, among}
 use Rattle.mv_alike.proofs.Keeping.{Climbs, climbs_of}
-use Rattle.mv_alike.proofs.Placing.{its, its_all}
+use Rattle.mv_alike.proofs.Placing.{its, its_all, many_paths, many_placed}
 use Rattle.mv_why.specs.declared.cause.Reason.{Reason}
 use Rattle.mv_why.specs.declared.run.Runs.{Runs}
 use Rattle.mv_why.specs.declared.walk.Walk.{Walk}
@@ -16,7 +16,6 @@ use Rattle.mv_why.specs.Walking.{is_before, reason_by, kept_more, other_more, on
 use Rattle.mv_why.proofs.Counting.{why_at, why_here, kept_here}
 use Rattle.mv_why.proofs.Fixed.{all_kept}
 use Rattle.mv_why.proofs.Going.{First, next_of, next_record, many_flags, went_on, went_anew}
-use Rattle.mv_why.proofs.Placing.{many_paths, many_placed}
 use Rattle.mv_why.proofs.Telling.{reason_is, partner}
 
 -- the reason of the next record, which is kept if it has none

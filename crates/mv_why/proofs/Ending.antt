@@ -19,7 +19,7 @@ use Rattle.mv_why.specs.Laws.{AreFullRuns}
 use Rattle.mv_why.specs.Walking.{kept_of, AreOf, AreSound}
 use Rattle.mv_why.proofs.Counting.{told, causes_more, old_rises, fresh_rises}
 use Rattle.mv_why.proofs.Lists.{got_there}
-use Rattle.mv_why.proofs.Placing.{many_placed}
+use Rattle.mv_alike.proofs.Placing.{many_placed}
 
 pub sound_of : (old fresh : List Record) (since : List Committed) (runs : Runs) → AreOf old fresh since runs → AreFullRuns old fresh (changes_since since) → AreSound runs
 sound_of old fresh since runs are full =

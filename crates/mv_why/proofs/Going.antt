@@ -16,14 +16,13 @@ use Rattle.mv_history.specs.declared.change.Change.{Change}
 use Rattle.mv_history.specs.Hits.{touches}
 use Rattle.mv_history.specs.Kept.{Path, Placed, with_paths, among, kept_paths}
 use Rattle.mv_alike.proofs.Keeping.{Climbs, climbs_of}
-use Rattle.mv_alike.proofs.Placing.{its, its_all}
+use Rattle.mv_alike.proofs.Placing.{its, its_all, placed_paths}
 use Rattle.mv_alike.proofs.Walking.{earlier_then, climbs_parts}
 use Rattle.mv_why.specs.declared.run.Run.{Run}
 use Rattle.mv_why.specs.declared.walk.Walk.{Walk}
 use Rattle.mv_why.specs.Causes.{is_touching, touching}
 use Rattle.mv_why.specs.Walking.{is_before, any_write, any_touch, writes_of, touching_one, touching_at, all_before, AreOthers, IsUnder, noted, noted_old, kept_more, other_more, HasPassed}
 use Rattle.mv_why.proofs.Fixed.{all_kept, not_kept}
-use Rattle.mv_why.proofs.Placing.{placed_paths}
 
 -- The next records
 

@@ -1,48 +1,17 @@
 -- The paths of records, one record more.
-use Rattle.std.proofs.Common.{◌≡◌, ℕ, zero, suc, ◌+◌, List, [], ◌∷◌, ◌++◌, Option, Some, None, map, length, take, drop, nat_lt, if◌then◌else◌, refl, sym, ap, ◌∙◌, arith, length-append}
+use Rattle.std.proofs.Common.{◌≡◌, ℕ, zero, suc, ◌+◌, List, [], ◌∷◌, ◌++◌, Option, Some, None, map, length, take, drop, nat_lt, if◌then◌else◌, refl, sym, ap, ◌∙◌}
 use Rattle.std.specs.Prelude.{slice_get}
 use Rattle.std.specs.Option.{option_and_then}
-use Rattle.std.proofs.lemmas.List.{length-map, map_push, nil_from_length}
+use Rattle.std.proofs.lemmas.List.{map_push}
 use Rattle.mv_record.specs.declared.record.Record.{Record}
 use Rattle.mv_record.specs.declared.record.Spot.{Spot}
 use Rattle.mv_record.specs.Paths.{Nest, path, inside, nest_of, nests_behind, paths}
-use Rattle.mv_recorded.proofs.Nesting.{many_nests}
-use Rattle.mv_history.specs.Kept.{Path, Placed, zip_paths, with_paths, next_placed}
-use Rattle.mv_history.proofs.Joining.{placed_front}
+use Rattle.mv_history.specs.Kept.{Path, Placed, with_paths, next_placed}
+use Rattle.mv_alike.proofs.Placing.{placed_paths, placed_more}
 use Rattle.mv_why.specs.Walking.{path_behind}
 use Rattle.mv_why.proofs.Lists.{got_there}
 
--- How many there are
-
-pub many_paths : (rs : List Record) → length (paths rs) ≡ length rs
-many_paths rs = length-map (nests_behind [] rs) path ∙ many_nests [] rs
-
-long_zip : (ps : List Path) (rs : List Record) → length ps ≡ length rs → length (zip_paths ps rs) ≡ length rs
-long_zip [] [] h = refl
-long_zip [] (r ∷ rs) h = cc
-long_zip (p ∷ ps) [] h = cc
-long_zip (p ∷ ps) (r ∷ rs) h = ap suc (long_zip ps rs (let e : length ps ≡ length rs = omega (arith, h) in e))
-
-pub many_placed : (rs : List Record) → length (with_paths rs) ≡ length rs
-many_placed rs = long_zip (paths rs) rs (many_paths rs)
-
-zip_firsts : (ps : List Path) (rs : List Record) → length ps ≡ length rs → map (λ (p : Placed). p.path) (zip_paths ps rs) ≡ ps
-zip_firsts [] [] h = refl
-zip_firsts [] (r ∷ rs) h = cc
-zip_firsts (p ∷ ps) [] h = cc
-zip_firsts (p ∷ ps) (r ∷ rs) h = ap (λ l. p ∷ l) (zip_firsts ps rs (let e : length ps ≡ length rs = omega (arith, h) in e))
-
-pub placed_paths : (rs : List Record) → map (λ (p : Placed). p.path) (with_paths rs) ≡ paths rs
-placed_paths rs = zip_firsts (paths rs) rs (many_paths rs)
-
 -- One record more
-
-pub placed_more : (xs : List Record) (r : Record) → with_paths (xs ++ r ∷ []) ≡ with_paths xs ++ next_placed xs r ∷ []
-placed_more xs r =
-    let it = placed_front xs r [] in
-    let long : length (with_paths xs ++ next_placed xs r ∷ it.0) ≡ length xs + 1 = ap length (sym it.1) ∙ (many_placed (xs ++ r ∷ []) ∙ length-append xs (r ∷ [])) in
-    let none : it.0 ≡ [] = nil_from_length it.0 (omega (arith, long, length-append (with_paths xs) (next_placed xs r ∷ it.0), many_placed xs)) in
-    it.1 ∙ ap (λ l. with_paths xs ++ next_placed xs r ∷ l) none
 
 pub paths_more : (xs : List Record) (r : Record) → paths (xs ++ r ∷ []) ≡ paths xs ++ path_behind xs r.spot r.parent ∷ []
 paths_more xs r =

@@ -14,7 +14,7 @@ use Rattle.mv_recorded.specs.Own.{Each}
 use Rattle.mv_recorded.proofs.Inverting.{each_map, each_both}
 use Rattle.mv_history.specs.Kept.{Path, Placed, with_paths, is_path, among, at, front, path_at, is_kept, same_path}
 use Rattle.mv_alike.proofs.Keeping.{Climbs, climbs_of}
-use Rattle.mv_alike.proofs.Placing.{path_is, apart, apart_back, its}
+use Rattle.mv_alike.proofs.Placing.{path_is, apart, apart_back, its, placed_paths}
 use Rattle.mv_alike.proofs.Walking.{earlier_then, climbs_parts, at_past}
 use Rattle.mv_why.specs.declared.cause.Reason.{Reason}
 use Rattle.mv_why.specs.declared.cause.Reason.TheVariants.{New, Controller, Reads, Touched}
@@ -24,7 +24,6 @@ use Rattle.mv_why.specs.Causes.{controller, read_stays, reading, hit, touching, 
 use Rattle.mv_why.specs.Walking.{is_before, is_there, earlier_of, is_flagged, flag_of, controller_by, read_stays_by, reading_by, first_of, touching_at, touched_by, table_by, record_there, with_by, reason_by, all_before, IsUnder, AreSound}
 use Rattle.mv_why.proofs.Going.{next_path, next_record}
 use Rattle.mv_why.proofs.Least.{least_of}
-use Rattle.mv_why.proofs.Placing.{placed_paths}
 
 -- Flags and paths by numbers
 

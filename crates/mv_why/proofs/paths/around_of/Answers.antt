@@ -3,7 +3,8 @@ use Rattle.std.specs.Option.{option_and_then}
 use Rattle.std.specs.Prelude.{slice_get}
 use Rattle.std.proofs.lemmas.Option.{slice_get_read}
 use Rattle.mv_record.specs.Paths.{inside, nests_behind}
-use Rattle.mv_why.proofs.Placing.{many_paths, around_is}
+use Rattle.mv_alike.proofs.Placing.{many_paths}
+use Rattle.mv_why.proofs.Placing.{around_is}
 use Rattle.mv_why.proofs.paths.around_of.Goals as goal
 
 pub get-holder-requires : goal.get-holder-requires
