@@ -12,6 +12,7 @@ use Rattle.mv_values.specs.declared.value.Value.{Value}
 use Rattle.mv_values.specs.declared.patch.Write.{Write}
 use Rattle.mv_values.specs.Order.{key_order}
 use Rattle.mv_values.proofs.KeyOrder.{key_order_total, tied, same_key, turned}
+use Rattle.mv_values.proofs.Deciding.{less_is}
 use Rattle.mv_table.specs.Entries.{item_of, KeysRise}
 use Rattle.mv_table.proofs.Points.{parted}
 use Rattle.mv_history.specs.declared.change.Change.{Change}
@@ -22,11 +23,6 @@ use Rattle.mv_changes.specs.Drafting.{by_place, written, is_before, is_there, di
 use Rattle.mv_changes.proofs.Drafting.{Entry, HasPlace, differing_in_order}
 
 -- Orders
-
-less_is : (o : Ordering) → is_lt o ≡ true → o ≡ Less
-less_is Less h = refl
-less_is Equal h = cc
-less_is Greater h = cc
 
 greater_is : (o : Ordering) → is_lt o ≡ false → is_eq o ≡ false → o ≡ Greater
 greater_is Less h e = cc

@@ -122,7 +122,7 @@ fn reason_of_record(
 }
 
 /// Lends the path of the record with this number.
-#[tactic(auto, using(crate::proofs::Lists::get_at))]
+#[tactic(auto, using(mv_log::proofs::Lending::get_at))]
 fn path_at<'p>(run: &'p Run<'_>, number: usize) -> &'p Path
     requires { number < length run.now.paths }
     ensures { slice_get run.now.paths number ≡ Some result.now }
