@@ -1,4 +1,3 @@
-pub mod Once
 pub mod Adding
 pub mod Meaning
 pub mod Small

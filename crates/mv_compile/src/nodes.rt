@@ -6,10 +6,11 @@ ghost use Rattle.mv_catalog.specs.Text.{IsTable};
 ghost use Rattle.mv_catalog.specs.declared.resolved.RStmt.{out-RStmt};
 ghost use Rattle.mv_graph.specs.Nodes.{own_node, nodes_of, nodes_inside, body_nodes};
 
-use crate::reads::{asks, changes, keyword, reads, sets};
+use crate::reads::{asks, changes, keyword, sets};
 use crate::sizes::size_of;
 use mv_catalog::resolved::RStmt;
 use mv_graph::graph::Node;
+use mv_recorded::reads::reads;
 use mv_values::copied::Copied;
 use mv_values::list::List;
 use mv_values::memory::NoMemory;

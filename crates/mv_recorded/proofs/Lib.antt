@@ -38,3 +38,4 @@ pub mod ReferenceExamples
 pub mod Parents
 pub mod Orphans
 pub mod Kinship
+pub mod Once

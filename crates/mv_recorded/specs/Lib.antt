@@ -1,4 +1,5 @@
 pub mod Reading
+pub mod Adding
 pub mod Asking
 pub mod Naming
 pub mod Doing

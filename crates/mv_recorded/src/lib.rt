@@ -1,4 +1,5 @@
-//! The records of a full run of a procedure.
+//! The records of a full run of a procedure, and the variables that its statements read.
 #![tactic(auto)]
 
 pub mod laws;
+pub mod reads;

@@ -5,7 +5,6 @@ pub mod Finding
 pub mod Fitting
 pub mod Following
 pub mod Holding
-pub mod Once
 pub mod Reading
 pub mod Telling
 pub mod Turning

@@ -1,4 +1,3 @@
-pub mod Adding
 pub mod Sites
 pub mod Scenes
 pub mod Undoing

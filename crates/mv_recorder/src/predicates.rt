@@ -9,10 +9,10 @@ ghost use Rattle.mv_recorded.specs.Effects.{asks};
 ghost use Rattle.mv_recorded.specs.Naming.{Tests, AreColumns};
 
 use crate::numbers::{narrow, narrow_all};
-use crate::reads::once_each;
 use mv_alone::find::tests_from;
 use mv_alone::state::{Env, Stop};
 use mv_catalog::resolved::{Query, RAgg, RCond, RExpr, RExprKind, RSetItem, RSort, Update};
+use mv_recorded::reads::once_each;
 use mv_values::list::List;
 use mv_values::memory::NoMemory;
 use mv_values::pred::Pred;

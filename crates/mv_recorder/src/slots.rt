@@ -12,10 +12,10 @@ ghost use Rattle.mv_recorded.specs.Effects.{slots_behind};
 ghost use Rattle.mv_recorded.specs.Reading.{each_once};
 ghost use Rattle.mv_table.specs.Entries.{seen};
 
-use crate::reads::once_each;
 use mv_alone::env::{set_columns, set_found, set_value};
 use mv_alone::state::{Content, Env};
 use mv_record::record::Slot;
+use mv_recorded::reads::once_each;
 use mv_table::table::Entry;
 use mv_values::copied::Copied;
 use mv_values::list::List;

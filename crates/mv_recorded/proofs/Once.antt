@@ -5,7 +5,7 @@ use Rattle.std.proofs.lemmas.List.Folds.{list_any-append}
 use Rattle.std.proofs.Math.Seq.{drop-cons}
 use Rattle.std.proofs.lemmas.Cmp.{nat_eq_equiv}
 use Rattle.mv_recorded.specs.Reading.{each_once}
-use Rattle.mv_compile.specs.Adding.{is_in, with_new}
+use Rattle.mv_recorded.specs.Adding.{is_in, with_new}
 
 -- those of the numbers that aren't in the list
 abbrev pub new_to : List ℕ → List ℕ → List ℕ

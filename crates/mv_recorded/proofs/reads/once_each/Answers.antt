@@ -1,7 +1,7 @@
 use Rattle.std.proofs.Common.{◌∙◌, ap, ◌++◌, ◌+◌, drop}
 use Rattle.mv_recorded.specs.Reading.{each_once}
-use Rattle.mv_compile.proofs.Once.{new_to, all_new, one_number_more}
-use Rattle.mv_compile.proofs.reads.once_each.Goals as goal
+use Rattle.mv_recorded.proofs.Once.{new_to, all_new, one_number_more}
+use Rattle.mv_recorded.proofs.reads.once_each.Goals as goal
 
 pub loop-number-init : goal.loop-number-init
 loop-number-init c = ap (λ l. l ++ new_to l (each_once c.args.numbers.now)) c.new-all.ensures ∙ all_new (each_once c.args.numbers.now)

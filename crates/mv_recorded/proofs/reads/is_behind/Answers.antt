@@ -1,5 +1,5 @@
 use Rattle.std.proofs.Common.{refl}
-use Rattle.mv_recorder.proofs.reads.is_behind.Goals as goal
+use Rattle.mv_recorded.proofs.reads.is_behind.Goals as goal
 
 pub returns : goal.returns
 returns c = refl

@@ -1,5 +1,0 @@
-use Rattle.std.proofs.Common.{refl}
-use Rattle.mv_compile.proofs.reads.is_behind.Goals as goal
-
-pub returns : goal.returns
-returns c = refl
