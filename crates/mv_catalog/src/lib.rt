@@ -2,3 +2,4 @@
 #![tactic(auto)]
 
 pub mod resolved;
+pub mod sizes;

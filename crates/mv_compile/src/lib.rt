@@ -5,6 +5,5 @@ pub mod compile;
 pub mod copies;
 mod nodes;
 mod reads;
-mod sizes;
 mod steps;
 mod tested;

@@ -7,8 +7,8 @@ ghost use Rattle.mv_catalog.specs.declared.resolved.RStmt.{out-RStmt};
 ghost use Rattle.mv_graph.specs.Nodes.{own_node, nodes_of, nodes_inside, body_nodes};
 
 use crate::reads::{asks, changes, keyword, sets};
-use crate::sizes::size_of;
 use mv_catalog::resolved::RStmt;
+use mv_catalog::sizes::size_of;
 use mv_graph::graph::Node;
 use mv_recorded::reads::reads;
 use mv_values::copied::Copied;

@@ -7,8 +7,8 @@ ghost use Rattle.mv_graph.specs.Steps.{own_part, own_step, skip_by, steps_of, bo
 ghost use Rattle.mv_compile.specs.Held.{steps_held};
 
 use crate::copies::{copy_branch, copy_query, copy_statement};
-use crate::sizes::{size_of, size_of_all};
 use mv_catalog::resolved::RStmt;
+use mv_catalog::sizes::{size_of, size_of_all};
 use mv_graph::graph::Step;
 use mv_recorded::reads::reads;
 use mv_values::list::List;

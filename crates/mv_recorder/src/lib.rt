@@ -16,6 +16,5 @@ mod running;
 mod scene;
 mod simple;
 mod sites;
-mod sizes;
 mod slots;
 mod undo;

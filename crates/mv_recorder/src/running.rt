@@ -14,11 +14,11 @@ ghost use Rattle.mv_recorder.specs.Undoing.{StaysBack};
 
 use crate::adding::{Run, Text, add, last_rows};
 use crate::sites::Site;
-use crate::sizes::{size_of, size_of_all};
 use mv_alone::env::set_held;
 use mv_alone::expr::holds;
 use mv_alone::state::{Content, Env, Stop};
 use mv_catalog::resolved::{RExpr, RStmt};
+use mv_catalog::sizes::{size_of, size_of_all};
 use mv_values::copied::Copied;
 use mv_values::value::Row;
 use std::alloc::Global;

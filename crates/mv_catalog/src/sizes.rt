@@ -3,11 +3,11 @@
 ghost use Rattle.std.specs.Prelude.{◌≡◌, ◌<◌, ◌^◌, map};
 ghost use Rattle.mv_catalog.specs.Statements.{size, total_size};
 
-use mv_catalog::resolved::RStmt;
+use crate::resolved::RStmt;
 
 /// Counts these statements, nested ones included.
 #[cycle(sizing)]
-pub(crate) fn size_of_all(statements: &[RStmt]) -> u16
+pub fn size_of_all(statements: &[RStmt]) -> u16
     requires { total_size (map size statements.now) < 2 ^ 16 }
     ensures { result ≡ total_size (map size statements.now) }
 {
@@ -20,7 +20,7 @@ pub(crate) fn size_of_all(statements: &[RStmt]) -> u16
 
 /// Counts a statement and those nested in it.
 #[cycle(sizing)]
-pub(crate) fn size_of(statement: &RStmt) -> u16
+pub fn size_of(statement: &RStmt) -> u16
     requires { size statement.now < 2 ^ 16 }
     ensures { result ≡ size statement.now }
 {
