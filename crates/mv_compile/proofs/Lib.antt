@@ -4,3 +4,4 @@ pub mod Small
 pub mod Stepped
 pub mod Asking
 pub mod Equalities
+pub mod Opening

@@ -8,7 +8,6 @@ pub mod Driving
 pub mod Answering
 pub mod Texts
 pub mod Summaries
-pub mod Opening
 pub mod Headlines
 pub mod Auditing
 pub mod Whys

@@ -1,5 +1,5 @@
 use Rattle.std.proofs.Common.{◌∙◌}
-use Rattle.mv_unit_tests.proofs.Opening.{graphs_on}
+use Rattle.mv_compile.proofs.Opening.{graphs_on}
 use Rattle.mv_unit_tests.proofs.records.leaves.Goals as goal
 
 pub check_only-requires-clause-databases : goal.check_only-requires-clause-databases
