@@ -25,6 +25,10 @@ pub newest_is : (us : List Undo) (now : Option (List Value)) → newest_of (befo
 newest_is [] now = refl
 newest_is (u ∷ us) now = newest_is us now
 
+pub length_commits : (us : List Undo) (now : Option (List Value)) → length us ≡ length (commits_of us now)
+length_commits [] now = refl
+length_commits (u ∷ us) now = ap suc (length_commits us now)
+
 pub before_push : (us : List Undo) (u : Undo) (now : Option (List Value)) → before (us ++ u ∷ []) now ≡ before us (undone u.patch now)
 before_push [] u now = refl
 before_push (v ∷ vs) u now = ap (undone v.patch) (before_push vs u now)

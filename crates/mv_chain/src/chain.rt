@@ -136,6 +136,16 @@ impl Chain {
         }
     }
 
+    /// Returns how many commits have changed the row since its base. So many old versions are kept.
+    pub fn commits(&self) -> usize
+        ensures { result ≡ length self.now.commits }
+    {
+        match &self.held {
+            Form::Nothing | Form::Only(_) => 0,
+            Form::History(history) => history.commits(),
+        }
+    }
+
     /// Whether a call has a patch that is not committed.
     pub fn has_own(&self, call: u32) -> bool
         ensures { result ≡ is_some (own_of call self.now.own) }

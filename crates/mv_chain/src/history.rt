@@ -280,6 +280,14 @@ impl History {
         forget(&mut self.own, call);
     }
 
+    /// Returns the number of commits since the base.
+    #[tactic(auto, using(crate::proofs::Versions::length_commits))]
+    pub(crate) fn commits(&self) -> usize
+        ensures { result ≡ length self.now.commits }
+    {
+        self.undos.len()
+    }
+
     /// Drops the rows before commit `low`. Reads from `low` on and uncommitted patches are unaffected. It allocates no
     /// memory.
     pub(crate) fn collect(&mut self, low: u32)

@@ -12,3 +12,4 @@ pub mod Views
 pub mod Indexing
 pub mod Covered
 pub mod Putting
+pub mod Counting

@@ -25,6 +25,16 @@ pub record Versioned : Type 0 where
 abbrev pub picked_in : {B : Type 0} → (Versions → Option B) → List Entries → List (List (List Value × B))
 picked_in f tables = map (picked f) tables
 
+-- how many commits have changed the rows of a table since their bases
+abbrev pub commits_in : Entries → ℕ
+commits_in [] = 0
+commits_in (e ∷ es) = length e.1.commits + commits_in es
+
+-- how many versions are kept beside the newest ones
+abbrev pub old_versions : List Entries → ℕ
+old_versions [] = 0
+old_versions (es ∷ tables) = commits_in es + old_versions tables
+
 -- the versions, or none if they are blank
 abbrev pub unless_blank : Versions → Option Versions
 unless_blank v = if is_blank v then None else Some v

@@ -8,6 +8,7 @@
 mod change;
 mod close;
 mod collect;
+mod count;
 mod entries;
 mod find;
 mod open;

@@ -1,6 +1,6 @@
 //! A database with its versions.
 
-ghost use Rattle.std.specs.Prelude.{◌≡◌, ◌<◌, ◌≤◌, ℕ, [], ◌∷◌, IfOk, IfErr, OnOk, OnErr, Err};
+ghost use Rattle.std.specs.Prelude.{◌≡◌, ◌<◌, ◌≤◌, ◌^◌, ◌-◌, min, ℕ, [], ◌∷◌, IfOk, IfErr, OnOk, OnErr, Err};
 ghost use Rattle.mv_values.specs.Patching.{found_by, row_of};
 ghost use Rattle.mv_values.specs.Preds.{matched};
 ghost use Rattle.mv_values.specs.Tables.{rows_at};
@@ -8,12 +8,13 @@ ghost use Rattle.mv_table.specs.Scans.{foremost};
 ghost use Rattle.mv_record.specs.Admitting.{Admitted};
 ghost use Rattle.mv_view.specs.Narrowing.{outside};
 ghost use Rattle.mv_view.specs.declared.view.Refused.TheVariants.{Stale, NoMemory as Wanting};
-ghost use Rattle.mv_store.specs.Stored.{database_at, own_writes, IsLike};
+ghost use Rattle.mv_store.specs.Stored.{database_at, old_versions, own_writes, IsLike};
 ghost use Rattle.mv_store.specs.Changes.{IsAsBefore, HasPut, HasDropped, HasStamped, HasRaised};
 
 use crate::change::{Fate, settle_noted};
 use crate::close::close_all;
 use crate::collect::collect_all;
+use crate::count::count_all;
 use crate::entries::ValueIndex;
 use crate::open::open_all;
 use crate::tables::TablesView;
@@ -77,6 +78,14 @@ impl Store {
             last: 0,
             low: 0,
         })
+    }
+
+    /// Returns how many versions are kept beside the newest ones: for each row one for each commit that has changed it
+    /// since the last collection. Stops at `u64::MAX`. Takes time linear in the number of keys.
+    pub fn old_versions(&self) -> u64
+        ensures { result ≡ min (old_versions self.now.tables) (2 ^ 64 - 1) }
+    {
+        count_all(self.tables.as_slice())
     }
 
     /// Returns the number of the last commit.
