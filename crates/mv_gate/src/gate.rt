@@ -115,6 +115,11 @@ impl<N: Making + Naming> Gate<N> {
         &self.shards
     }
 
+    /// Returns how many versions the shards keep beside the newest ones (`Shards::old_versions`).
+    pub fn old_versions<R: Wait>(&self, rt: &R) -> u64 {
+        self.shards.old_versions(rt)
+    }
+
     /// Returns the board.
     pub fn board(&self) -> &Board<N> {
         &self.board

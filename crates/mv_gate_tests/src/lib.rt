@@ -5,6 +5,8 @@
 #[cfg(test)]
 mod crews;
 #[cfg(test)]
+mod kept;
+#[cfg(test)]
 mod pins;
 #[cfg(test)]
 mod places;

@@ -23,14 +23,14 @@ const LOOKS: u64 = 100_000_000;
 
 /// Holds call 0 after its first statement until so many other calls were answered.
 #[derive(Drop)]
-struct Holding {
+pub(crate) struct Holding {
     others: u64,
     answered: AtomicU64,
     ran: AtomicU64,
 }
 
 impl Holding {
-    fn new(others: u64) -> Holding {
+    pub(crate) fn new(others: u64) -> Holding {
         Holding {
             others,
             answered: AtomicU64::new(0),
@@ -72,7 +72,7 @@ const LOOK: &str = "CREATE PROCEDURE look (:a INT) READ ONLY DECLARE :b = 0; BEG
 ";
 
 /// Returns a script of the accounts: one call, and then so many that add 1 to account 3.
-fn script_of(alloc: Global, first: &str, others: u64) -> Result<String, Fail> {
+pub(crate) fn script_of(alloc: Global, first: &str, others: u64) -> Result<String, Fail> {
     let mut text = String::from_str(alloc, ADD)?;
     text.push_str(OTHERS)?;
     text.push_str(LOOK)?;

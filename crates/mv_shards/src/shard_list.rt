@@ -173,6 +173,10 @@ pub(crate) trait ShardList<N: Making + Naming>: Drop {
         ensures grown { HasGrown pass.old pass.new }
         ensures shown { P.shown leave.new ≡ P.shown leave.old };
 
+    /// Returns how many versions the shards keep beside the newest ones, or `u64::MAX` if there are more. One lock is held
+    /// at a time.
+    fn old_versions<R: Wait>(&self, rt: &R) -> u64;
+
     /// Drops the rows of each shard before commit `low`, or before the shard's last commit less the horizon if that is
     /// lower.
     fn collect<R: Wait>(&self, rt: &R, low: u32);
@@ -342,6 +346,10 @@ impl<N: Making + Naming> ShardList<N> for ListEnd {
         Ok(())
     }
 
+    fn old_versions<R: Wait>(&self, _rt: &R) -> u64 {
+        0
+    }
+
     fn collect<R: Wait>(&self, _rt: &R, _low: u32) {}
 
     fn collect_to<R: Wait>(&self, _rt: &R, _grace: &Grace<N>, _note: &mut FloorNote<N>) {}
@@ -472,6 +480,11 @@ impl<N: Making + Naming, const Q: u32, L: ShardList<N>> ShardList<N> for ShardNo
         add_rows(found, rows)?;
         self.rest
             .gather(rt, alloc, board, word, pass, leave, n, pred, found)
+    }
+
+    fn old_versions<R: Wait>(&self, rt: &R) -> u64 {
+        let count = self.store.lock(rt).old_versions();
+        count.saturating_add(self.rest.old_versions(rt))
     }
 
     fn collect<R: Wait>(&self, rt: &R, low: u32) {

@@ -1,6 +1,6 @@
 //! What lies behind the lock of a shard.
 
-ghost use Rattle.std.specs.Prelude.{◌≡◌, ◌⊎◌, ◌<◌, ◌≤◌, ◌∷◌, None, IfOk, IfErr, IfSome, OnOk, OnErr, true, min, max, length, slice_index};
+ghost use Rattle.std.specs.Prelude.{◌≡◌, ◌⊎◌, ◌<◌, ◌≤◌, ◌^◌, ◌-◌, ◌∷◌, None, IfOk, IfErr, IfSome, OnOk, OnErr, true, min, max, length, slice_index};
 ghost use mathlib.Core.List.{IsPrefix};
 ghost use Rattle.mv_values.specs.Patching.{found_by, row_of};
 ghost use Rattle.mv_values.specs.Preds.{matched};
@@ -8,7 +8,7 @@ ghost use Rattle.mv_table.specs.Scans.{foremost};
 ghost use Rattle.mv_view.specs.Narrowing.{outside};
 ghost use Rattle.mv_values.specs.Tables.{rows_at};
 ghost use Rattle.mv_record.specs.Admitting.{Admitted};
-ghost use Rattle.mv_store.specs.Stored.{database_at};
+ghost use Rattle.mv_store.specs.Stored.{database_at, old_versions};
 ghost use Rattle.mv_seats.specs.Knowing.{Plain, Gate, Shard, has_role, handing};
 ghost use Rattle.mv_shards.specs.Parts.{part, writes_to};
 ghost use Rattle.mv_shards.specs.Histories.{tables_at, last_touch};
@@ -314,6 +314,13 @@ impl<N: Making + Naming, const Q: u32> ShardStore<N, Q> {
         self.store.stamp(call, n);
         raise_mark(&mut self.pass, board, pass, Q, n);
         Ok(n)
+    }
+
+    /// Returns how many versions are kept beside the newest ones, or `u64::MAX` if there are more.
+    pub(crate) fn old_versions(&self) -> u64
+        ensures { result ≡ min (old_versions self.now.store.tables) (2 ^ 64 - 1) }
+    {
+        self.store.old_versions()
     }
 
     /// Drops the rows before commit `low`, or before the shard's last commit less the horizon if that is lower. Without a

@@ -248,6 +248,13 @@ impl<N: Making + Naming> Shards<N> {
         Ok(lent::made(row))
     }
 
+    /// Returns how many versions the shards keep beside the newest ones, or `u64::MAX` if there are more: for each row one
+    /// for each commit that has changed it since the last collection. One lock is held at a time. Takes time linear in the
+    /// number of keys.
+    pub fn old_versions<R: Wait>(&self, rt: &R) -> u64 {
+        self.list.old_versions(rt)
+    }
+
     /// Drops the rows of each shard before commit `low`, or before the shard's last commit less the horizon if that is
     /// lower. Without a horizon it does nothing.
     pub fn collect<R: Wait>(&self, rt: &R, low: u32) {

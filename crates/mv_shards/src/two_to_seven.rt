@@ -159,6 +159,10 @@ impl<N: Making + Naming> ShardList<N> for TwoToSeven<N> {
             .gather(rt, alloc, board, word, pass, leave, n, pred, found)
     }
 
+    fn old_versions<R: Wait>(&self, rt: &R) -> u64 {
+        self.list.old_versions(rt)
+    }
+
     fn collect<R: Wait>(&self, rt: &R, low: u32) {
         self.list.collect(rt, low);
     }
