@@ -19,6 +19,16 @@ an_item = Some tt
 pub same : (a b : List Value) → is_eq (key_order a b) ≡ true → a ≡ b
 same a b h = exact_keys a b ((Equal-is (key_order a b)).0 h)
 
+-- the only key was put again
+pub one_kept : (form : Form) (only key k : List Value) → form ≡ One only → is_eq (key_order only key) ≡ true → item_of (held form) k ≡ cond (is_eq (key_order key k)) (Some tt) (item_of (held form) k)
+one_kept form only key k is h =
+    subst (λ f. item_of (held f) k ≡ cond (is_eq (key_order key k)) an_item (item_of (held f) k)) (sym is)
+    (subst (λ j. cond (is_eq (key_order j k)) an_item None ≡ cond (is_eq (key_order key k)) an_item (cond (is_eq (key_order j k)) an_item None)) (sym (same only key h)) (by (is_eq (key_order key k))))
+  where
+    by : (b : Bool) → cond b an_item None ≡ cond b an_item (cond b an_item None)
+    by true = refl
+    by false = refl
+
 -- the only key was taken out
 pub one_gone : (form : Form) (only key k : List Value) → form ≡ One only → is_eq (key_order only key) ≡ true → no_item ≡ cond (is_eq (key_order key k)) None (item_of (held form) k)
 one_gone form only key k is h =

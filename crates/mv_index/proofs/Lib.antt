@@ -1,6 +1,7 @@
 pub mod Values
 pub mod Parts
 pub mod Forms
+pub mod Few
 pub mod Adding
 pub mod Finding
 pub mod Asked

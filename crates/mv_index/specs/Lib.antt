@@ -1,3 +1,4 @@
+pub mod Listed
 pub mod Forms
 pub mod Indexing
 pub mod Asking

@@ -4,6 +4,7 @@
 
 mod column;
 pub mod cover;
+mod few_keys;
 pub mod index;
 pub mod indexable;
 pub mod keys;

@@ -13,14 +13,14 @@ ghost use Rattle.mv_record.specs.Admitting.{Admitted};
 ghost use Rattle.mv_record.specs.Writes.{AreRising};
 ghost use Rattle.mv_view.specs.Narrowing.{outside};
 ghost use Rattle.mv_view.specs.Viewing.{with_row_call, answered, MayAnswer};
+ghost use Rattle.mv_index.specs.Forms.{several};
 ghost use Rattle.mv_index.specs.Indexing.{Covers, HaveKeys, IsOnlyKey};
 ghost use Rattle.mv_index.specs.Asking.{AskedAtMost, PassesOn, LooksUp};
 
 use crate::index::Index;
-use crate::keys::{Keys, LentKeys};
+use crate::keys::{Keys, LentKeys, Several};
 use mv_table::found::Found;
 use mv_table::found_rows::FoundRows;
-use mv_table::key_map::KeyMap;
 use mv_table::scan::Direction;
 use mv_table::span::Span;
 use mv_values::copied::Copied;
@@ -107,24 +107,25 @@ fn rows_alone<'s, V: View<'s>>(
     Ok(rows)
 }
 
-/// Returns the rows under the keys of a map that the predicate matches. Asks the view for each row whose key is in the
-/// span that the predicate's tests leave.
+/// Returns the rows under these keys that the predicate matches. Asks the view for each row whose key is in the span
+/// that the predicate's tests leave.
 fn rows_among<'s, V: View<'s>>(
     alloc: Global,
     pred: &PredRef<'_>,
-    keys: &KeyMap<()>,
+    keys: Several<'_>,
     view: &mut V,
 ) -> Result<FoundRows<'s>, Refused>
     requires rising { AreRising (V.sight view.old).database }
     requires admitted { Admitted pred.now (rows_at (V.sight view.old).database pred.now.table) }
-    requires all { HaveKeys pred.now keys.now (rows_at (V.sight view.old).database pred.now.table) }
+    requires all { HaveKeys pred.now (several keys) (rows_at (V.sight view.old).database pred.now.table) }
     ensures found { IfOk result (λ rows. rows ≡ found_by pred.now (V.sight view.old).database) }
-    ensures asked { AskedAtMost 0 (length keys.now) (V.sight view.old) (V.sight view.new) }
+    ensures asked { AskedAtMost 0 (length (several keys.entry)) (V.sight view.old) (V.sight view.new) }
     ensures passes_on { PassesOn (V.sight view.old) (V.sight view.new) result }
 {
     let span = Span::of(alloc, pred.tests())?;
     let mut rows = FoundRows::new(alloc);
-    for (key, _) in keys.range(&span) {
+    let mut left = keys.within(&span);
+    while let Some(key) = left.take_next(Direction::Forward) {
         let row = match_at(alloc, pred, key, view)?;
         add_row(alloc, &mut rows, key, row)?;
     }
@@ -148,7 +149,7 @@ fn rows_under<'s, V: View<'s>>(
     match keys.lend() {
         LentKeys::None => Ok(FoundRows::new(alloc)),
         LentKeys::One(key) => rows_alone(alloc, pred, key, view),
-        LentKeys::Many(keys) => rows_among(alloc, pred, keys, view),
+        LentKeys::Several(keys) => rows_among(alloc, pred, keys, view),
     }
 }
 
@@ -179,27 +180,27 @@ fn foremost_alone<'s, V: View<'s>, K: KeySet>(
     }
 }
 
-/// Returns the first row in this direction that stands under one of the keys of a map, that the predicate matches, and
-/// whose key isn't in `passed`. Of the keys in the span that the predicate's tests leave, it asks the view for the rows up
-/// to that one.
+/// Returns the first row in this direction that stands under one of these keys, that the predicate matches, and whose key
+/// isn't in `passed`. Of the keys in the span that the predicate's tests leave, it asks the view for the rows up to
+/// that one.
 fn foremost_among<'s, V: View<'s>, K: KeySet>(
     alloc: Global,
     pred: &PredRef<'_>,
-    keys: &KeyMap<()>,
+    keys: Several<'_>,
     direction: Direction,
     passed: &K,
     view: &mut V,
 ) -> Result<Option<Found<'s>>, Refused>
     requires rising { AreRising (V.sight view.old).database }
     requires admitted { Admitted pred.now (rows_at (V.sight view.old).database pred.now.table) }
-    requires all { HaveKeys pred.now keys.now (rows_at (V.sight view.old).database pred.now.table) }
+    requires all { HaveKeys pred.now (several keys) (rows_at (V.sight view.old).database pred.now.table) }
     ensures found { IfOk result (λ row. row ≡ foremost direction (outside (K.has passed.now) (found_by pred.now (V.sight view.old).database))) }
-    ensures asked { AskedAtMost 0 (length keys.now) (V.sight view.old) (V.sight view.new) }
+    ensures asked { AskedAtMost 0 (length (several keys.entry)) (V.sight view.old) (V.sight view.new) }
     ensures passes_on { PassesOn (V.sight view.old) (V.sight view.new) result }
 {
     let span = Span::of(alloc, pred.tests())?;
-    let mut left = keys.range(&span);
-    while let Some((key, _)) = direction.take_next(&mut left) {
+    let mut left = keys.within(&span);
+    while let Some(key) = left.take_next(direction) {
         if passed.contains(key) {
             continue;
         }
@@ -231,7 +232,7 @@ fn foremost_under<'s, V: View<'s>, K: KeySet>(
     match keys.lend() {
         LentKeys::None => Ok(None),
         LentKeys::One(key) => foremost_alone(alloc, pred, key, passed, view),
-        LentKeys::Many(keys) => foremost_among(alloc, pred, keys, direction, passed, view),
+        LentKeys::Several(keys) => foremost_among(alloc, pred, keys, direction, passed, view),
     }
 }
 

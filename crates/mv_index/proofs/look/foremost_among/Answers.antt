@@ -6,6 +6,7 @@ use Rattle.mv_values.specs.Tables.{rows_at}
 use Rattle.mv_table.specs.Scans.{foremost}
 use Rattle.mv_table.specs.Spans.{CoversAdmitted}
 use Rattle.mv_view.specs.Narrowing.{outside}
+use Rattle.mv_index.specs.Forms.{several, left}
 use Rattle.mv_index.proofs.Asked.{only_then, passes_ok}
 use Rattle.mv_index.proofs.Finding.{found_at, all_found, keys_within, within_rise, fewer_within, first_there, first_later, first_passed, one_more_left, none_first_left}
 use Rattle.mv_index.proofs.look.foremost_among.Goals as goal
@@ -16,23 +17,23 @@ loop-key-init g c =
     let rows = rows_at (g.V.View.sight c.args.view.now).database pred.table in
     let span = c.in_ok-span.span in
     let covers = subst (λ tests. CoversAdmitted tests span) c.tests.ensures c.in_ok-span.ensures.covers in
-    let are = c.range-left.ensures.items in
+    let are = c.within-left.ensures.items in
     record {
       row = ap (λ l. foremost c.args.direction (outside (g.K.KeySet.has c.args.passed.now) l))
-          (rw are (all_found pred rows _ (within_rise span c.args.keys.now c.range-left.ensures.rising) (c.requires.rising pred.table) (keys_within pred rows c.args.keys.now span covers c.requires.admitted c.requires.all)));
+          (rw are (all_found pred rows _ (within_rise span (several c.args.keys) c.within-left.ensures.rising) (c.requires.rising pred.table) (keys_within pred rows (several c.args.keys) span covers c.requires.admitted c.requires.all)));
       same = refl;
       for_rows = omega arith;
-      for_row = let few = fewer_within span c.args.keys.now in let here = ap length are in omega (arith, few, here);
+      for_row = let few = fewer_within span (several c.args.keys) in let here = ap length are in omega (arith, few, here);
     }
 
 pub loop-key-preserved-then-contains : goal.loop-key-preserved-then-contains
 loop-key-preserved-then-contains g c =
     let rows = rows_at (g.V.View.sight c.args.view.now).database c.args.pred.now.table in
     record {
-      row = first_passed c.args.pred.now rows (g.K.KeySet.has c.args.passed.now) c.args.direction (c.in-Some.key.now, tt) c.loop-key.left c.take_next.new.range _ c.in-Some.ensures (sym c.contains.ensures ∙ c.if-contains.true) c.loop-key.invariant.row;
+      row = first_passed c.args.pred.now rows (g.K.KeySet.has c.args.passed.now) c.args.direction (c.in-Some.key.now, tt) (left c.loop-key.left) (left c.take_next.new.self) _ c.in-Some.ensures (sym c.contains.ensures ∙ c.if-contains.true) c.loop-key.invariant.row;
       same = c.loop-key.invariant.same;
       for_rows = c.loop-key.invariant.for_rows;
-      for_row = let left = one_more_left c.args.direction (c.in-Some.key.now, tt) c.loop-key.left c.take_next.new.range c.in-Some.ensures in let all = c.loop-key.invariant.for_row in omega (arith, left, all);
+      for_row = let fewer = one_more_left c.args.direction (c.in-Some.key.now, tt) (left c.loop-key.left) (left c.take_next.new.self) c.in-Some.ensures in let all = c.loop-key.invariant.for_row in omega (arith, fewer, all);
     }
 
 pub loop-key-preserved : goal.loop-key-preserved
@@ -45,11 +46,11 @@ loop-key-preserved g c =
     let none : found_at pred rows c.in-Some.key.now ≡ None =
     sym (c.in_ok-row.ensures.found ∙ ap (λ s. matched pred (row_of (rows_at s.database pred.table) c.in-Some.key.now)) c.loop-key.invariant.same) ∙ c.in_default-2.is in
     record {
-      row = first_later pred rows (g.K.KeySet.has c.args.passed.now) c.args.direction (c.in-Some.key.now, tt) c.loop-key.left c.take_next.new.range _ c.in-Some.ensures none c.loop-key.invariant.row;
+      row = first_later pred rows (g.K.KeySet.has c.args.passed.now) c.args.direction (c.in-Some.key.now, tt) (left c.loop-key.left) (left c.take_next.new.self) _ c.in-Some.ensures none c.loop-key.invariant.row;
       same = only_then before here after c.loop-key.invariant.same c.in_ok-row.ensures.passes_on.sight;
       for_rows = let one = c.in_ok-row.ensures.asked.for_rows in let all = c.loop-key.invariant.for_rows in omega (arith, one, all);
       for_row =
-          let one = c.in_ok-row.ensures.asked.for_row in let left = one_more_left c.args.direction (c.in-Some.key.now, tt) c.loop-key.left c.take_next.new.range c.in-Some.ensures in let all = c.loop-key.invariant.for_row in omega (arith, one, left, all);
+          let one = c.in_ok-row.ensures.asked.for_row in let fewer = one_more_left c.args.direction (c.in-Some.key.now, tt) (left c.loop-key.left) (left c.take_next.new.self) c.in-Some.ensures in let all = c.loop-key.invariant.for_row in omega (arith, one, fewer, all);
     }
 
 pub returns-in-Some-2-clause-found : goal.returns-in-Some-2-clause-found
@@ -61,13 +62,13 @@ returns-in-Some-2-clause-found g c =
     sym (c.in_ok-row.ensures.found ∙ ap (λ s. matched pred (row_of (rows_at s.database pred.table) c.in-Some.key.now)) c.loop-key.invariant.same) ∙ c.in-Some-2.is in
     ap (λ (item : Keyed). Some item) c.under.ensures
     ∙ (ap (λ key. Some (record { key = key; row = c.in-Some-2.row })) c.in_ok-key.ensures
-    ∙ first_there pred rows (g.K.KeySet.has c.args.passed.now) c.args.direction (c.in-Some.key.now, tt) c.loop-key.left c.take_next.new.range c.in-Some-2.row _ c.in-Some.ensures (sym c.contains.ensures ∙ c.if-contains.false) found c.loop-key.invariant.row)
+    ∙ first_there pred rows (g.K.KeySet.has c.args.passed.now) c.args.direction (c.in-Some.key.now, tt) (left c.loop-key.left) (left c.take_next.new.self) c.in-Some-2.row _ c.in-Some.ensures (sym c.contains.ensures ∙ c.if-contains.false) found c.loop-key.invariant.row)
 
 pub returns-in-Some-2-clause-asked : goal.returns-in-Some-2-clause-asked
 returns-in-Some-2-clause-asked g c =
     let one = c.in_ok-row.ensures.asked in
-    let left = one_more_left c.args.direction (c.in-Some.key.now, tt) c.loop-key.left c.take_next.new.range c.in-Some.ensures in
-    record { for_rows = let now = one.for_rows in let all = c.loop-key.invariant.for_rows in omega (arith, now, all); for_row = let now = one.for_row in let all = c.loop-key.invariant.for_row in omega (arith, now, left, all) }
+    let fewer = one_more_left c.args.direction (c.in-Some.key.now, tt) (left c.loop-key.left) (left c.take_next.new.self) c.in-Some.ensures in
+    record { for_rows = let now = one.for_rows in let all = c.loop-key.invariant.for_rows in omega (arith, now, all); for_row = let now = one.for_row in let all = c.loop-key.invariant.for_row in omega (arith, now, fewer, all) }
 
 pub returns-in-Some-2-clause-passes_on : goal.returns-in-Some-2-clause-passes_on
 returns-in-Some-2-clause-passes_on g c =
@@ -76,7 +77,7 @@ returns-in-Some-2-clause-passes_on g c =
     passes_ok before after _ (only_then before (g.V.View.sight c.loop-key.view) after c.loop-key.invariant.same c.in_ok-row.ensures.passes_on.sight)
 
 pub returns-clause-found : goal.returns-clause-found
-returns-clause-found g c = none_first_left c.args.pred.now (rows_at (g.V.View.sight c.args.view.now).database c.args.pred.now.table) (g.K.KeySet.has c.args.passed.now) c.args.direction c.loop-key.left _ c.in_default.ensures c.loop-key.invariant.row
+returns-clause-found g c = none_first_left c.args.pred.now (rows_at (g.V.View.sight c.args.view.now).database c.args.pred.now.table) (g.K.KeySet.has c.args.passed.now) c.args.direction (left c.loop-key.left) _ c.in_default.ensures c.loop-key.invariant.row
 
 pub returns-clause-passes_on : goal.returns-clause-passes_on
 returns-clause-passes_on g c = passes_ok (g.V.View.sight c.args.view.now) (g.V.View.sight c.loop-key.view) None c.loop-key.invariant.same

@@ -42,8 +42,8 @@ pub foremost_among-requires : goal.foremost_among-requires
 foremost_among-requires g c =
     let pred = c.args.pred.now in
     let rows = rows_at (g.V.View.sight c.args.view.now).database pred.table in
-    λ k. ((refl, tt), (search rules, (search rules, subst (λ keys. HaveKeys pred keys rows) (sym c.lend.ensures ∙ ap lent c.in-Many.is) c.requires.all)))
+    λ k. ((refl, tt), (search rules, (search rules, subst (λ keys. HaveKeys pred keys rows) (sym c.lend.ensures ∙ ap lent c.in-Several.is) c.requires.all)))
 
-pub returns-in-Many-clause-asked : goal.returns-in-Many-clause-asked
-returns-in-Many-clause-asked g c =
-    subst (λ (keys : KeyList). AskedAtMost 0 (length keys) (g.V.View.sight c.args.view.now) (g.V.View.sight c.foremost_among.new.view)) (sym (sym c.lend.ensures ∙ ap lent c.in-Many.is)) c.foremost_among.ensures.asked
+pub returns-in-Several-clause-asked : goal.returns-in-Several-clause-asked
+returns-in-Several-clause-asked g c =
+    subst (λ (keys : KeyList). AskedAtMost 0 (length keys) (g.V.View.sight c.args.view.now) (g.V.View.sight c.foremost_among.new.view)) (sym (sym c.lend.ensures ∙ ap lent c.in-Several.is)) c.foremost_among.ensures.asked
