@@ -1,18 +1,18 @@
 -- Two answers behind one another: where each is exact, so is the last.
 use Rattle.std.proofs.Common.{◌≡◌, ◌⊎◌, inl, inr, Result, Ok, Err, sym, subst}
 use Rattle.std.specs.Prelude.{IfOk, IfErr}
-use Rattle.mv_accept.specs.declared.refusal.Refusal.{Refusal}
+use Rattle.mv_accept.specs.declared.refusal.ScriptRefusal.{ScriptRefusal}
 use Rattle.mv_accept.specs.declared.accept.NotAccepted.{NotAccepted}
 use Rattle.mv_accept.specs.declared.accept.NotAccepted.TheVariants.{Refused, NoMemory}
 use Rattle.mv_accept.specs.Exact.{Exact, HasCause}
 
-module _ {A B : Type 0} (P : A → Type 0) (C : Refusal → Type 0) (Q : A → B → Type 0) (D : A → Refusal → Type 0) where
+module _ {A B : Type 0} (P : A → Type 0) (C : ScriptRefusal → Type 0) (Q : A → B → Type 0) (D : A → ScriptRefusal → Type 0) where
   -- what there is behind what there is
   abbrev pub Then : B → Type 0
   Then b = (a : A) × P a × Q a b
 
   -- why there is none: there is nothing to begin with, or nothing behind it
-  abbrev pub Neither : Refusal → Type 0
+  abbrev pub Neither : ScriptRefusal → Type 0
   Neither refusal = C refusal ⊎ ((a : A) × P a × D a refusal)
 
   cause_of_first : (f : NotAccepted) → HasCause C f → HasCause Neither f
@@ -59,11 +59,11 @@ module _ {A B : Type 0} (P : A → Type 0) (C : Refusal → Type 0) (Q : A → B
   }
 
 -- A test of what was found: where both are exact, so is what passes.
-module _ {A : Type 0} (P : A → Type 0) (C : Refusal → Type 0) (Q : A → Type 0) (D : A → Refusal → Type 0) where
+module _ {A : Type 0} (P : A → Type 0) (C : ScriptRefusal → Type 0) (Q : A → Type 0) (D : A → ScriptRefusal → Type 0) where
   abbrev pub Passes : A → Type 0
   Passes a = P a × Q a
 
-  abbrev pub Fails : Refusal → Type 0
+  abbrev pub Fails : ScriptRefusal → Type 0
   Fails refusal = C refusal ⊎ ((a : A) × P a × D a refusal)
 
   cause_of_none : (f : NotAccepted) → HasCause C f → HasCause Fails f
@@ -90,7 +90,7 @@ module _ {A : Type 0} (P : A → Type 0) (C : Refusal → Type 0) (Q : A → Typ
   found_same a b e p = e.only b p
 
   -- what was found passes
-  pub test_passed : (a : A) → Exact P C (Ok a) → Q a → ((refusal : Refusal) → D a refusal → ⊥) → Exact Passes Fails (Ok a)
+  pub test_passed : (a : A) → Exact P C (Ok a) → Q a → ((refusal : ScriptRefusal) → D a refusal → ⊥) → Exact Passes Fails (Ok a)
   test_passed a e q never = record {
     found = (e.found, q);
     only = λ b t. e.only b t.0;
@@ -102,7 +102,7 @@ module _ {A : Type 0} (P : A → Type 0) (C : Refusal → Type 0) (Q : A → Typ
   }
 
   -- it doesn't
-  pub test_failed : (a : A) (f : NotAccepted) → Exact P C (Ok a) → (Q a → f ≡ NoMemory) → HasCause (D a) f → ((refusal : Refusal) → D a refusal → (f ≡ Refused refusal) ⊎ (f ≡ NoMemory))
+  pub test_failed : (a : A) (f : NotAccepted) → Exact P C (Ok a) → (Q a → f ≡ NoMemory) → HasCause (D a) f → ((refusal : ScriptRefusal) → D a refusal → (f ≡ Refused refusal) ⊎ (f ≡ NoMemory))
       → Exact Passes Fails (Err f)
   test_failed a f e lost cause told = record {
     found = tt;

@@ -5,7 +5,7 @@ use Rattle.std.proofs.lemmas.List.{length-append}
 use Rattle.std.specs.Prelude.{All}
 use Rattle.mv_values.specs.Tables.{Tables}
 use Rattle.mv_ast.specs.declared.tree.Script.{Script}
-use Rattle.mv_names.specs.declared.fault.Fault.{Fault}
+use Rattle.mv_names.specs.declared.fault.TokenFault.{TokenFault}
 use Rattle.mv_names.specs.declared.fault.FaultKind.{FaultKind}
 use Rattle.mv_names.specs.declared.fault.FaultKind.TheVariants as kind
 use Rattle.mv_names.specs.First.{IsFirst, is_before, rank}
@@ -19,7 +19,7 @@ use Rattle.mv_resolve.specs.Building.{resolved_of}
 use Rattle.mv_opening.specs.declared.fault.OpeningFault.{OpeningFault}
 use Rattle.mv_opening.specs.declared.fault.OpeningFault.TheVariants as opening
 use Rattle.mv_opening.specs.Opening.{IsOpening, HasNoOpening}
-use Rattle.mv_accept.specs.declared.refusal.Refusal.{Refusal}
+use Rattle.mv_accept.specs.declared.refusal.ScriptRefusal.{ScriptRefusal}
 use Rattle.mv_accept.specs.declared.accept.NotAccepted.{NotAccepted}
 use Rattle.mv_accept.specs.declared.accept.NotAccepted.TheVariants.{Refused, NoMemory}
 use Rattle.mv_accept.specs.Exact.{Exact, HasCause}
@@ -65,7 +65,7 @@ same_kind kind.Writes kind.WrongType e = absurd (omega (arith, e))
 same_kind kind.Writes kind.KeyAssigned e = absurd (omega (arith, e))
 same_kind kind.Writes kind.Late e = absurd (omega (arith, e))
 
-there : (P : Fault → Type 0) (fs front : List Fault) (f : Fault) (back : List Fault) → fs ≡ front ++ f ∷ back → All P fs → P f
+there : (P : TokenFault → Type 0) (fs front : List TokenFault) (f : TokenFault) (back : List TokenFault) → fs ≡ front ++ f ∷ back → All P fs → P f
 there P fs front f back e h =
     let all : All P (front ++ f ∷ back) = subst (All P) e h in
     subst P (get_or-append_seam front f back f) (all (length front) f (omega (arith, length-append front (f ∷ back))))
@@ -73,25 +73,25 @@ there P fs front f back e h =
 same_place : (a b r s : ℕ) → (nat_lt a b || (a == b && nat_lt r s)) ≡ false → (nat_lt b a || (b == a && nat_lt s r)) ≡ false → (a ≡ b) × (r ≡ s)
 same_place a b r s h k = (grind (arith, h, k), grind (arith, h, k))
 
-abbrev fault_at : ℕ → FaultKind → Fault
+abbrev fault_at : ℕ → FaultKind → TokenFault
 fault_at token kind = record { token = token; kind = kind }
 
-same_fault : (f g : Fault) → f.token ≡ g.token → f.kind ≡ g.kind → f ≡ g
+same_fault : (f g : TokenFault) → f.token ≡ g.token → f.kind ≡ g.kind → f ≡ g
 same_fault f g t k = ap (λ n. fault_at n f.kind) t ∙ ap (fault_at g.token) k
 
-pub one_first : (fs : List Fault) (f g : Fault) → IsFirst fs f → IsFirst fs g → f ≡ g
+pub one_first : (fs : List TokenFault) (f g : TokenFault) → IsFirst fs f → IsFirst fs g → f ≡ g
 one_first fs f g h k =
     let g_not : is_before g f ≡ false = there (λ x. is_before x f ≡ false) fs k.0 g k.1 k.2 h.3 in
     let f_not : is_before f g ≡ false = there (λ x. is_before x g ≡ false) fs h.0 f h.1 h.2 k.3 in
     let same = same_place f.token g.token (rank f.kind) (rank g.kind) f_not g_not in
     same_fault f g same.0 (same_kind f.kind g.kind same.1)
 
-none_first : (fs : List Fault) (f : Fault) → fs ≡ [] → IsFirst fs f → ⊥
+none_first : (fs : List TokenFault) (f : TokenFault) → fs ≡ [] → IsFirst fs f → ⊥
 none_first fs f e h = absurd (let e2 = h.2 in omega (arith, ap length e, ap length h.2, length-append h.0 (f ∷ h.1)))
 
 -- what is answered of a fault of names is its refusal
 abbrev TellsFault : Script → NotAccepted → Type 0
-TellsFault script told = (told ≡ NoMemory) ⊎ ((f : Fault) × IsFirst (faults script) f × (told ≡ Refused (refusal_at f.kind f.token)))
+TellsFault script told = (told ≡ NoMemory) ⊎ ((f : TokenFault) × IsFirst (faults script) f × (told ≡ Refused (refusal_at f.kind f.token)))
 
 tells_fault : (script : Script) (f : NameFault) → Refuses script f → TellsFault script (of_naming f)
 tells_fault script (naming.UnknownName token) h = inr (record { token = token; kind = kind.UnknownName }, h, refl)
@@ -115,11 +115,11 @@ cause_of : (script : Script) (told : NotAccepted) → TellsFault script told →
 cause_of script told (inl e) = subst (HasCause (HasFault script)) (sym e) tt
 cause_of script told (inr t) = subst (HasCause (HasFault script)) (sym t.2) (t.0, t.1, refl)
 
-told_of : (script : Script) (told : NotAccepted) → TellsFault script told → (refusal : Refusal) → HasFault script refusal → (told ≡ Refused refusal) ⊎ (told ≡ NoMemory)
+told_of : (script : Script) (told : NotAccepted) → TellsFault script told → (refusal : ScriptRefusal) → HasFault script refusal → (told ≡ Refused refusal) ⊎ (told ≡ NoMemory)
 told_of script told (inl e) refusal c = inr e
 told_of script told (inr t) refusal c =
     let same : t.0 ≡ c.0 = one_first (faults script) t.0 c.0 t.1 c.1 in
-    inl (t.2 ∙ ap Refused (ap (λ (f : Fault). refusal_at f.kind f.token) same ∙ sym c.2))
+    inl (t.2 ∙ ap Refused (ap (λ (f : TokenFault). refusal_at f.kind f.token) same ∙ sym c.2))
 
 only_memory : (script : Script) (told : NotAccepted) → TellsFault script told → (resolved : Resolved) → Means script resolved → told ≡ NoMemory
 only_memory script told (inl e) resolved h = e
@@ -147,7 +147,7 @@ opened bytes resolved tables is same told = record {
   told = λ refusal c. elim (told c.0 c.1) [ inl never ↦ cc | inr never ↦ cc ];
 }
 
-same_told : (resolved : Resolved) (f : OpeningFault) (r s : Refusal) → TellsOfRows resolved f r → TellsOfRows resolved f s → r ≡ s
+same_told : (resolved : Resolved) (f : OpeningFault) (r s : ScriptRefusal) → TellsOfRows resolved f r → TellsOfRows resolved f s → r ≡ s
 same_told resolved (opening.Field t row column) r s h k = h ∙ sym k
 same_told resolved (opening.Width t row) r s h k = h ∙ sym k
 same_told resolved (opening.Duplicate t row) r s h k = h ∙ sym k
@@ -164,7 +164,7 @@ row_cause bytes resolved f (Refused refusal) o (inl e) = absurd (subst (λ (g : 
 row_cause bytes resolved f (Refused refusal) o (inr h) = (f, h, o)
 row_cause bytes resolved f NoMemory o h = tt
 
-row_told : (bytes : List ℕ) (resolved : Resolved) (f g : OpeningFault) (told : NotAccepted) → OfOpening resolved f told → f ≡ g → (refusal : Refusal) → TellsOfRows resolved g refusal
+row_told : (bytes : List ℕ) (resolved : Resolved) (f g : OpeningFault) (told : NotAccepted) → OfOpening resolved f told → f ≡ g → (refusal : ScriptRefusal) → TellsOfRows resolved g refusal
     → (told ≡ Refused refusal) ⊎ (told ≡ NoMemory)
 row_told bytes resolved f g (Refused other) o e refusal t = inl (ap Refused (same_told resolved g other refusal (subst (λ (x : OpeningFault). TellsOfRows resolved x other) e o) t))
 row_told bytes resolved f g NoMemory o e refusal t = inr refl

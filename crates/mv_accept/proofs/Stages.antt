@@ -9,15 +9,15 @@ use Rattle.mv_ast.specs.declared.limit.Which.{Which}
 use Rattle.mv_ast.specs.Lexemes.{IsScript, CannotStand, PassesLimit}
 use Rattle.mv_parser.specs.declared.fault.ParseFault.{ParseFault}
 use Rattle.mv_parser.specs.declared.fault.ParseFault.TheVariants as parsing
-use Rattle.mv_accept.specs.declared.refusal.Refusal.{Refusal}
-use Rattle.mv_accept.specs.declared.refusal.Refusal.TheVariants as why
+use Rattle.mv_accept.specs.declared.refusal.ScriptRefusal.{ScriptRefusal}
+use Rattle.mv_accept.specs.declared.refusal.ScriptRefusal.TheVariants as why
 use Rattle.mv_accept.specs.declared.accept.NotAccepted.TheVariants.{Refused, NoMemory}
 use Rattle.mv_accept.specs.Exact.{Exact, HasCause}
 use Rattle.mv_accept.specs.Accepting.{most_bytes, HasTokens, HasNoTokens, too_long, bad_byte, bad_token, IsNoScript, syntax, limit}
 use Rattle.mv_accept.specs.Telling.{of_lexing, of_parsing}
 
 -- Tokens: too many bytes have none
-of_too_long : (bytes : List ℕ) → most_bytes < length bytes → (refusal : Refusal) → HasNoTokens bytes refusal → (Refused why.TooLong ≡ Refused refusal) ⊎ (Refused why.TooLong ≡ NoMemory)
+of_too_long : (bytes : List ℕ) → most_bytes < length bytes → (refusal : ScriptRefusal) → HasNoTokens bytes refusal → (Refused why.TooLong ≡ Refused refusal) ⊎ (Refused why.TooLong ≡ NoMemory)
 of_too_long bytes more _ (too_long h) = inl refl
 of_too_long bytes more _ (bad_byte at few h) = absurd (omega arith)
 of_too_long bytes more _ (bad_token at few h) = absurd (omega arith)
@@ -40,7 +40,7 @@ TellsToken bytes r = (place : ℕ) → IsBadToken bytes place → (r ≡ Err (le
 abbrev pub IsBadAt : List ℕ → Result (List Token) LexFault → Type 0
 IsBadAt bytes r = (place : ℕ) → r ≡ Err (lexing.BadToken place) → IsBadToken bytes place
 
-has_tokens : (bytes : List ℕ) (tokens : List Token) → TellsByte bytes (Ok tokens) → TellsToken bytes (Ok tokens) → (refusal : Refusal) → HasNoTokens bytes refusal → length bytes ≤ most_bytes → ⊥
+has_tokens : (bytes : List ℕ) (tokens : List Token) → TellsByte bytes (Ok tokens) → TellsToken bytes (Ok tokens) → (refusal : ScriptRefusal) → HasNoTokens bytes refusal → length bytes ≤ most_bytes → ⊥
 has_tokens bytes tokens b t _ (too_long more) few = absurd (omega arith)
 has_tokens bytes tokens b t _ (bad_byte at _ h) few = (let never = (b at).1 h in cc)
 has_tokens bytes tokens b t _ (bad_token at _ h) few = elim (t at h) [ inl never ↦ cc | inr never ↦ cc ]
@@ -55,7 +55,7 @@ lexed bytes tokens few are same b t = record {
 }
 
 lex_told : (bytes : List ℕ) (f : LexFault) → TellsByte bytes (Err f) → TellsToken bytes (Err f) → length bytes ≤ most_bytes
-    → (refusal : Refusal) → HasNoTokens bytes refusal → (of_lexing f ≡ Refused refusal) ⊎ (of_lexing f ≡ NoMemory)
+    → (refusal : ScriptRefusal) → HasNoTokens bytes refusal → (of_lexing f ≡ Refused refusal) ⊎ (of_lexing f ≡ NoMemory)
 lex_told bytes f b t few _ (too_long more) = absurd (omega arith)
 lex_told bytes f b t few _ (bad_byte at _ h) = (let is = (b at).1 h in let same : f ≡ lexing.BadByte at = cc in inl (ap of_lexing same))
 lex_told bytes f b t few _ (bad_token at _ h) =
@@ -94,7 +94,7 @@ abbrev pub IsPastAt : List ℕ → List Token → Result Script ParseFault → T
 IsPastAt bytes tokens r = (which : Which) (token : ℕ) → r ≡ Err (parsing.Limit which token) → PassesLimit bytes tokens which token
 
 is_script : (bytes : List ℕ) (tokens : List Token) (script : Script) → TellsSyntax bytes tokens (Ok script) → TellsLimit bytes tokens (Ok script)
-    → (refusal : Refusal) → IsNoScript bytes tokens refusal → ⊥
+    → (refusal : ScriptRefusal) → IsNoScript bytes tokens refusal → ⊥
 is_script bytes tokens script s l _ (syntax token h) = elim (s token h) [ inl never ↦ cc | inr never ↦ cc ]
 is_script bytes tokens script s l _ (limit which token h) = elim (l which token h) [ inl never ↦ cc | inr never ↦ cc ]
 
@@ -103,7 +103,7 @@ pub parsed : (bytes : List ℕ) (tokens : List Token) (script : Script) → IsSc
 parsed bytes tokens script is same s l = record { found = is; only = same; refused = tt; told = is_script bytes tokens script s l }
 
 parse_told : (bytes : List ℕ) (tokens : List Token) (f : ParseFault) → TellsSyntax bytes tokens (Err f) → TellsLimit bytes tokens (Err f)
-    → (refusal : Refusal) → IsNoScript bytes tokens refusal → (of_parsing f ≡ Refused refusal) ⊎ (of_parsing f ≡ NoMemory)
+    → (refusal : ScriptRefusal) → IsNoScript bytes tokens refusal → (of_parsing f ≡ Refused refusal) ⊎ (of_parsing f ≡ NoMemory)
 parse_told bytes tokens f s l _ (syntax token h) =
     elim (s token h) [
       | inl is ↦ (let same : f ≡ parsing.Syntax token = cc in inl (ap of_parsing same))

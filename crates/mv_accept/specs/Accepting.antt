@@ -7,7 +7,7 @@ use Rattle.mv_lex.specs.Tokens.{AreTokens, IsBadByte, IsBadToken}
 use Rattle.mv_ast.specs.declared.tree.Script.{Script}
 use Rattle.mv_ast.specs.declared.limit.Which.{Which}
 use Rattle.mv_ast.specs.Lexemes.{IsScript, CannotStand, PassesLimit}
-use Rattle.mv_names.specs.declared.fault.Fault.{Fault}
+use Rattle.mv_names.specs.declared.fault.TokenFault.{TokenFault}
 use Rattle.mv_names.specs.declared.fault.FaultKind.{FaultKind}
 use Rattle.mv_names.specs.declared.fault.FaultKind.TheVariants as kind
 use Rattle.mv_names.specs.First.{IsFirst}
@@ -21,8 +21,8 @@ use Rattle.mv_opening.specs.declared.fault.ParentFault.TheVariants as parent
 use Rattle.mv_opening.specs.declared.fault.OpeningFault.{OpeningFault}
 use Rattle.mv_opening.specs.declared.fault.OpeningFault.TheVariants as opening
 use Rattle.mv_opening.specs.Opening.{IsOpening, HasNoOpening}
-use Rattle.mv_accept.specs.declared.refusal.Refusal.{Refusal}
-use Rattle.mv_accept.specs.declared.refusal.Refusal.TheVariants as why
+use Rattle.mv_accept.specs.declared.refusal.ScriptRefusal.{ScriptRefusal}
+use Rattle.mv_accept.specs.declared.refusal.ScriptRefusal.TheVariants as why
 
 -- the greatest number of bytes of a script
 abbrev pub most_bytes : ℕ
@@ -68,18 +68,18 @@ abbrev pub Accepts : List ℕ → Program → Type 0
 Accepts bytes program = Loads bytes program × HasNoOrphan program
 
 -- why bytes have no tokens
-pub data HasNoTokens (bytes : List ℕ) : Refusal → Type 0 where
+pub data HasNoTokens (bytes : List ℕ) : ScriptRefusal → Type 0 where
   too_long : most_bytes < length bytes → HasNoTokens bytes why.TooLong
   bad_byte : (at : ℕ) → length bytes ≤ most_bytes → IsBadByte bytes at → HasNoTokens bytes (why.Byte at)
   bad_token : (at : ℕ) → length bytes ≤ most_bytes → IsBadToken bytes at → HasNoTokens bytes (why.Token at)
 
 -- why tokens aren't a script within the limits: depth and stretch are checked before the grammar, the others after it
-pub data IsNoScript (bytes : List ℕ) (tokens : List Token) : Refusal → Type 0 where
+pub data IsNoScript (bytes : List ℕ) (tokens : List Token) : ScriptRefusal → Type 0 where
   syntax : (token : ℕ) → CannotStand bytes tokens token → IsNoScript bytes tokens (why.Syntax token)
   limit : (which : Which) (token : ℕ) → PassesLimit bytes tokens which token → IsNoScript bytes tokens (why.Limit which token)
 
 -- the refusal for a fault of names and types at a token
-abbrev pub refusal_at : FaultKind → ℕ → Refusal
+abbrev pub refusal_at : FaultKind → ℕ → ScriptRefusal
 refusal_at kind.UnknownName token = why.UnknownName token
 refusal_at kind.DoubleName token = why.DoubleName token
 refusal_at kind.WrongType token = why.WrongType token
@@ -88,8 +88,8 @@ refusal_at kind.Late token = why.Late token
 refusal_at kind.Writes token = why.Writes token
 
 -- why a script can't be resolved: its first fault of names and types
-abbrev pub HasFault : Script → Refusal → Type 0
-HasFault script refusal = (fault : Fault) × IsFirst (faults script) fault × (refusal ≡ refusal_at fault.kind fault.token)
+abbrev pub HasFault : Script → ScriptRefusal → Type 0
+HasFault script refusal = (fault : TokenFault) × IsFirst (faults script) fault × (refusal ≡ refusal_at fault.kind fault.token)
 
 -- the name of a table
 abbrev pub name_in : Option TableInfo → List ℕ
@@ -100,7 +100,7 @@ abbrev pub table_name : Resolved → ℕ → List ℕ
 table_name resolved t = name_in (slice_get resolved.tables t)
 
 -- the refusal for rows that can't be loaded
-abbrev pub TellsOfRows : Resolved → OpeningFault → Refusal → Type 0
+abbrev pub TellsOfRows : Resolved → OpeningFault → ScriptRefusal → Type 0
 TellsOfRows resolved (opening.Field t row column) refusal = refusal ≡ why.Field (table_name resolved t) row column
 TellsOfRows resolved (opening.Width t row) refusal = refusal ≡ why.Width (table_name resolved t) row
 TellsOfRows resolved (opening.Duplicate t row) refusal = refusal ≡ why.Duplicate (table_name resolved t) row
@@ -108,28 +108,28 @@ TellsOfRows resolved opening.OpenBlock refusal = refusal ≡ why.OpenBlock
 TellsOfRows resolved opening.NoMemory refusal = ⊥
 
 -- why the rows that the calls begin with can't be loaded
-abbrev pub HasNoRows : List ℕ → Resolved → Refusal → Type 0
+abbrev pub HasNoRows : List ℕ → Resolved → ScriptRefusal → Type 0
 HasNoRows bytes resolved refusal = (fault : OpeningFault) × HasNoOpening resolved bytes fault × TellsOfRows resolved fault refusal
 
 -- the refusal for a row without its parent
-abbrev pub TellsOfParents : Resolved → ParentFault → Refusal → Type 0
+abbrev pub TellsOfParents : Resolved → ParentFault → ScriptRefusal → Type 0
 TellsOfParents resolved (parent.Missing t row column) refusal = refusal ≡ why.MissingParent (table_name resolved t) row column
 TellsOfParents resolved parent.NoMemory refusal = ⊥
 
 -- why the rows that the calls begin with may not stand together: the first one that lacks a parent
-abbrev pub HasOrphan : Program → Refusal → Type 0
+abbrev pub HasOrphan : Program → ScriptRefusal → Type 0
 HasOrphan program refusal =
     (orphan : Orphan) × (slice_get (orphans_of program) 0 ≡ Some orphan) × (refusal ≡ why.MissingParent (table_name program.resolved orphan.table) orphan.row orphan.column)
 
 -- why bytes are refused
-abbrev pub SpellsNothing : List ℕ → Refusal → Type 0
+abbrev pub SpellsNothing : List ℕ → ScriptRefusal → Type 0
 SpellsNothing bytes refusal = HasNoTokens bytes refusal ⊎ ((tokens : List Token) × HasTokens bytes tokens × IsNoScript bytes tokens refusal)
 
-abbrev pub StandsForNothing : List ℕ → Refusal → Type 0
+abbrev pub StandsForNothing : List ℕ → ScriptRefusal → Type 0
 StandsForNothing bytes refusal = SpellsNothing bytes refusal ⊎ ((script : Script) × Spells bytes script × HasFault script refusal)
 
-abbrev pub LoadsNothing : List ℕ → Refusal → Type 0
+abbrev pub LoadsNothing : List ℕ → ScriptRefusal → Type 0
 LoadsNothing bytes refusal = StandsForNothing bytes refusal ⊎ ((resolved : Resolved) × StandsFor bytes resolved × HasNoRows bytes resolved refusal)
 
-abbrev pub Refuses : List ℕ → Refusal → Type 0
+abbrev pub Refuses : List ℕ → ScriptRefusal → Type 0
 Refuses bytes refusal = LoadsNothing bytes refusal ⊎ ((program : Program) × Loads bytes program × HasOrphan program refusal)

@@ -2,10 +2,10 @@
 use Rattle.std.specs.Prelude.{ℕ, List, ◌++◌, codes, decimal}
 use Rattle.mv_ast.specs.declared.limit.Which.{Which}
 use Rattle.mv_ast.specs.declared.limit.Which.TheVariants as limit
-use Rattle.mv_accept.specs.declared.refusal.Refusal.{Refusal}
-use Rattle.mv_accept.specs.declared.refusal.Refusal.TheVariants.{TooLong, Byte, Token, Syntax, Limit, UnknownName, DoubleName, WrongType, KeyAssigned, Late, Writes, Field, Width, Duplicate, OpenBlock, MissingParent}
+use Rattle.mv_accept.specs.declared.refusal.ScriptRefusal.{ScriptRefusal}
+use Rattle.mv_accept.specs.declared.refusal.ScriptRefusal.TheVariants.{TooLong, Byte, Token, Syntax, Limit, UnknownName, DoubleName, WrongType, KeyAssigned, Late, Writes, Field, Width, Duplicate, OpenBlock, MissingParent}
 
-abbrev pub number_of : Refusal → ℕ
+abbrev pub number_of : ScriptRefusal → ℕ
 number_of TooLong = 1
 number_of (Byte at) = 2
 number_of (Token at) = 3
@@ -40,7 +40,7 @@ limit_name limit.Statements = codes "statements"
 limit_name limit.Calls = codes "calls"
 limit_name limit.Rows = codes "rows"
 
-abbrev pub line_of : Refusal → List ℕ
+abbrev pub line_of : ScriptRefusal → List ℕ
 line_of TooLong = codes "refused 1 too long"
 line_of (Byte at) = codes "refused 2 byte " ++ decimal at
 line_of (Token at) = codes "refused 3 token at " ++ decimal at

@@ -9,8 +9,8 @@ use Rattle.mv_resolve.specs.declared.refused.NameFault.TheVariants as naming
 use Rattle.mv_catalog.specs.declared.resolved.Resolved.{Resolved}
 use Rattle.mv_opening.specs.declared.fault.OpeningFault.{OpeningFault}
 use Rattle.mv_opening.specs.declared.fault.ParentFault.{ParentFault}
-use Rattle.mv_accept.specs.declared.refusal.Refusal.{Refusal}
-use Rattle.mv_accept.specs.declared.refusal.Refusal.TheVariants as why
+use Rattle.mv_accept.specs.declared.refusal.ScriptRefusal.{ScriptRefusal}
+use Rattle.mv_accept.specs.declared.refusal.ScriptRefusal.TheVariants as why
 use Rattle.mv_accept.specs.declared.accept.NotAccepted.{NotAccepted}
 use Rattle.mv_accept.specs.declared.accept.NotAccepted.TheVariants.{Refused, NoMemory}
 use Rattle.mv_accept.specs.Accepting.{TellsOfRows, TellsOfParents}

@@ -8,7 +8,7 @@ ghost use Rattle.mv_accept.specs.Exact.{Exact};
 ghost use Rattle.mv_accept.specs.Accepting.{HasTokens, HasNoTokens, Spells, SpellsNothing, StandsFor, StandsForNothing, Loads, LoadsNothing, Accepts, Refuses, TellsOfRows, TellsOfParents, most_calls, table_name};
 ghost use Rattle.mv_accept.specs.Telling.{OfOpening, OfParents};
 
-use crate::refusal::Refusal;
+use crate::refusal::ScriptRefusal;
 use mv_ast::tree::Script;
 use mv_catalog::resolved::{Program, Resolved};
 use mv_lex::lexer::{LexFault, lex};
@@ -32,7 +32,7 @@ pub const MOST_BYTES: usize = 16_777_216;
 /// Why a script wasn't accepted.
 #[derive(Drop)]
 pub enum NotAccepted {
-    Refused(Refusal),
+    Refused(ScriptRefusal),
     NoMemory,
 }
 
@@ -55,8 +55,8 @@ impl From<LexFault> for NotAccepted {
 
     fn from(fault: LexFault) -> NotAccepted {
         match fault {
-            LexFault::BadByte { at } => NotAccepted::Refused(Refusal::Byte { at }),
-            LexFault::BadToken { at } => NotAccepted::Refused(Refusal::Token { at }),
+            LexFault::BadByte { at } => NotAccepted::Refused(ScriptRefusal::Byte { at }),
+            LexFault::BadToken { at } => NotAccepted::Refused(ScriptRefusal::Token { at }),
             LexFault::NoMemory => NotAccepted::NoMemory,
         }
     }
@@ -70,8 +70,8 @@ impl From<ParseFault> for NotAccepted {
 
     fn from(fault: ParseFault) -> NotAccepted {
         match fault {
-            ParseFault::Syntax { token } => NotAccepted::Refused(Refusal::Syntax { token }),
-            ParseFault::Limit { which, token } => NotAccepted::Refused(Refusal::Limit {
+            ParseFault::Syntax { token } => NotAccepted::Refused(ScriptRefusal::Syntax { token }),
+            ParseFault::Limit { which, token } => NotAccepted::Refused(ScriptRefusal::Limit {
                 which,
                 token,
             }),
@@ -88,16 +88,20 @@ impl From<NameFault> for NotAccepted {
 
     fn from(fault: NameFault) -> NotAccepted {
         match fault {
-            NameFault::UnknownName { token } => NotAccepted::Refused(Refusal::UnknownName {
+            NameFault::UnknownName { token } => NotAccepted::Refused(ScriptRefusal::UnknownName {
                 token,
             }),
-            NameFault::DoubleName { token } => NotAccepted::Refused(Refusal::DoubleName { token }),
-            NameFault::WrongType { token } => NotAccepted::Refused(Refusal::WrongType { token }),
-            NameFault::KeyAssigned { token } => NotAccepted::Refused(Refusal::KeyAssigned {
+            NameFault::DoubleName { token } => NotAccepted::Refused(ScriptRefusal::DoubleName {
                 token,
             }),
-            NameFault::Late { token } => NotAccepted::Refused(Refusal::Late { token }),
-            NameFault::Writes { token } => NotAccepted::Refused(Refusal::Writes { token }),
+            NameFault::WrongType { token } => NotAccepted::Refused(ScriptRefusal::WrongType {
+                token,
+            }),
+            NameFault::KeyAssigned { token } => NotAccepted::Refused(ScriptRefusal::KeyAssigned {
+                token,
+            }),
+            NameFault::Late { token } => NotAccepted::Refused(ScriptRefusal::Late { token }),
+            NameFault::Writes { token } => NotAccepted::Refused(ScriptRefusal::Writes { token }),
             NameFault::NoMemory => NotAccepted::NoMemory,
         }
     }
@@ -170,7 +174,7 @@ fn tokens_of(alloc: Global, bytes: &[u8]) -> Result<List<Token>, NotAccepted>
     ensures spelled { IfOk result (All (IsSpelledIn bytes.now)) }
 {
     if MOST_BYTES < bytes.len() {
-        return Err(NotAccepted::Refused(Refusal::TooLong));
+        return Err(NotAccepted::Refused(ScriptRefusal::TooLong));
     }
     Ok(lex(alloc, bytes)?)
 }
@@ -185,24 +189,28 @@ fn of_opening(alloc: Global, resolved: &Resolved, fault: OpeningFault) -> NotAcc
 }
 
 /// Returns the refusal for an error of the opening, with the name of the table.
-fn refusal_of(alloc: Global, resolved: &Resolved, fault: OpeningFault) -> Result<Refusal, NoMemory>
+fn refusal_of(
+    alloc: Global,
+    resolved: &Resolved,
+    fault: OpeningFault,
+) -> Result<ScriptRefusal, NoMemory>
     ensures { IfOk result (TellsOfRows resolved.now fault) }
 {
     match fault {
-        OpeningFault::Field { table, row, column } => Ok(Refusal::Field {
+        OpeningFault::Field { table, row, column } => Ok(ScriptRefusal::Field {
             table: table_name(alloc, resolved, table as usize)?,
             row,
             column,
         }),
-        OpeningFault::Width { table, row } => Ok(Refusal::Width {
+        OpeningFault::Width { table, row } => Ok(ScriptRefusal::Width {
             table: table_name(alloc, resolved, table as usize)?,
             row,
         }),
-        OpeningFault::Duplicate { table, row } => Ok(Refusal::Duplicate {
+        OpeningFault::Duplicate { table, row } => Ok(ScriptRefusal::Duplicate {
             table: table_name(alloc, resolved, table as usize)?,
             row,
         }),
-        OpeningFault::OpenBlock => Ok(Refusal::OpenBlock),
+        OpeningFault::OpenBlock => Ok(ScriptRefusal::OpenBlock),
         OpeningFault::NoMemory => Err(NoMemory),
     }
 }
@@ -221,11 +229,11 @@ fn refusal_of_parents(
     alloc: Global,
     resolved: &Resolved,
     fault: ParentFault,
-) -> Result<Refusal, NoMemory>
+) -> Result<ScriptRefusal, NoMemory>
     ensures { IfOk result (TellsOfParents resolved.now fault) }
 {
     match fault {
-        ParentFault::Missing { table, row, column } => Ok(Refusal::MissingParent {
+        ParentFault::Missing { table, row, column } => Ok(ScriptRefusal::MissingParent {
             table: table_name(alloc, resolved, table as usize)?,
             row,
             column,

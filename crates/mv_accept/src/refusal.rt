@@ -11,7 +11,7 @@ use std::alloc::Global;
 
 /// Why a script is refused. Bytes are counted from 0; tokens, rows and columns from 1.
 #[derive(Drop)]
-pub enum Refusal {
+pub enum ScriptRefusal {
     /// The script has more than 2^24 bytes.
     TooLong,
     /// No script contains this byte. It is the first such byte.
@@ -47,28 +47,28 @@ pub enum Refusal {
     MissingParent { table: Txt, row: u32, column: u32 },
 }
 
-impl Refusal {
+impl ScriptRefusal {
     /// Returns the number of the refusal: from 1 to 14, 23 or 24.
     pub fn number(&self) -> u32
         ensures { result ≡ number_of self.now }
     {
         match self {
-            Refusal::TooLong => 1,
-            Refusal::Byte { .. } => 2,
-            Refusal::Token { .. } => 3,
-            Refusal::Syntax { .. } => 4,
-            Refusal::Limit { .. } => 5,
-            Refusal::UnknownName { .. } => 6,
-            Refusal::DoubleName { .. } => 7,
-            Refusal::WrongType { .. } => 8,
-            Refusal::KeyAssigned { .. } => 9,
-            Refusal::Late { .. } => 10,
-            Refusal::Writes { .. } => 24,
-            Refusal::Field { .. } => 11,
-            Refusal::Width { .. } => 12,
-            Refusal::Duplicate { .. } => 13,
-            Refusal::OpenBlock => 14,
-            Refusal::MissingParent { .. } => 23,
+            ScriptRefusal::TooLong => 1,
+            ScriptRefusal::Byte { .. } => 2,
+            ScriptRefusal::Token { .. } => 3,
+            ScriptRefusal::Syntax { .. } => 4,
+            ScriptRefusal::Limit { .. } => 5,
+            ScriptRefusal::UnknownName { .. } => 6,
+            ScriptRefusal::DoubleName { .. } => 7,
+            ScriptRefusal::WrongType { .. } => 8,
+            ScriptRefusal::KeyAssigned { .. } => 9,
+            ScriptRefusal::Late { .. } => 10,
+            ScriptRefusal::Writes { .. } => 24,
+            ScriptRefusal::Field { .. } => 11,
+            ScriptRefusal::Width { .. } => 12,
+            ScriptRefusal::Duplicate { .. } => 13,
+            ScriptRefusal::OpenBlock => 14,
+            ScriptRefusal::MissingParent { .. } => 23,
         }
     }
 
@@ -80,32 +80,50 @@ impl Refusal {
         ensures { IfOk result (λ line. line ≡ line_of self.now) }
     {
         match self {
-            Refusal::TooLong => Txt::of(alloc, b"refused 1 too long"),
-            Refusal::Byte { at } => numbered(alloc, b"refused 2 byte ", *at),
-            Refusal::Token { at } => numbered(alloc, b"refused 3 token at ", *at),
-            Refusal::Syntax { token } => numbered(alloc, b"refused 4 syntax at token ", *token),
-            Refusal::Limit { which, token } => limit_line(alloc, *which, *token),
-            Refusal::UnknownName { token } => {
+            ScriptRefusal::TooLong => Txt::of(alloc, b"refused 1 too long"),
+            ScriptRefusal::Byte { at } => numbered(alloc, b"refused 2 byte ", *at),
+            ScriptRefusal::Token { at } => numbered(alloc, b"refused 3 token at ", *at),
+            ScriptRefusal::Syntax { token } => numbered(
+                alloc,
+                b"refused 4 syntax at token ",
+                *token,
+            ),
+            ScriptRefusal::Limit { which, token } => limit_line(alloc, *which, *token),
+            ScriptRefusal::UnknownName { token } => {
                 numbered(alloc, b"refused 6 unknown name at token ", *token)
             }
-            Refusal::DoubleName { token } => {
+            ScriptRefusal::DoubleName { token } => {
                 numbered(alloc, b"refused 7 double name at token ", *token)
             }
-            Refusal::WrongType { token } => {
+            ScriptRefusal::WrongType { token } => {
                 numbered(alloc, b"refused 8 wrong type at token ", *token)
             }
-            Refusal::KeyAssigned { token } => {
+            ScriptRefusal::KeyAssigned { token } => {
                 numbered(alloc, b"refused 9 key assigned at token ", *token)
             }
-            Refusal::Late { token } => numbered(alloc, b"refused 10 late at token ", *token),
-            Refusal::Writes { token } => numbered(alloc, b"refused 24 write at token ", *token),
-            Refusal::Field { table, row, column } => {
+            ScriptRefusal::Late { token } => numbered(alloc, b"refused 10 late at token ", *token),
+            ScriptRefusal::Writes { token } => numbered(
+                alloc,
+                b"refused 24 write at token ",
+                *token,
+            ),
+            ScriptRefusal::Field { table, row, column } => {
                 column_line(alloc, b"refused 11 table ", table, *row, *column)
             }
-            Refusal::Width { table, row } => row_line(alloc, b"refused 12 table ", table, *row),
-            Refusal::Duplicate { table, row } => row_line(alloc, b"refused 13 table ", table, *row),
-            Refusal::OpenBlock => Txt::of(alloc, b"refused 14 open block"),
-            Refusal::MissingParent { table, row, column } => {
+            ScriptRefusal::Width { table, row } => row_line(
+                alloc,
+                b"refused 12 table ",
+                table,
+                *row,
+            ),
+            ScriptRefusal::Duplicate { table, row } => row_line(
+                alloc,
+                b"refused 13 table ",
+                table,
+                *row,
+            ),
+            ScriptRefusal::OpenBlock => Txt::of(alloc, b"refused 14 open block"),
+            ScriptRefusal::MissingParent { table, row, column } => {
                 column_line(alloc, b"refused 23 table ", table, *row, *column)
             }
         }

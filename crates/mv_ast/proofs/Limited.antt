@@ -3,7 +3,7 @@ use Rattle.std.proofs.Common.{◌≡◌, ◌≤◌, ℕ, zero, suc, Bool, true, 
 use Rattle.std.specs.List.{All, filter}
 use Rattle.std.proofs.lemmas.List.Elements.{All-nil, All-cons}
 use Rattle.mv_ast.specs.declared.lexeme.Lexeme.{Lexeme}
-use Rattle.mv_ast.specs.declared.limit.Passed.{Passed}
+use Rattle.mv_ast.specs.declared.limit.PassedLimit.{PassedLimit}
 use Rattle.mv_ast.specs.declared.limit.Which.{Which}
 use Rattle.mv_ast.specs.declared.limit.Which.TheVariants as limit
 use Rattle.mv_ast.specs.declared.tree.Item.{Item}
@@ -22,11 +22,11 @@ nothing_together f (x ∷ xs) h =
     All-cons (λ y. f y ≡ []) x xs both.0 (nothing_together f xs both.1)
 
 -- of two that are there one is
-one_of : (b : Bool) (p q : Passed) → (r : Passed) × ((if b then Some p else Some q) ≡ Some r)
+one_of : (b : Bool) (p q : PassedLimit) → (r : PassedLimit) × ((if b then Some p else Some q) ≡ Some r)
 one_of true p q = (p, refl)
 one_of false p q = (q, refl)
 
-stays : (best : Option Passed) (q : Passed) (ps : List Passed) → best ≡ Some q → soonest best ps ≡ None → ⊥
+stays : (best : Option PassedLimit) (q : PassedLimit) (ps : List PassedLimit) → best ≡ Some q → soonest best ps ≡ None → ⊥
 unfolding soonest
 stays best q [] is h = cc (is, h)
 stays best q (p ∷ ps) is h =
@@ -34,7 +34,7 @@ stays best q (p ∷ ps) is h =
     stays (sooner best p) next.0 ps (ap (λ b. sooner b p) is ∙ next.1) h
 
 -- nothing comes first only where there is nothing
-pub none_soonest : (ps : List Passed) → soonest None ps ≡ None → ps ≡ []
+pub none_soonest : (ps : List PassedLimit) → soonest None ps ≡ None → ps ≡ []
 unfolding soonest
 none_soonest [] h = refl
 none_soonest (p ∷ ps) h = absurd (stays (Some p) p ps refl h)

@@ -5,7 +5,7 @@ use Rattle.std.specs.List.{filter}
 use Rattle.mv_ast.specs.declared.lexeme.Lexeme.{Lexeme}
 use Rattle.mv_ast.specs.declared.lexeme.Terminal.{Terminal}
 use Rattle.mv_ast.specs.declared.lexeme.Terminal.TheVariants as word
-use Rattle.mv_ast.specs.declared.limit.Passed.{Passed}
+use Rattle.mv_ast.specs.declared.limit.PassedLimit.{PassedLimit}
 use Rattle.mv_ast.specs.declared.limit.Which.{Which}
 use Rattle.mv_ast.specs.declared.limit.Which.TheVariants as limit
 use Rattle.mv_ast.specs.declared.tree.Arg.{Arg}
@@ -33,7 +33,7 @@ use Rattle.mv_ast.specs.declared.tree.TableDef.{TableDef}
 use Rattle.mv_ast.specs.declared.tree.VarDef.{VarDef}
 use Rattle.mv_ast.specs.Texts.{spelling, number_from, unquoted, greatest}
 
-abbrev pub at_token : Which → ℕ → Passed
+abbrev pub at_token : Which → ℕ → PassedLimit
 at_token which token = record { which = which; token = token }
 
 -- A prefix of the tokens is a list with its last token first.
@@ -82,20 +82,20 @@ stretch [] = 0
 stretch (l ∷ before) = if is_stop l.kind then 0 else stretch before + 1
 
 -- the limit that is passed at the last token of a prefix, if there is one
-abbrev pub over : ℕ → List Lexeme → Option Passed
+abbrev pub over : ℕ → List Lexeme → Option PassedLimit
 over token front = if nat_lt 32 (depth front) then Some (at_token limit.Depth token) else (if nat_lt 1000 (stretch front) then Some (at_token limit.Stretch token) else None)
 
-abbrev pub or_else : Option Passed → Option Passed → Option Passed
+abbrev pub or_else : Option PassedLimit → Option PassedLimit → Option PassedLimit
 or_else None other = other
 or_else (Some p) other = Some p
 
 -- where the tokens after a prefix first pass depth or stretch
-unfoldable pub first_behind : List Lexeme → List Lexeme → Option Passed
+unfoldable pub first_behind : List Lexeme → List Lexeme → Option PassedLimit
 first_behind before [] = None
 first_behind before (l ∷ ls) = or_else (over l.number (l ∷ before)) (first_behind (l ∷ before) ls)
 
 -- where the tokens first pass depth or stretch
-abbrev pub first_early : List Lexeme → Option Passed
+abbrev pub first_early : List Lexeme → Option PassedLimit
 first_early lexemes = first_behind [] lexemes
 
 -- the rank of a limit: its index among the limits
@@ -116,20 +116,20 @@ rank limit.Calls = 12
 rank limit.Rows = 13
 
 -- the earlier token comes first; at the same token, the limit of lower rank
-abbrev pub is_sooner : Passed → Passed → Bool
+abbrev pub is_sooner : PassedLimit → PassedLimit → Bool
 is_sooner p q = nat_lt p.token q.token || ((p.token == q.token) && nat_lt (rank p.which) (rank q.which))
 
-abbrev pub sooner : Option Passed → Passed → Option Passed
+abbrev pub sooner : Option PassedLimit → PassedLimit → Option PassedLimit
 sooner None p = Some p
 sooner (Some q) p = if is_sooner p q then Some p else Some q
 
 -- whichever comes first: `best`, or one of a list
-unfoldable pub soonest : Option Passed → List Passed → Option Passed
+unfoldable pub soonest : Option PassedLimit → List PassedLimit → Option PassedLimit
 soonest best [] = best
 soonest best (p ∷ ps) = soonest (sooner best p) ps
 
 -- a list with more than `most` items passes its limit at the first item after these
-abbrev pub too_many : {A : Type 0} → Which → ℕ → (A → ℕ) → List A → List Passed
+abbrev pub too_many : {A : Type 0} → Which → ℕ → (A → ℕ) → List A → List PassedLimit
 too_many which most token items = option_to_list (option_map (λ x. at_token which (token x)) (slice_get items most))
 
 -- the concatenation of lists
@@ -137,13 +137,13 @@ abbrev pub together : {A : Type 0} → List (List A) → List A
 together [] = []
 together (xs ∷ xss) = xs ++ together xss
 
-abbrev pub when : Bool → Passed → List Passed
+abbrev pub when : Bool → PassedLimit → List PassedLimit
 when true p = p ∷ []
 when false p = []
 
 -- The limits of a single token.
 -- a name has at most 64 bytes, a number is at most the greatest INT, and a text has at most 4,000 bytes
-abbrev pub own_passes : Terminal → List ℕ → ℕ → List Passed
+abbrev pub own_passes : Terminal → List ℕ → ℕ → List PassedLimit
 own_passes word.Name text token = when (nat_lt 64 (length text)) (at_token limit.Name token)
 own_passes word.Variable text token = when (nat_lt 65 (length text)) (at_token limit.Name token)
 own_passes word.Number text token = when (nat_lt greatest (number_from 0 text)) (at_token limit.Literal token)
@@ -159,12 +159,12 @@ is_size_of a b c = false
 abbrev pub is_size : ℕ → Bool
 is_size n = nat_lt 0 n && nat_lt n 4001
 
-abbrev pub size_passes : List ℕ → List Lexeme → List Passed
+abbrev pub size_passes : List ℕ → List Lexeme → List PassedLimit
 size_passes bytes (a ∷ b ∷ c ∷ ls) = when (is_size_of a.kind b.kind c.kind && not (is_size (number_from 0 (spelling bytes c)))) (at_token limit.Text c.number)
 size_passes bytes ls = []
 
 -- all limits that single tokens pass
-unfoldable pub token_passes : List ℕ → List Lexeme → List Passed
+unfoldable pub token_passes : List ℕ → List Lexeme → List PassedLimit
 token_passes bytes [] = []
 token_passes bytes (l ∷ ls) = (own_passes l.kind (spelling bytes l) l.number ++ size_passes bytes (l ∷ ls)) ++ token_passes bytes ls
 
@@ -203,30 +203,30 @@ item_token i = i.token
 abbrev pub columns_most : ℕ
 columns_most = 32
 
-abbrev pub row_passes : LitRow → List Passed
+abbrev pub row_passes : LitRow → List PassedLimit
 row_passes r = too_many limit.Columns columns_most literal_token r.values
 
 -- a table has at most 32 columns and 8 key columns; its rows aren't counted
-abbrev pub table_passes : TableDef → List Passed
+abbrev pub table_passes : TableDef → List PassedLimit
 table_passes t = too_many limit.Columns columns_most column_token t.columns ++ (too_many limit.Key 8 name_token t.key ++ together (map row_passes t.rows))
 
-abbrev pub kind_passes : ParamKind → List Passed
+abbrev pub kind_passes : ParamKind → List PassedLimit
 kind_passes (parameter.One k) = []
 kind_passes (parameter.Many columns) = too_many limit.Columns columns_most column_token columns
 
-abbrev pub param_passes : Param → List Passed
+abbrev pub param_passes : Param → List PassedLimit
 param_passes p = kind_passes p.kind
 
 -- a ROWS argument has at most 1,000 rows
-abbrev pub argument_passes : Arg → List Passed
+abbrev pub argument_passes : Arg → List PassedLimit
 argument_passes (argument.One l) = []
 argument_passes (argument.Many rows) = too_many limit.Rows 1000 row_token rows.rows ++ together (map row_passes rows.rows)
 
-abbrev pub call_passes : CallDef → List Passed
+abbrev pub call_passes : CallDef → List PassedLimit
 call_passes c = together (map argument_passes c.arguments)
 
 -- the limits that the lists of a statement pass, those of nested statements included
-abbrev pub statement_step : Stmt-F (List Passed) → List Passed
+abbrev pub statement_step : Stmt-F (List PassedLimit) → List PassedLimit
 statement_step (Assign token to right) = []
 statement_step (Select token columns to table conds sorts offset) =
     too_many limit.Columns columns_most name_token columns ++ (too_many limit.Columns columns_most name_token to ++ too_many limit.Columns columns_most sort_token sorts)
@@ -241,8 +241,8 @@ statement_step (Delete token table conds) = []
 statement_step (Print token values) = too_many limit.Columns columns_most expr_token values
 statement_step (Rollback token reason) = []
 
-abbrev pub statement_passes : Stmt → List Passed
-statement_passes = fold-Stmt (List Passed) statement_step
+abbrev pub statement_passes : Stmt → List PassedLimit
+statement_passes = fold-Stmt (List PassedLimit) statement_step
 
 -- the first tokens of a statement and of those nested in it, in the order of the text
 abbrev pub tokens_step : Stmt-F (List ℕ) → List ℕ
@@ -262,18 +262,18 @@ abbrev pub statement_tokens : Stmt → List ℕ
 statement_tokens = fold-Stmt (List ℕ) tokens_step
 
 -- a procedure has at most 16 parameters, 64 declared variables and 1,000 statements, nested ones included
-abbrev pub procedure_passes : ProcDef → List Passed
+abbrev pub procedure_passes : ProcDef → List PassedLimit
 procedure_passes p = too_many limit.Parameters 16 param_token p.params ++ (too_many limit.Variables 64 declared_token p.vars
     ++ (together (map param_passes p.params) ++ (together (map statement_passes p.body) ++ too_many limit.Statements 1000 (λ t. t) (together (map statement_tokens p.body)))))
 
-abbrev pub item_passes : ItemKind → List Passed
+abbrev pub item_passes : ItemKind → List PassedLimit
 item_passes (Table t) = table_passes t
 item_passes (Proc p) = procedure_passes p
 item_passes (Copy c) = []
 item_passes (Call c) = call_passes c
 item_passes (Journal s) = []
 
-abbrev pub passes_in : Item → List Passed
+abbrev pub passes_in : Item → List PassedLimit
 passes_in i = item_passes i.kind
 
 -- whether the limit counts items of this kind
@@ -283,14 +283,14 @@ is_counted limit.Procedures (Proc p) = true
 is_counted limit.Calls (Call c) = true
 is_counted which kind = false
 
-abbrev pub too_many_items : Which → ℕ → List Item → List Passed
+abbrev pub too_many_items : Which → ℕ → List Item → List PassedLimit
 too_many_items which most items = too_many which most item_token (filter (λ i. is_counted which i.kind) items)
 
 -- a script has at most 64 tables, 256 procedures and 1,000,000 calls
-abbrev pub script_passes : Script → List Passed
+abbrev pub script_passes : Script → List PassedLimit
 script_passes s = too_many_items limit.Tables 64 s.items ++ (too_many_items limit.Procedures 256 s.items
     ++ (too_many_items limit.Calls 1000000 s.items ++ together (map passes_in s.items)))
 
 -- the limit that a script passes first, other than depth and stretch
-abbrev pub first_late : List ℕ → List Lexeme → Script → Option Passed
+abbrev pub first_late : List ℕ → List Lexeme → Script → Option PassedLimit
 first_late bytes lexemes script = soonest None (token_passes bytes lexemes ++ script_passes script)

@@ -36,7 +36,7 @@ pub enum Which {
 
 /// A limit, and the number of the first token that passes it, counted from 1.
 #[derive(Clone, Copy)]
-pub struct Passed {
+pub struct PassedLimit {
     pub which: Which,
     pub token: u32,
 }

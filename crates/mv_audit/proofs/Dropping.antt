@@ -2,10 +2,10 @@
 use Rattle.std.proofs.Common.{◌≡◌, ◌<◌, ◌≤◌, ◌+◌, ℕ, Bool, true, false, List, Some, None, length, drop, get_or, refl, subst, arith}
 use Rattle.std.specs.Prelude.{◌==◌, slice_get}
 use Rattle.std.proofs.lemmas.Bool.{eqb-true, both_ways, eq-eqb}
-use Rattle.mv_audit.specs.declared.course.Live.{Live as Kept}
-use Rattle.mv_audit.specs.declared.course.Course.{Course as State}
-use Rattle.mv_audit.specs.Courses.{IsTrimmed}
-use Rattle.mv_audit.proofs.Coursing.{same_at}
+use Rattle.mv_audit.specs.declared.schedule.Live.{Live as Kept}
+use Rattle.mv_audit.specs.declared.schedule.Schedule.{Schedule as State}
+use Rattle.mv_audit.specs.Schedules.{IsTrimmed}
+use Rattle.mv_audit.proofs.Scheduling.{same_at}
 
 -- one call more is looked at
 pub least_more : (ls : List Kept) (i : ℕ) (x : Kept) (least next : ℕ) → i < length ls → x ≡ get_or ls i x → next ≤ least → (x.reply ≡ None → next ≤ x.start)

@@ -13,9 +13,9 @@ use Rattle.mv_recorded.specs.Own.{Each}
 use Rattle.mv_recorded.proofs.Inverting.{each_map, each_join}
 use Rattle.mv_history.specs.Kept.{Path, Placed, is_path, among, other_writes, stays, keep}
 use Rattle.mv_history.proofs.Zipping.{zip_its, zip_firsts}
-use Rattle.mv_alike.proofs.Keeping.{Climbs, among_more, among_new}
-use Rattle.mv_alike.proofs.Placing.{apart, apart_back}
-use Rattle.mv_alike.proofs.Walking.{earlier_then, climbs_parts}
+use Rattle.mv_soundness.proofs.Keeping.{Climbs, among_more, among_new}
+use Rattle.mv_soundness.proofs.Placing.{apart, apart_back}
+use Rattle.mv_soundness.proofs.Walking.{earlier_then, climbs_parts}
 use Rattle.mv_audit.specs.declared.walk.Run.{Run}
 use Rattle.mv_audit.specs.declared.walk.Runs.{Runs}
 use Rattle.mv_audit.specs.declared.walk.Walk.{Walk}

@@ -17,7 +17,7 @@ use Rattle.mv_journal.specs.declared.event.Event.TheVariants.{B, S, A, M, C, X, 
 use Rattle.mv_journal.specs.declared.outcome.Outcome.{Outcome}
 use Rattle.mv_lawful.specs.declared.fault.Wrong.{Wrong}
 use Rattle.mv_lawful.specs.declared.fault.Wrong.TheVariants.{Refused, Open}
-use Rattle.mv_lawful.specs.Work.{Work}
+use Rattle.mv_lawful.specs.Batch.{Batch}
 use Rattle.mv_lawful.specs.Lawful.{Lawful, beginning, wrong_with}
 use Rattle.mv_lawful.specs.Outcomes.{has_line, shown, reply_in, outcome_of}
 use Rattle.mv_lawful.proofs.Showing.{shown_is_lawful, shown_has_the_outcome}
@@ -25,7 +25,7 @@ use Rattle.mv_report.specs.Text.{replies_text, history_text, event_line, journal
 use Rattle.mv_report.specs.Shown.{IsPlain}
 use Rattle.mv_report.specs.JournalLines.{is_word, lines_in, after_journal, before_tables, journal_lines_in}
 use Rattle.mv_report.proofs.Lining.{text_has_journal}
-use Rattle.mv_report.specs.History.{work_of, text}
+use Rattle.mv_report.specs.History.{batch_of, text}
 use Rattle.mv_audit.specs.declared.verdict.Verdict.TheVariants.{Yes}
 use Rattle.mv_audit.specs.Verdicts.{ends_in, journal_at, events_of, fault_of, fault_in, difference, judged, verdict_after, verdict_of}
 use Rattle.mv_audit.specs.Laws.{YesIsLawful, LawfulIsYes}
@@ -51,10 +51,10 @@ judged_yes at (Some n) differs h = cc
 abbrev own_events : List ℕ → List Event
 own_events report = events_of (journal_lines_in report)
 
-abbrev IsOwnText : List TableInfo → Work → List ℕ → Type 0
+abbrev IsOwnText : List TableInfo → Batch → List ℕ → Type 0
 IsOwnText tables w report = Lawful w (own_events report) × (report ≡ text_of tables (outcome_of w (own_events report)))
 
-yes_after : (tables : List TableInfo) (w : Work) (report : List ℕ) (at : Option ℕ) → verdict_after tables w report at ≡ Yes → IsOwnText tables w report
+yes_after : (tables : List TableInfo) (w : Batch) (report : List ℕ) (at : Option ℕ) → verdict_after tables w report at ≡ Yes → IsOwnText tables w report
 yes_after tables w report None h = cc
 yes_after tables w report (Some at) h =
     let parts = judged_yes at (fault_in w (journal_lines_in report)) (difference 1 report (text_of tables (outcome_of w (own_events report)))) h in (
@@ -64,7 +64,7 @@ yes_after tables w report (Some at) h =
 
 pub yes_is_lawful : YesIsLawful
 yes_is_lawful p rounds report h =
-    let parts = yes_after p.resolved.tables (work_of p (record { rounds = rounds; horizon = None })) report (journal_at 1 (lines_in report)) h in
+    let parts = yes_after p.resolved.tables (batch_of p (record { rounds = rounds; horizon = None })) report (journal_at 1 (lines_in report)) h in
     record { journal = own_events report; printed = all_shown (journal_lines_in report); lawful = parts.0; text_is = parts.1 }
 
 -- Such a text has a journal
@@ -101,7 +101,7 @@ bare_has : (tables : List TableInfo) (database : List (List Keyed)) → journal_
 bare_has tables database = refl
 
 -- the text of a run without events
-without_events : (tables : List TableInfo) (w : Work) → Lawful w [] → journal_at 1 (lines_in (text_of tables (outcome_of w []))) ≡ Some 2
+without_events : (tables : List TableInfo) (w : Batch) → Lawful w [] → journal_at 1 (lines_in (text_of tables (outcome_of w []))) ≡ Some 2
 without_events tables w lawful =
     ap (λ count. journal_at 1 (lines_in (text_of tables (record { replies = map (reply_in w beginning) (first_numbers count); history = []; journal = []; tables = w.opening })))) (no_calls w.count lawful)
     ∙ bare_has tables w.opening
@@ -127,10 +127,10 @@ abbrev with_lines : List TableInfo → Outcome → List ℕ → List ℕ
 with_lines tables o lines =
     replies_text o.replies ++ line (codes "history") ++ history_text o.history ++ line (codes "journal") ++ lines ++ tables_text tables o.tables ++ line (codes "end")
 
-text_shown : (tables : List TableInfo) (w : Work) (es : List Event) → text_of tables (outcome_of w es) ≡ text_of tables (outcome_of w (shown es))
+text_shown : (tables : List TableInfo) (w : Batch) (es : List Event) → text_of tables (outcome_of w es) ≡ text_of tables (outcome_of w (shown es))
 text_shown tables w es = ap (with_lines tables (outcome_of w es)) (sym (lines_shown es)) ∙ ap (text_of tables) (sym (shown_has_the_outcome w es))
 
-yes_for : (tables : List TableInfo) (w : Work) (report : List ℕ) (es : List Event) → Lawful w es → IsPlain (outcome_of w es) → report ≡ text_of tables (outcome_of w es) → verdict_of tables w report ≡ Yes
+yes_for : (tables : List TableInfo) (w : Batch) (report : List ℕ) (es : List Event) → Lawful w es → IsPlain (outcome_of w es) → report ≡ text_of tables (outcome_of w es) → verdict_of tables w report ≡ Yes
 yes_for tables w report es lawful plain is = by (journal_at 1 (lines_in report)) refl
   where
     has : journal_lines_in report ≡ map event_text (shown es)
@@ -165,13 +165,13 @@ yes_for tables w report es lawful plain is = by (journal_at 1 (lines_in report))
     by (Some at) e = ap (λ f. judged at f (difference 1 report (text_of tables (outcome_of w (own_events report))))) unfaulty ∙ ap (judged at None) alike
 
 -- the events that are shown leave plain lines too
-shown_plain : (w : Work) (es : List Event) → IsPlain (outcome_of w es) → IsPlain (outcome_of w (shown es))
+shown_plain : (w : Batch) (es : List Event) → IsPlain (outcome_of w es) → IsPlain (outcome_of w (shown es))
 shown_plain w es plain = subst IsPlain (sym (shown_has_the_outcome w es)) (record { lines = plain.lines; calls = All-filter has_line IsInRange es plain.calls })
 
 pub lawful_is_yes : LawfulIsYes
 lawful_is_yes p options journal lawful plain =
     let tables : List TableInfo = p.resolved.tables in
-    let w : Work = work_of p options in
+    let w : Batch = batch_of p options in
     let same : outcome_of (endless w) (shown journal) ≡ outcome_of w (shown journal) = endless_outcome w journal in
     yes_for tables (endless w) (text p options journal) (shown journal) (endless_lawful w journal (shown_is_lawful w journal lawful)) (subst IsPlain (sym same) (shown_plain w journal plain))
     (text_shown tables w journal ∙ ap (text_of tables) (sym same))

@@ -18,9 +18,9 @@ use Rattle.mv_recorded.specs.Own.{Each}
 use Rattle.mv_recorded.proofs.Inverting.{each_map}
 use Rattle.mv_history.specs.Hits.{any_hits, touches}
 use Rattle.mv_history.specs.Kept.{Path, Placed, is_path, among, at, front, path_at, is_kept, same_path, reads_stay, other_writes, stays_with, stays}
-use Rattle.mv_alike.proofs.Keeping.{Climbs}
-use Rattle.mv_alike.proofs.Placing.{path_is, apart, apart_back}
-use Rattle.mv_alike.proofs.Walking.{climbs_parts, at_past}
+use Rattle.mv_soundness.proofs.Keeping.{Climbs}
+use Rattle.mv_soundness.proofs.Placing.{path_is, apart, apart_back}
+use Rattle.mv_soundness.proofs.Walking.{climbs_parts, at_past}
 use Rattle.mv_audit.specs.declared.paths.Nest.{Nest}
 use Rattle.mv_audit.specs.declared.walk.Run.{Run}
 use Rattle.mv_audit.specs.declared.walk.Runs.{Runs}

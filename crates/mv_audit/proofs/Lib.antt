@@ -1,6 +1,6 @@
 pub mod Bytes
 pub mod Comparing
-pub mod Coursing
+pub mod Scheduling
 pub mod Dropping
 pub mod Ending
 pub mod Endless

@@ -8,9 +8,9 @@ use Rattle.mv_record.specs.declared.record.Record.{Record}
 use Rattle.mv_history.specs.declared.change.Change.{Change}
 use Rattle.mv_history.specs.Changes.{changes_between}
 use Rattle.mv_journal.specs.declared.outcome.Mark.{Mark}
-use Rattle.mv_audit.specs.declared.course.Live.{Live as Kept}
-use Rattle.mv_audit.specs.declared.course.Course.{Course as State}
-use Rattle.mv_audit.specs.Courses.{restarted, finished, answered, again_state, committed_state, answered_state}
+use Rattle.mv_audit.specs.declared.schedule.Live.{Live as Kept}
+use Rattle.mv_audit.specs.declared.schedule.Schedule.{Schedule as State}
+use Rattle.mv_audit.specs.Schedules.{restarted, finished, answered, again_state, committed_state, answered_state}
 
 pub set_twice : {A : Type 0} (xs : List A) (c : ℕ) (a b : A) → slice_set (slice_set xs c a) c b ≡ slice_set xs c b
 set_twice [] c a b = refl

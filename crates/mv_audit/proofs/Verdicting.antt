@@ -7,7 +7,7 @@ use Rattle.std.proofs.lemmas.List.Elements.{All-from_recursion}
 use Rattle.mv_catalog.specs.declared.resolved.Program.{Program}
 use Rattle.mv_journal.specs.declared.event.Event.{Event}
 use Rattle.mv_journal.specs.Reading.{event_in}
-use Rattle.mv_lawful.specs.declared.fault.Fault.{Fault}
+use Rattle.mv_lawful.specs.declared.fault.EventFault.{EventFault}
 use Rattle.mv_lawful.specs.declared.fault.Wrong.{Wrong}
 use Rattle.mv_lawful.specs.declared.fault.Wrong.TheVariants as wrong
 use Rattle.mv_lawful.specs.Lawful.{wrong_with}
@@ -15,7 +15,7 @@ use Rattle.mv_lawful.specs.Outcomes.{has_line, outcome_of}
 use Rattle.mv_report.specs.Text.{text_of}
 use Rattle.mv_report.specs.JournalLines.{lines_in, after_journal, before_tables}
 use Rattle.mv_audit.specs.declared.verdict.Verdict.TheVariants.{Yes, NoJournal, Line}
-use Rattle.mv_audit.specs.Courses.{audited}
+use Rattle.mv_audit.specs.Schedules.{audited}
 use Rattle.mv_audit.specs.Verdicts.{journal_at, shown_event, leading, events_of, fault_of, fault_in, difference, judged, verdict_after, audit_verdict}
 
 -- Events of lines
@@ -63,7 +63,7 @@ module _ (p : Program) (rounds : ℕ) (report rest : List ℕ) (at : ℕ) (es : 
   by_wrong : (o : Option Wrong) → wrong_with (audited p rounds) es ≡ o → audit_verdict p rounds report ≡ judged at (fault_of o (length es) (length (before_tables (lines_in rest)))) (differs p rounds report es)
   by_wrong o is = found p rounds report rest at es whole h ∙ ap (λ x. judged at (fault_of x (length es) (length (before_tables (lines_in rest)))) (differs p rounds report es)) is
 
-  pub refused_line : (n : ℕ) (f : Fault) → wrong_with (audited p rounds) es ≡ Some (wrong.Refused n f) → Line (at + n) ≡ audit_verdict p rounds report
+  pub refused_line : (n : ℕ) (f : EventFault) → wrong_with (audited p rounds) es ≡ Some (wrong.Refused n f) → Line (at + n) ≡ audit_verdict p rounds report
   refused_line n f is = sym (by_wrong (Some (wrong.Refused n f)) is)
 
   pub open_line : (c : ℕ) → wrong_with (audited p rounds) es ≡ Some (wrong.Open c) → Line (at + (length es + 1)) ≡ audit_verdict p rounds report

@@ -5,10 +5,10 @@ use Rattle.std.proofs.lemmas.Option.{get_or_from_slice_get}
 use Rattle.std.specs.Option.{option_map, is_some}
 use Rattle.std.proofs.lemmas.List.{drop_more, drop_all}
 use Rattle.mv_journal.specs.declared.event.Event.{Event}
-use Rattle.mv_lawful.specs.declared.fault.Fault.{Fault}
+use Rattle.mv_lawful.specs.declared.fault.EventFault.{EventFault}
 use Rattle.mv_lawful.specs.declared.fault.Wrong.TheVariants.{Refused, Open}
-use Rattle.mv_lawful.specs.Work.{Work}
-use Rattle.mv_lawful.specs.Lawful.{Course, refusal, after, reach, open_call, or_refused, wrong_from}
+use Rattle.mv_lawful.specs.Batch.{Batch}
+use Rattle.mv_lawful.specs.Lawful.{Schedule, refusal, after, reach, open_call, or_refused, wrong_from}
 
 pub none_of : {A : Type 0} (o : Option A) → not (is_some o) ≡ true → o ≡ None
 none_of None h = refl
@@ -22,32 +22,32 @@ some_of (Some x) h = (x, refl)
 pub next_event : (es : List Event) (i : ℕ) (e : Event) → i < length es → e ≡ get_or es i e → drop i es ≡ e ∷ drop (i + 1) es
 next_event es i e lt is = drop_more es i e lt ∙ ap (λ x. x ∷ drop (i + 1) es) (sym is)
 
-pub is_refused : (w : Work) (s : Course) (es : List Event) (i : ℕ) (e : Event) → i < length es → e ≡ get_or es i e → not (is_some (refusal w s e)) ≡ false → (f : Fault) × (wrong_from w (i + 1) s (drop i es) ≡ Some (Refused (i + 1) f))
+pub is_refused : (w : Batch) (s : Schedule) (es : List Event) (i : ℕ) (e : Event) → i < length es → e ≡ get_or es i e → not (is_some (refusal w s e)) ≡ false → (f : EventFault) × (wrong_from w (i + 1) s (drop i es) ≡ Some (Refused (i + 1) f))
 is_refused w s es i e lt is h =
     let f = some_of (refusal w s e) h in
     (f.0, ap (wrong_from w (i + 1) s) (next_event es i e lt is) ∙ ap (λ o. or_refused (i + 1) o (wrong_from w (i + 1 + 1) (after w s e) (drop (i + 1) es))) f.1)
 
-pub goes_on : (w : Work) (s : Course) (es : List Event) (i : ℕ) (e : Event) → i < length es → e ≡ get_or es i e → refusal w s e ≡ None → wrong_from w (i + 1) s (drop i es) ≡ wrong_from w (i + 1 + 1) (after w s e) (drop (i + 1) es)
+pub goes_on : (w : Batch) (s : Schedule) (es : List Event) (i : ℕ) (e : Event) → i < length es → e ≡ get_or es i e → refusal w s e ≡ None → wrong_from w (i + 1) s (drop i es) ≡ wrong_from w (i + 1 + 1) (after w s e) (drop (i + 1) es)
 goes_on w s es i e lt is h =
     ap (wrong_from w (i + 1) s) (next_event es i e lt is) ∙ ap (λ o. or_refused (i + 1) o (wrong_from w (i + 1 + 1) (after w s e) (drop (i + 1) es))) h
 
-pub reaches_on : (w : Work) (s : Course) (es : List Event) (i : ℕ) (e : Event) → i < length es → e ≡ get_or es i e → reach w s (drop i es) ≡ reach w (after w s e) (drop (i + 1) es)
+pub reaches_on : (w : Batch) (s : Schedule) (es : List Event) (i : ℕ) (e : Event) → i < length es → e ≡ get_or es i e → reach w s (drop i es) ≡ reach w (after w s e) (drop (i + 1) es)
 reaches_on w s es i e lt is = ap (reach w s) (next_event es i e lt is)
 
 -- the end of a journal
-pub all_read : (w : Work) (s : Course) (es : List Event) (i n : ℕ) → length es ≤ i → wrong_from w n s (drop i es) ≡ option_map Open (open_call w s)
+pub all_read : (w : Batch) (s : Schedule) (es : List Event) (i n : ℕ) → length es ≤ i → wrong_from w n s (drop i es) ≡ option_map Open (open_call w s)
 all_read w s es i n le = ap (wrong_from w n s) (drop_all i es le)
 
-pub all_reached : (w : Work) (s : Course) (es : List Event) (i : ℕ) → length es ≤ i → reach w s (drop i es) ≡ s
+pub all_reached : (w : Batch) (s : Schedule) (es : List Event) (i : ℕ) → length es ≤ i → reach w s (drop i es) ≡ s
 all_reached w s es i le = ap (reach w s) (drop_all i es le)
 
-pub left_open : (w : Work) (s : Course) → is_some (open_call w s) ≡ true → (c : ℕ) × (option_map Open (open_call w s) ≡ Some (Open c))
+pub left_open : (w : Batch) (s : Schedule) → is_some (open_call w s) ≡ true → (c : ℕ) × (option_map Open (open_call w s) ≡ Some (Open c))
 left_open w s h = by (open_call w s) refl h where
   by : (o : Option ℕ) → open_call w s ≡ o → is_some o ≡ true → (c : ℕ) × (option_map Open (open_call w s) ≡ Some (Open c))
   by None is k = absurd (search (rules, k))
   by (Some c) is k = (c, ap (option_map Open) is)
 
-pub shut_of : (w : Work) (s : Course) → is_some (open_call w s) ≡ false → open_call w s ≡ None
+pub shut_of : (w : Batch) (s : Schedule) → is_some (open_call w s) ≡ false → open_call w s ≡ None
 shut_of w s h = by (open_call w s) h where
   by : (o : Option ℕ) → is_some o ≡ false → o ≡ None
   by None k = refl

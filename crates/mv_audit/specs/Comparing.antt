@@ -11,7 +11,7 @@ use Rattle.mv_recorded.specs.Own.{Each}
 use Rattle.mv_history.specs.declared.change.Change.{Change}
 use Rattle.mv_history.specs.Hits.{any_hits, touches}
 use Rattle.mv_history.specs.Kept.{Path, Placed, zip_paths, is_path, among, same_path, other_writes, keep}
-use Rattle.mv_alike.proofs.Keeping.{Climbs}
+use Rattle.mv_soundness.proofs.Keeping.{Climbs}
 use Rattle.mv_audit.specs.declared.paths.Nest.{Nest as Kept}
 use Rattle.mv_audit.specs.declared.walk.Run.{Run}
 use Rattle.mv_audit.specs.declared.walk.Runs.{Runs}

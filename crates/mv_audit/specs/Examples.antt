@@ -1,14 +1,14 @@
 -- Reports of two transfers and their verdicts, worked out by hand. No table is printed. This project's own.
 use Rattle.std.specs.Prelude.{◌≡◌, ℕ, List, [], ◌∷◌, ◌++◌, codes}
 use Rattle.mv_values.specs.Texts.{line, lines_text}
-use Rattle.mv_lawful.specs.Work.{Work}
+use Rattle.mv_lawful.specs.Batch.{Batch}
 use Rattle.mv_lawful.specs.Examples.{bank, transfer}
 use Rattle.mv_audit.specs.declared.verdict.Verdict.{Verdict}
 use Rattle.mv_audit.specs.declared.verdict.Verdict.TheVariants.{Yes, NoJournal, Line}
 use Rattle.mv_audit.specs.Verdicts.{verdict_of}
 
 -- transfers between other accounts, which meet at the fee
-abbrev pub transfers : Work
+abbrev pub transfers : Batch
 transfers = bank (transfer 1 2 10 ∷ transfer 3 4 10 ∷ [])
 
 abbrev pub IsJudged : List ℕ → Verdict → Type 0

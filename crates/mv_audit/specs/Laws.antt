@@ -6,7 +6,7 @@ use Rattle.mv_journal.specs.declared.event.Event.{Event}
 use Rattle.mv_lawful.specs.Lawful.{Lawful}
 use Rattle.mv_lawful.specs.Outcomes.{shown, outcome_of}
 use Rattle.mv_report.specs.Shown.{IsPlain}
-use Rattle.mv_report.specs.History.{work_of, text}
+use Rattle.mv_report.specs.History.{batch_of, text}
 use Rattle.mv_audit.specs.declared.verdict.Verdict.TheVariants.{Yes}
 use Rattle.mv_audit.specs.Verdicts.{audit_verdict}
 
@@ -14,7 +14,7 @@ use Rattle.mv_audit.specs.Verdicts.{audit_verdict}
 pub record IsLawfulText (p : Program) (options : Options) (report : List ℕ) : Type 0 where
   pub journal : List Event
   pub printed : shown journal ≡ journal
-  pub lawful : Lawful (work_of p options) journal
+  pub lawful : Lawful (batch_of p options) journal
   pub text_is : report ≡ text p options journal
 
 -- no other report gets Yes
@@ -24,5 +24,5 @@ YesIsLawful = (p : Program) (rounds : ℕ) (report : List ℕ) → audit_verdict
 -- the text of each lawful journal gets Yes, whatever its horizon is
 abbrev pub LawfulIsYes : Type 0
 LawfulIsYes =
-    (p : Program) (options : Options) (journal : List Event) → Lawful (work_of p options) journal → IsPlain (outcome_of (work_of p options) journal)
+    (p : Program) (options : Options) (journal : List Event) → Lawful (batch_of p options) journal → IsPlain (outcome_of (batch_of p options) journal)
     → audit_verdict p options.rounds (text p options journal) ≡ Yes

@@ -1,5 +1,5 @@
 pub mod Comparing
-pub mod Courses
+pub mod Schedules
 pub mod Examples
 pub mod Laws
 pub mod Verdicts

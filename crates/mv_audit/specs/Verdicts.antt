@@ -8,12 +8,12 @@ use Rattle.mv_journal.specs.declared.event.Event.{Event}
 use Rattle.mv_journal.specs.Reading.{event_in}
 use Rattle.mv_lawful.specs.declared.fault.Wrong.{Wrong}
 use Rattle.mv_lawful.specs.declared.fault.Wrong.TheVariants.{Refused, Open}
-use Rattle.mv_lawful.specs.Work.{Work}
+use Rattle.mv_lawful.specs.Batch.{Batch}
 use Rattle.mv_lawful.specs.Lawful.{wrong_with}
 use Rattle.mv_lawful.specs.Outcomes.{has_line, outcome_of}
 use Rattle.mv_report.specs.Text.{text_of}
 use Rattle.mv_report.specs.JournalLines.{is_word, lines_in, journal_lines_in}
-use Rattle.mv_report.specs.History.{work_of}
+use Rattle.mv_report.specs.History.{batch_of}
 use Rattle.mv_audit.specs.declared.verdict.Verdict.{Verdict}
 use Rattle.mv_audit.specs.declared.verdict.Verdict.TheVariants.{Yes, NoJournal, Line}
 
@@ -51,7 +51,7 @@ fault_of (Some (Refused n fault)) events lines = Some n
 fault_of (Some (Open call)) events lines = Some (events + 1)
 fault_of None events lines = if events == lines then None else Some (events + 1)
 
-abbrev pub fault_in : Work → List (List ℕ) → Option ℕ
+abbrev pub fault_in : Batch → List (List ℕ) → Option ℕ
 fault_in w lines = fault_of (wrong_with w (events_of lines)) (length (events_of lines)) (length lines)
 
 -- the first line in which two texts differ, if their first line has this number. Where one of them ends, it differs from
@@ -70,16 +70,16 @@ judged at (Some n) differs = Line (at + n)
 judged at None (Some n) = Line n
 judged at None None = Yes
 
-abbrev pub verdict_after : List TableInfo → Work → List ℕ → Option ℕ → Verdict
+abbrev pub verdict_after : List TableInfo → Batch → List ℕ → Option ℕ → Verdict
 verdict_after tables w report None = NoJournal
 verdict_after tables w report (Some at) =
     let lines : List (List ℕ) = journal_lines_in report in
     judged at (fault_in w lines) (difference 1 report (text_of tables (outcome_of w (events_of lines))))
 
--- the verdict on a report of this work: it is compared with the text of its own journal
-abbrev pub verdict_of : List TableInfo → Work → List ℕ → Verdict
+-- the verdict on a report of this batch: it is compared with the text of its own journal
+abbrev pub verdict_of : List TableInfo → Batch → List ℕ → Verdict
 verdict_of tables w report = verdict_after tables w report (journal_at 1 (lines_in report))
 
 -- AuditVerdict: the verdict on a report of a program. Moves are allowed everywhere, since no horizon is given
 abbrev pub audit_verdict : Program → ℕ → List ℕ → Verdict
-audit_verdict p rounds report = verdict_of p.resolved.tables (work_of p (record { rounds = rounds; horizon = None })) report
+audit_verdict p rounds report = verdict_of p.resolved.tables (batch_of p (record { rounds = rounds; horizon = None })) report

@@ -1,14 +1,14 @@
 //! Makes events.
 
 ghost use Rattle.std.specs.Prelude.{◌≡◌, ◌<◌, ◌^◌, None, IfOk, length};
-ghost use Rattle.mv_alone.specs.TableAfter.{outcome, reply_in};
+ghost use Rattle.mv_eval.specs.TableAfter.{result_of, reply_in};
 ghost use Rattle.mv_record.specs.Databases.{IsDatabaseOf, IsProgram};
 ghost use Rattle.mv_recorded.specs.Recorded.{records};
 ghost use Rattle.mv_journal.specs.declared.event.Event.TheVariants as an;
 ghost use Rattle.mv_lawful.specs.Lawful.{refusal, after};
-ghost use Rattle.mv_audit.specs.Courses.{audited, course_of, round_event, commit_event, IsLiveCall, IsCourse};
+ghost use Rattle.mv_audit.specs.Schedules.{audited, schedule_of, round_event, commit_event, IsLiveCall, IsSchedule};
 
-use crate::course::Course;
+use crate::schedule::Schedule;
 use crate::steps::{with_answer, with_call, with_commit, with_round};
 use crate::trimming::trimmed;
 use mv_catalog::resolved::Program;
@@ -23,20 +23,20 @@ use std::alloc::Global;
 /// A call that was run: its records, its reply, and the state, which is as before.
 #[derive(Drop)]
 struct Ran {
-    course: Course,
+    schedule: Schedule,
     records: List<Record>,
     reply: Reply,
 }
 
 /// Runs a call of the program on the tables, which stay.
-fn run(alloc: Global, program: &Program, course: Course, call: u32) -> Result<Ran, NoMemory>
+fn run(alloc: Global, program: &Program, schedule: Schedule, call: u32) -> Result<Ran, NoMemory>
     requires whole { IsProgram program.now }
-    requires database { IsDatabaseOf program.now.resolved.tables course.tables }
-    ensures course { IfOk result (λ r. r.course ≡ course) }
-    ensures records { IfOk result (λ r. r.records ≡ records program.now call course.tables) }
-    ensures reply { IfOk result (λ r. r.reply ≡ reply_in (outcome program.now call course.tables)) }
+    requires database { IsDatabaseOf program.now.resolved.tables schedule.tables }
+    ensures schedule { IfOk result (λ r. r.schedule ≡ schedule) }
+    ensures records { IfOk result (λ r. r.records ≡ records program.now call schedule.tables) }
+    ensures reply { IfOk result (λ r. r.reply ≡ reply_in (result_of program.now call schedule.tables)) }
 {
-    let Course {
+    let Schedule {
         order,
         answered,
         commits,
@@ -44,14 +44,14 @@ fn run(alloc: Global, program: &Program, course: Course, call: u32) -> Result<Ra
         tables,
         low,
         due,
-    } = course;
+    } = schedule;
     let ran = run_call(alloc, program, call, tables)?;
     let Recording {
         records,
         reply,
         tables,
     } = ran;
-    let course = Course {
+    let schedule = Schedule {
         order,
         answered,
         commits,
@@ -61,7 +61,7 @@ fn run(alloc: Global, program: &Program, course: Course, call: u32) -> Result<Ra
         due,
     };
     Ok(Ran {
-        course,
+        schedule,
         records,
         reply,
     })
@@ -72,24 +72,24 @@ pub(crate) fn begin(
     alloc: Global,
     program: &Program,
     rounds: u32,
-    course: Course,
-) -> Result<Course, NoMemory>
+    schedule: Schedule,
+) -> Result<Schedule, NoMemory>
     requires whole { IsProgram program.now }
-    requires course { IsCourse program.now.resolved.tables (audited program.now rounds) course }
-    requires allowed { refusal (audited program.now rounds) (course_of course) (an.B (length course.calls)) ≡ None }
-    requires few { length course.order < 2 ^ 32 }
-    requires calls { length course.calls < 2 ^ 32 }
-    ensures after { IfOk result (λ next. course_of next ≡ after (audited program.now rounds) (course_of course) (an.B (length course.calls))) }
-    ensures course { IfOk result (IsCourse program.now.resolved.tables (audited program.now rounds)) }
+    requires schedule { IsSchedule program.now.resolved.tables (audited program.now rounds) schedule }
+    requires allowed { refusal (audited program.now rounds) (schedule_of schedule) (an.B (length schedule.calls)) ≡ None }
+    requires few { length schedule.order < 2 ^ 32 }
+    requires calls { length schedule.calls < 2 ^ 32 }
+    ensures after { IfOk result (λ next. schedule_of next ≡ after (audited program.now rounds) (schedule_of schedule) (an.B (length schedule.calls))) }
+    ensures schedule { IfOk result (IsSchedule program.now.resolved.tables (audited program.now rounds)) }
 {
-    let call = course.calls.len() as u32;
-    let ran = run(alloc, program, course, call)?;
+    let call = schedule.calls.len() as u32;
+    let ran = run(alloc, program, schedule, call)?;
     let Ran {
-        course,
+        schedule,
         records,
         reply,
     } = ran;
-    with_call(alloc, course, records, reply)
+    with_call(alloc, schedule, records, reply)
 }
 
 /// Repairs a live call, or moves it.
@@ -97,25 +97,25 @@ pub(crate) fn again(
     alloc: Global,
     program: &Program,
     rounds: u32,
-    course: Course,
+    schedule: Schedule,
     call: u32,
     moved: bool,
-) -> Result<Course, NoMemory>
+) -> Result<Schedule, NoMemory>
     requires whole { IsProgram program.now }
-    requires course { IsCourse program.now.resolved.tables (audited program.now rounds) course }
-    requires allowed { refusal (audited program.now rounds) (course_of course) (round_event moved call) ≡ None }
-    requires live { IsLiveCall course call }
-    requires few { length course.order < 2 ^ 32 }
-    ensures after { IfOk result (λ next. course_of next ≡ after (audited program.now rounds) (course_of course) (round_event moved call)) }
-    ensures course { IfOk result (IsCourse program.now.resolved.tables (audited program.now rounds)) }
+    requires schedule { IsSchedule program.now.resolved.tables (audited program.now rounds) schedule }
+    requires allowed { refusal (audited program.now rounds) (schedule_of schedule) (round_event moved call) ≡ None }
+    requires live { IsLiveCall schedule call }
+    requires few { length schedule.order < 2 ^ 32 }
+    ensures after { IfOk result (λ next. schedule_of next ≡ after (audited program.now rounds) (schedule_of schedule) (round_event moved call)) }
+    ensures schedule { IfOk result (IsSchedule program.now.resolved.tables (audited program.now rounds)) }
 {
-    let ran = run(alloc, program, course, call)?;
+    let ran = run(alloc, program, schedule, call)?;
     let Ran {
-        course,
+        schedule,
         records,
         reply,
     } = ran;
-    with_round(alloc, course, call, moved, records, reply)
+    with_round(alloc, schedule, call, moved, records, reply)
 }
 
 /// Commits a live call. With `own` it is repaired in the same step.
@@ -123,25 +123,25 @@ fn commit_call(
     alloc: Global,
     program: &Program,
     rounds: u32,
-    course: Course,
+    schedule: Schedule,
     call: u32,
     own: bool,
-) -> Result<Course, NoMemory>
+) -> Result<Schedule, NoMemory>
     requires whole { IsProgram program.now }
-    requires course { IsCourse program.now.resolved.tables (audited program.now rounds) course }
-    requires allowed { refusal (audited program.now rounds) (course_of course) (commit_event own call) ≡ None }
-    requires live { IsLiveCall course call }
-    requires few { length course.order < 2 ^ 32 }
-    ensures after { IfOk result (λ next. course_of next ≡ after (audited program.now rounds) (course_of course) (commit_event own call)) }
-    ensures course { IfOk result (IsCourse program.now.resolved.tables (audited program.now rounds)) }
+    requires schedule { IsSchedule program.now.resolved.tables (audited program.now rounds) schedule }
+    requires allowed { refusal (audited program.now rounds) (schedule_of schedule) (commit_event own call) ≡ None }
+    requires live { IsLiveCall schedule call }
+    requires few { length schedule.order < 2 ^ 32 }
+    ensures after { IfOk result (λ next. schedule_of next ≡ after (audited program.now rounds) (schedule_of schedule) (commit_event own call)) }
+    ensures schedule { IfOk result (IsSchedule program.now.resolved.tables (audited program.now rounds)) }
 {
-    let ran = run(alloc, program, course, call)?;
+    let ran = run(alloc, program, schedule, call)?;
     let Ran {
-        course,
+        schedule,
         records,
         reply,
     } = ran;
-    with_commit(alloc, course, call, own, records.as_slice(), reply)
+    with_commit(alloc, schedule, call, own, records.as_slice(), reply)
 }
 
 /// Commits a live call, and drops what is needed no more. With `own` it is repaired in the same step.
@@ -149,20 +149,20 @@ pub(crate) fn commit(
     alloc: Global,
     program: &Program,
     rounds: u32,
-    course: Course,
+    schedule: Schedule,
     call: u32,
     own: bool,
-) -> Result<Course, NoMemory>
+) -> Result<Schedule, NoMemory>
     requires whole { IsProgram program.now }
-    requires course { IsCourse program.now.resolved.tables (audited program.now rounds) course }
-    requires allowed { refusal (audited program.now rounds) (course_of course) (commit_event own call) ≡ None }
-    requires live { IsLiveCall course call }
-    requires few { length course.order < 2 ^ 32 }
-    ensures after { IfOk result (λ next. course_of next ≡ after (audited program.now rounds) (course_of course) (commit_event own call)) }
-    ensures course { IfOk result (IsCourse program.now.resolved.tables (audited program.now rounds)) }
+    requires schedule { IsSchedule program.now.resolved.tables (audited program.now rounds) schedule }
+    requires allowed { refusal (audited program.now rounds) (schedule_of schedule) (commit_event own call) ≡ None }
+    requires live { IsLiveCall schedule call }
+    requires few { length schedule.order < 2 ^ 32 }
+    ensures after { IfOk result (λ next. schedule_of next ≡ after (audited program.now rounds) (schedule_of schedule) (commit_event own call)) }
+    ensures schedule { IfOk result (IsSchedule program.now.resolved.tables (audited program.now rounds)) }
 {
-    let course = commit_call(alloc, program, rounds, course, call, own)?;
-    Ok(trimmed(alloc, course))
+    let schedule = commit_call(alloc, program, rounds, schedule, call, own)?;
+    Ok(trimmed(alloc, schedule))
 }
 
 /// Answers a live call.
@@ -170,15 +170,15 @@ pub(crate) fn answer(
     alloc: Global,
     program: &Program,
     rounds: u32,
-    course: Course,
+    schedule: Schedule,
     call: u32,
-) -> Result<Course, NoMemory>
+) -> Result<Schedule, NoMemory>
     requires whole { IsProgram program.now }
-    requires course { IsCourse program.now.resolved.tables (audited program.now rounds) course }
-    requires allowed { refusal (audited program.now rounds) (course_of course) (an.R call) ≡ None }
-    requires live { IsLiveCall course call }
-    ensures after { IfOk result (λ next. course_of next ≡ after (audited program.now rounds) (course_of course) (an.R call)) }
-    ensures course { IfOk result (IsCourse program.now.resolved.tables (audited program.now rounds)) }
+    requires schedule { IsSchedule program.now.resolved.tables (audited program.now rounds) schedule }
+    requires allowed { refusal (audited program.now rounds) (schedule_of schedule) (an.R call) ≡ None }
+    requires live { IsLiveCall schedule call }
+    ensures after { IfOk result (λ next. schedule_of next ≡ after (audited program.now rounds) (schedule_of schedule) (an.R call)) }
+    ensures schedule { IfOk result (IsSchedule program.now.resolved.tables (audited program.now rounds)) }
 {
-    with_answer(alloc, course, call)
+    with_answer(alloc, schedule, call)
 }

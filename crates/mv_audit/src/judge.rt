@@ -4,14 +4,14 @@ ghost use Rattle.std.specs.Prelude.{◌≡◌, ◌≤◌, ◌<◌, ◌+◌, ◌^
 ghost use Rattle.std.specs.Option.{is_some};
 ghost use Rattle.mv_journal.specs.declared.event.Event.{Event as AnEvent};
 ghost use Rattle.mv_record.specs.Databases.{IsProgram};
-ghost use Rattle.mv_lawful.specs.Lawful.{refusal, after, beginning, first_open, open_call, course_of as reached};
+ghost use Rattle.mv_lawful.specs.Lawful.{refusal, after, beginning, first_open, open_call, schedule_of as reached};
 ghost use Rattle.mv_lawful.specs.Outcomes.{has_line, outcome_of};
 ghost use Rattle.mv_lawful.specs.declared.places.Place.{Place as APlace};
-ghost use Rattle.mv_audit.specs.declared.course.Live.{Live as Kept};
-ghost use Rattle.mv_audit.specs.Courses.{audited, course_of, line_of, live_of, replies_in, IsCourse, IsJudgement, IsWithin};
+ghost use Rattle.mv_audit.specs.declared.schedule.Live.{Live as Kept};
+ghost use Rattle.mv_audit.specs.Schedules.{audited, schedule_of, line_of, live_of, replies_in, IsSchedule, IsJudgement, IsWithin};
 
-use crate::course::{Course, Live, allows};
 use crate::events::{again, answer, begin, commit};
+use crate::schedule::{Live, Schedule, allows};
 use mv_catalog::resolved::Program;
 use mv_journal::event::Event;
 use mv_journal::outcome::{HistoryLine, Outcome, Round};
@@ -35,13 +35,13 @@ pub(crate) enum Judged {
 }
 
 /// Returns the state before any event.
-fn opening(alloc: Global, program: &Program, rounds: u32) -> Result<Course, NoMemory>
+fn opening(alloc: Global, program: &Program, rounds: u32) -> Result<Schedule, NoMemory>
     requires { IsProgram program.now }
-    ensures course { IfOk result (λ course. course_of course ≡ beginning) }
-    ensures kept { IfOk result (IsCourse program.now.resolved.tables (audited program.now rounds)) }
+    ensures schedule { IfOk result (λ schedule. schedule_of schedule ≡ beginning) }
+    ensures kept { IfOk result (IsSchedule program.now.resolved.tables (audited program.now rounds)) }
 {
     let tables = tables_of(alloc, &program.opening)?;
-    Ok(Course {
+    Ok(Schedule {
         order: List::new(alloc),
         answered: List::new(alloc),
         commits: List::new(alloc),
@@ -57,36 +57,36 @@ fn advance(
     alloc: Global,
     program: &Program,
     rounds: u32,
-    course: Course,
+    schedule: Schedule,
     event: Event,
-) -> Result<Course, NoMemory>
+) -> Result<Schedule, NoMemory>
     requires whole { IsProgram program.now }
-    requires course { IsCourse program.now.resolved.tables (audited program.now rounds) course }
+    requires schedule { IsSchedule program.now.resolved.tables (audited program.now rounds) schedule }
     requires line { has_line event ≡ true }
-    requires allowed { refusal (audited program.now rounds) (course_of course) event ≡ None }
-    requires few { length course.order < 2 ^ 32 }
-    requires calls { length course.calls < 2 ^ 32 }
-    ensures after { IfOk result (λ next. course_of next ≡ after (audited program.now rounds) (course_of course) event) }
-    ensures kept { IfOk result (IsCourse program.now.resolved.tables (audited program.now rounds)) }
-    ensures order { IfOk result (λ next. length next.order ≤ length course.order + 1) }
-    ensures more { IfOk result (λ next. length next.calls ≤ length course.calls + 1) }
+    requires allowed { refusal (audited program.now rounds) (schedule_of schedule) event ≡ None }
+    requires few { length schedule.order < 2 ^ 32 }
+    requires calls { length schedule.calls < 2 ^ 32 }
+    ensures after { IfOk result (λ next. schedule_of next ≡ after (audited program.now rounds) (schedule_of schedule) event) }
+    ensures kept { IfOk result (IsSchedule program.now.resolved.tables (audited program.now rounds)) }
+    ensures order { IfOk result (λ next. length next.order ≤ length schedule.order + 1) }
+    ensures more { IfOk result (λ next. length next.calls ≤ length schedule.calls + 1) }
 {
     match event {
-        Event::B(_) => begin(alloc, program, rounds, course),
-        Event::A(call) => again(alloc, program, rounds, course, call, false),
-        Event::M(call) => again(alloc, program, rounds, course, call, true),
-        Event::C(call) => commit(alloc, program, rounds, course, call, false),
-        Event::X(call) => commit(alloc, program, rounds, course, call, true),
-        Event::R(call) => answer(alloc, program, rounds, course, call),
-        Event::S(_) | Event::G => Ok(course),
+        Event::B(_) => begin(alloc, program, rounds, schedule),
+        Event::A(call) => again(alloc, program, rounds, schedule, call, false),
+        Event::M(call) => again(alloc, program, rounds, schedule, call, true),
+        Event::C(call) => commit(alloc, program, rounds, schedule, call, false),
+        Event::X(call) => commit(alloc, program, rounds, schedule, call, true),
+        Event::R(call) => answer(alloc, program, rounds, schedule, call),
+        Event::S(_) | Event::G => Ok(schedule),
     }
 }
 
 /// Whether a call isn't done.
-fn is_open(program: &Program, rounds: u32, course: &Course) -> bool
-    ensures { result ≡ is_some (open_call (audited program.now rounds) (course_of course.now)) }
+fn is_open(program: &Program, rounds: u32, schedule: &Schedule) -> bool
+    ensures { result ≡ is_some (open_call (audited program.now rounds) (schedule_of schedule.now)) }
 {
-    first_open(course.calls.as_slice()) < program.resolved.calls.len()
+    first_open(schedule.calls.as_slice()) < program.resolved.calls.len()
 }
 
 /// Returns the number of the first call that isn't done.
@@ -172,16 +172,16 @@ fn outcome_of(
     alloc: Global,
     program: &Program,
     rounds: u32,
-    course: Course,
+    schedule: Schedule,
     events: &[Event],
 ) -> Result<Outcome, NoMemory>
-    requires course { IsCourse program.now.resolved.tables (audited program.now rounds) course }
-    requires events { course_of course ≡ reached (audited program.now rounds) events.now }
-    requires shut { open_call (audited program.now rounds) (course_of course) ≡ None }
-    requires few { length course.order < 2 ^ 32 }
+    requires schedule { IsSchedule program.now.resolved.tables (audited program.now rounds) schedule }
+    requires events { schedule_of schedule ≡ reached (audited program.now rounds) events.now }
+    requires shut { open_call (audited program.now rounds) (schedule_of schedule) ≡ None }
+    requires few { length schedule.order < 2 ^ 32 }
     ensures { IfOk result (λ o. o ≡ outcome_of (audited program.now rounds) events.now) }
 {
-    let Course {
+    let Schedule {
         order,
         answered,
         commits: _,
@@ -189,7 +189,7 @@ fn outcome_of(
         tables,
         low: _,
         due: _,
-    } = course;
+    } = schedule;
     let starts = starts_of(alloc, calls.as_slice())?;
     let places = places_of(
         alloc,
@@ -231,18 +231,18 @@ pub(crate) fn judge(
     ensures comes { IfOk result (IsJudgement (audited program.now rounds) events.now) }
     ensures few { IfOk result (IsWithin (length events.now)) }
 {
-    let mut course = opening(alloc, program, rounds)?;
+    let mut schedule = opening(alloc, program, rounds)?;
     for i in 0..events.len() {
         let event = event_at(events, i);
-        if !allows(program, rounds, &course, event) {
+        if !allows(program, rounds, &schedule, event) {
             return Ok(Judged::Refused { n: i as u32 + 1 });
         }
-        let next = advance(alloc, program, rounds, course, event)?;
-        course = next;
+        let next = advance(alloc, program, rounds, schedule, event)?;
+        schedule = next;
     }
-    if is_open(program, rounds, &course) {
+    if is_open(program, rounds, &schedule) {
         return Ok(Judged::Open);
     }
-    let outcome = outcome_of(alloc, program, rounds, course, events)?;
+    let outcome = outcome_of(alloc, program, rounds, schedule, events)?;
     Ok(Judged::Lawful(outcome))
 }

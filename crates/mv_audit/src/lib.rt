@@ -3,7 +3,7 @@
 
 pub mod audit;
 mod changes;
-mod course;
+mod committing;
 mod differing;
 mod events;
 mod hit;
@@ -13,7 +13,7 @@ pub mod laws;
 mod lines;
 mod paths;
 mod rounds;
-mod settling;
+mod schedule;
 mod steps;
 mod trimming;
 pub mod verdict;

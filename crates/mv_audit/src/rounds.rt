@@ -3,10 +3,10 @@
 ghost use Rattle.std.specs.Prelude.{◌≡◌, ◌≤◌, ◌<◌, ◌^◌, None, IfOk, length};
 ghost use Rattle.mv_record.specs.Paths.{PathsRise};
 ghost use Rattle.mv_lawful.specs.Rounds.{numbered, closed};
-ghost use Rattle.mv_audit.specs.Courses.{count_by, more_rounds, no_reply, fresh, restarted, finished, answered};
+ghost use Rattle.mv_audit.specs.Schedules.{count_by, more_rounds, no_reply, fresh, restarted, finished, answered};
 
-use crate::course::Live;
 use crate::kept::executions;
+use crate::schedule::Live;
 use mv_history::change::Change;
 use mv_journal::outcome::{Mark, Round};
 use mv_record::record::Record;

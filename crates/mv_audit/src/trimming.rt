@@ -1,10 +1,10 @@
 //! Drops changes of old commits.
 
 ghost use Rattle.std.specs.Prelude.{◌≡◌, ◌≤◌, ℕ, None, Some, length, drop, slice_get};
-ghost use Rattle.mv_audit.specs.declared.course.Live.{Live as Kept};
-ghost use Rattle.mv_audit.specs.Courses.{IsTrimmed};
+ghost use Rattle.mv_audit.specs.declared.schedule.Live.{Live as Kept};
+ghost use Rattle.mv_audit.specs.Schedules.{IsTrimmed};
 
-use crate::course::{Course, Live};
+use crate::schedule::{Live, Schedule};
 use mv_history::change::Change;
 use mv_values::list::List;
 use std::alloc::Global;
@@ -50,20 +50,20 @@ fn forget(alloc: Global, commits: &mut List<List<Change>>, from: usize, to: usiz
 }
 
 /// Drops the changes of commits that no live call needs, from time to time.
-pub(crate) fn trimmed(alloc: Global, course: Course) -> Course
-    ensures { IsTrimmed course result }
+pub(crate) fn trimmed(alloc: Global, schedule: Schedule) -> Schedule
+    ensures { IsTrimmed schedule result }
 {
-    let mut course = course;
-    let made = course.commits.len();
-    if made < course.due {
-        return course;
+    let mut schedule = schedule;
+    let made = schedule.commits.len();
+    if made < schedule.due {
+        return schedule;
     }
-    let least = oldest_start(course.calls.as_slice(), made);
-    if least < course.low {
-        return course;
+    let least = oldest_start(schedule.calls.as_slice(), made);
+    if least < schedule.low {
+        return schedule;
     }
-    forget(alloc, &mut course.commits, course.low, least);
-    course.low = least;
-    course.due = made.saturating_add(64 + course.calls.len() / 16);
-    course
+    forget(alloc, &mut schedule.commits, schedule.low, least);
+    schedule.low = least;
+    schedule.due = made.saturating_add(64 + schedule.calls.len() / 16);
+    schedule
 }

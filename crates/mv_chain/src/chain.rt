@@ -287,7 +287,7 @@ impl Chain {
         if let Form::History(history) = &mut self.held {
             history.drop_of(call);
         }
-        settle(&mut self.held);
+        collapse(&mut self.held);
     }
 
     /// Drops the rows before commit `low`. Reads from `low` on and uncommitted patches are unaffected. It allocates no
@@ -299,7 +299,7 @@ impl Chain {
         if let Form::History(history) = &mut self.held {
             history.collect(low);
         }
-        settle(&mut self.held);
+        collapse(&mut self.held);
     }
 }
 
@@ -335,7 +335,7 @@ fn take_newest(held: &mut Form) -> Option<Row>
 }
 
 /// Holds the row alone, where there are no commits and no patches. It allocates no memory.
-fn settle(held: &mut Form)
+fn collapse(held: &mut Form)
     ensures { versions_of held.new ≡ versions_of held.old }
 {
     if has_row_alone(held) {

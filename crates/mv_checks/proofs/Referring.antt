@@ -21,10 +21,10 @@ use Rattle.mv_values.specs.Tables.{columns_at, key_columns}
 use Rattle.mv_catalog.specs.declared.resolved.RSetItem.{RSetItem}
 use Rattle.mv_catalog.specs.Text.{IsTable, HaveParents}
 use Rattle.mv_catalog.proofs.References.{parents_within}
-use Rattle.mv_alone.specs.declared.state.Env.{Env}
-use Rattle.mv_alone.specs.References.{is_own_parent}
-use Rattle.mv_alone.specs.Rows.{test_on, IsPlaced}
-use Rattle.mv_alone.proofs.Holding.{key_tests_placed}
+use Rattle.mv_eval.specs.declared.state.Env.{Env}
+use Rattle.mv_eval.specs.References.{is_own_parent}
+use Rattle.mv_eval.specs.Rows.{test_on, IsPlaced}
+use Rattle.mv_eval.proofs.Holding.{key_tests_placed}
 use Rattle.mv_recorded.specs.Asking.{Check, faults, needs, forbids, parent_pred, child_pred, value_checks, item_checks, update_checks, delete_checks}
 use Rattle.mv_recorded.specs.Own.{Each}
 use Rattle.mv_recorded.proofs.Inverting.{each_join}

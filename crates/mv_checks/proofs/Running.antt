@@ -7,7 +7,7 @@ use Rattle.mv_values.specs.declared.value.Value.{Value}
 use Rattle.mv_values.specs.declared.rows.Keyed.{Keyed}
 use Rattle.mv_values.specs.declared.calls.End.{End}
 use Rattle.mv_values.specs.Keys.{keys}
-use Rattle.mv_alone.specs.Rows.{is_some_row}
+use Rattle.mv_eval.specs.Rows.{is_some_row}
 use Rattle.mv_recorded.specs.Asking.{Check, is_among}
 use Rattle.mv_recorded.specs.Own.{Each}
 use Rattle.mv_recorded.proofs.Checked.{Follows}

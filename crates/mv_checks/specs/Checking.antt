@@ -9,7 +9,7 @@ use Rattle.mv_values.specs.declared.calls.End.TheVariants.{Duplicate, MissingPar
 use Rattle.mv_values.specs.Columns.{column_of}
 use Rattle.mv_values.specs.References.{Reference, references}
 use Rattle.mv_values.specs.Tables.{key_columns}
-use Rattle.mv_alone.specs.References.{is_own_parent}
+use Rattle.mv_eval.specs.References.{is_own_parent}
 use Rattle.mv_recorded.specs.Asking.{Check, faults, needs, forbids, pred_of, same_key, parent_pred, child_pred, KnowsKey}
 use Rattle.mv_checks.specs.declared.children.Child.{Child}
 use Rattle.mv_checks.specs.declared.check.Check as code

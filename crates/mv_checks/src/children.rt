@@ -8,7 +8,7 @@ ghost use Rattle.mv_recorded.specs.Asking.{child_pred};
 ghost use Rattle.mv_checks.specs.Checking.{meant, child_checks, reference_to};
 
 use crate::check::Check;
-use mv_alone::find::{key_in, tests_of_key};
+use mv_eval::find::{key_in, tests_of_key};
 use mv_values::calls::End;
 use mv_values::list::List;
 use mv_values::memory::NoMemory;

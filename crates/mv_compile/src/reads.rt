@@ -7,9 +7,9 @@ ghost use Rattle.mv_catalog.specs.Text.{IsTable};
 ghost use Rattle.mv_catalog.specs.declared.resolved.RStmt.{out-RStmt};
 ghost use Rattle.mv_graph.specs.Nodes.{keyword_of, may_set, changed_table, own_table, referring_tables, asked_tables};
 
-use mv_alone::find::{columns_in, parent_in};
 use mv_catalog::resolved::{RSetItem, RStmt};
 use mv_checks::children::{Child, children_of};
+use mv_eval::find::{columns_in, parent_in};
 use mv_graph::graph::Keyword;
 use mv_recorded::reads::once_each;
 use mv_values::list::List;

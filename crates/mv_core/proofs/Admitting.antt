@@ -16,7 +16,7 @@ use Rattle.mv_values.specs.Patching.{row_of}
 use Rattle.mv_values.specs.Preds.{matches, admits, matched}
 use Rattle.mv_values.specs.Tables.{key_columns, rows_at, Tables}
 use Rattle.mv_values.proofs.KeyOrder.{same_key}
-use Rattle.mv_alone.proofs.Spanning.{tests_admit}
+use Rattle.mv_eval.proofs.Spanning.{tests_admit}
 use Rattle.mv_catalog.specs.Text.{Suits}
 use Rattle.mv_record.specs.declared.record.Record.{Record}
 use Rattle.mv_record.specs.Admitting.{Admitted}
@@ -33,14 +33,14 @@ use Rattle.mv_history.specs.declared.change.Change.{Change}
 use Rattle.mv_history.specs.Changes.{is_same, change_of, changes_between, is_of, ListsChanges}
 use Rattle.mv_history.proofs.Judging.{all_of}
 use Rattle.mv_history.proofs.Listing.{changes_listed}
-use Rattle.mv_alike.proofs.Finding.{Places}
-use Rattle.mv_alike.proofs.Lasting.{places_preds}
+use Rattle.mv_soundness.proofs.Finding.{Places}
+use Rattle.mv_soundness.proofs.Lasting.{places_preds}
 use Rattle.mv_changes.specs.Admitting.{IsAdmitted, AreAdmitted, AllAdmitted}
 use Rattle.mv_changes.specs.Commits.{Window}
-use Rattle.mv_lawful.specs.Work.{table_at, records_at, changes_after, since}
-use Rattle.mv_lawful.specs.Lawful.{Course}
-use Rattle.mv_script.specs.declared.script.Script.{Script}
-use Rattle.mv_script.specs.Scripts.{work_of, run_in, run_by, CanRun, IsScriptOf, IsScript}
+use Rattle.mv_lawful.specs.Batch.{table_at, records_at, changes_after, since}
+use Rattle.mv_lawful.specs.Lawful.{Schedule}
+use Rattle.mv_script.specs.declared.script.CompiledScript.{CompiledScript}
+use Rattle.mv_script.specs.Scripts.{batch_of, run_in, run_by, CanRun, IsScriptOf, IsCompiledScript}
 use Rattle.mv_script.proofs.Databases.{run_database, table_database}
 use Rattle.mv_core.specs.Books.{IsRecent}
 use Rattle.mv_core.proofs.Recents.{recent_since}
@@ -104,12 +104,12 @@ between_admitted tables p old new places d e =
 abbrev Admitting : Pred → List (List Change) → Type 0
 Admitting p commits = All (λ changes. All (IsAdmitted p) changes) commits
 
-after_admitted : (tables : List TableInfo) (s : Script) (p : Pred) (cs : List ℕ) (db : Tables) → IsScriptOf tables s → Places tables p → IsDatabaseOf tables db → Admitting p (changes_after (work_of s) db cs)
+after_admitted : (tables : List TableInfo) (s : CompiledScript) (p : Pred) (cs : List ℕ) (db : Tables) → IsScriptOf tables s → Places tables p → IsDatabaseOf tables db → Admitting p (changes_after (batch_of s) db cs)
 after_admitted tables s p [] db k places d = All-nil (λ changes. All (IsAdmitted p) changes)
 after_admitted tables s p (c ∷ cs) db k places d =
-    let new : Tables = ((work_of s).run c db).tables in
+    let new : Tables = ((batch_of s).run c db).tables in
     let next : IsDatabaseOf tables new = run_database tables s c db k d in
-    All-cons (λ changes. All (IsAdmitted p) changes) (changes_between db new) (changes_after (work_of s) new cs) (between_admitted tables p db new places d next) (after_admitted tables s p cs new k places next)
+    All-cons (λ changes. All (IsAdmitted p) changes) (changes_between db new) (changes_after (batch_of s) new cs) (between_admitted tables p db new places d next) (after_admitted tables s p cs new k places next)
 
 -- The predicates of a script's records
 
@@ -127,7 +127,7 @@ own_places g before (r ∷ rs) h =
     All-cons (λ (r : Record). All (Places g.tables) r.preds) r rs
     (subst (λ (x : Record). All (Places g.tables) x.preds) (sym h.0.is) (each_all (Places g.tables) (preds_of g.tables h.0.s.it h.0.st) (places_preds g.tables h.0.s.it h.0.st))) (own_places g (before ++ r ∷ []) rs h.1)
 
-run_places : (tables : List TableInfo) (s : Script) (c : ℕ) (db : Tables) → IsScriptOf tables s → IsDatabaseOf tables db → HavePlaces tables ((work_of s).run c db).records
+run_places : (tables : List TableInfo) (s : CompiledScript) (c : ℕ) (db : Tables) → IsScriptOf tables s → IsDatabaseOf tables db → HavePlaces tables ((batch_of s).run c db).records
 run_places tables s c db k d = by (slice_get s.calls c) refl where
   none : HavePlaces tables []
   none = All-nil (λ r. All (Places tables) r.preds)
@@ -147,12 +147,12 @@ run_places tables s c db k d = by (slice_get s.calls c) refl where
 -- Both
 
 -- for the records of a call at a start, and the changes since another one
-pub since_admitted : (s : Script) (order : List ℕ) (c start from : ℕ) → IsScript s → AllAdmitted (since (work_of s) order from) (records_at (work_of s) order start c)
+pub since_admitted : (s : CompiledScript) (order : List ℕ) (c start from : ℕ) → IsCompiledScript s → AllAdmitted (since (batch_of s) order from) (records_at (batch_of s) order start c)
 since_admitted s order c start from k i d lt j e le n f less =
-    let rs : List Record = records_at (work_of s) order start c in
+    let rs : List Record = records_at (batch_of s) order start c in
     let p : Pred = slice_index_or (slice_index_or rs j e).preds n f in
-    let places : Places k.0 p = run_places k.0 s c (table_at (work_of s) order start) k.1 (table_database k.0 s order start k.1) j e le n f less in
-    All-drop (λ changes. All (IsAdmitted p) changes) from (changes_after (work_of s) s.opening order) (after_admitted k.0 s p order s.opening k.1 places k.1.opening) i d lt
+    let places : Places k.0 p = run_places k.0 s c (table_at (batch_of s) order start) k.1 (table_database k.0 s order start k.1) j e le n f less in
+    All-drop (λ changes. All (IsAdmitted p) changes) from (changes_after (batch_of s) s.opening order) (after_admitted k.0 s p order s.opening k.1 places k.1.opening) i d lt
 
 all_flat : (p : Pred) (commits : List (List Change)) → Admitting p commits → All (IsAdmitted p) (all_of commits)
 all_flat p [] h = All-nil (IsAdmitted p)
@@ -160,14 +160,14 @@ all_flat p (changes ∷ commits) h =
     All-append (IsAdmitted p) changes (all_of commits) (All-head (λ changes. All (IsAdmitted p) changes) changes commits h) (all_flat p commits (All-tail (λ changes. All (IsAdmitted p) changes) changes commits h))
 
 -- the same of all changes in one list
-pub flat_admitted : (s : Script) (order : List ℕ) (c start from : ℕ) → IsScript s → All (AreAdmitted (all_of (since (work_of s) order from))) (records_at (work_of s) order start c)
+pub flat_admitted : (s : CompiledScript) (order : List ℕ) (c start from : ℕ) → IsCompiledScript s → All (AreAdmitted (all_of (since (batch_of s) order from))) (records_at (batch_of s) order start c)
 flat_admitted s order c start from k j e le n f less =
-    all_flat (slice_index_or (slice_index_or (records_at (work_of s) order start c) j e).preds n f) (since (work_of s) order from) (λ i d lt. since_admitted s order c start from k i d lt j e le n f less)
+    all_flat (slice_index_or (slice_index_or (records_at (batch_of s) order start c) j e).preds n f) (since (batch_of s) order from) (λ i d lt. since_admitted s order c start from k i d lt j e le n f less)
 
 -- what is kept of the changes since the start of a call
-pub recent_admitted : (s : Script) (course : Course) (c n start : ℕ) (r : Window) (rs : List Record) → IsScript s → IsRecent (work_of s) course r → n ≡ start → r.low ≤ start → rs ≡ records_at (work_of s) course.order start c
+pub recent_admitted : (s : CompiledScript) (schedule : Schedule) (c n start : ℕ) (r : Window) (rs : List Record) → IsCompiledScript s → IsRecent (batch_of s) schedule r → n ≡ start → r.low ≤ start → rs ≡ records_at (batch_of s) schedule.order start c
     → AllAdmitted (drop (n - r.low) r.commits) rs
-recent_admitted s course c n start r rs k recent is le full =
+recent_admitted s schedule c n start r rs k recent is le full =
     subst (λ m. AllAdmitted (drop (m - r.low) r.commits) rs) (sym is)
-    (subst (λ (commits : List (List Change)). AllAdmitted commits rs) (sym (recent_since (work_of s) course start r recent le))
-    (subst (AllAdmitted (since (work_of s) course.order start)) (sym full) (since_admitted s course.order c start start k)))
+    (subst (λ (commits : List (List Change)). AllAdmitted commits rs) (sym (recent_since (batch_of s) schedule start r recent le))
+    (subst (AllAdmitted (since (batch_of s) schedule.order start)) (sym full) (since_admitted s schedule.order c start start k)))

@@ -23,7 +23,7 @@ use Rattle.mv_graph.specs.contracts.graph.Graph as Graph
 use Rattle.mv_graph.proofs.graph.Node.TheSendSync as node
 use Rattle.mv_changes.proofs.recent.Recent.TheSendSync as recent
 use Rattle.mv_journal.proofs.event.Event.TheSendSync as event
-use Rattle.mv_script.specs.contracts.script.Script as Script
+use Rattle.mv_script.specs.contracts.script.CompiledScript as CompiledScript
 use Rattle.mv_core.specs.contracts.book.Book as Book
 use Rattle.mv_core.specs.contracts.book.Book.TheInside as Inside
 use Rattle.mv_core.specs.contracts.shared.SharedScript as Shared
@@ -38,7 +38,7 @@ ruleset parts = (list.the_send, boxed.the_send, txt.the_send, value.the_field_se
 pub graph_send : IsSend Graph.the_row
 graph_send = search (parts, std.crosses, expr.crosses, stmt.crosses, sendable) depth 60 fits 20000
 
-pub script_send : IsSend Script.the_row
+pub script_send : IsSend CompiledScript.the_row
 script_send = search (graph_send, list.the_send, call.the_field_send, call.the_send, rows.the_send, options.the_field_send, options.the_send, std.crosses, sendable) depth 60 fits 20000
 
 -- threads may share a script, too
@@ -47,14 +47,14 @@ ruleset shares = (list.the_sync, boxed.the_sync, txt.the_sync, value.the_field_s
 pub graph_sync : IsSync Graph.the_row
 graph_sync = search (shares, std.crosses, expr.crosses, stmt.crosses, sendable) depth 60 fits 20000
 
-pub script_sync : IsSync Script.the_row
+pub script_sync : IsSync CompiledScript.the_row
 script_sync = search (graph_sync, list.the_sync, call.the_field_sync, call.the_sync, rows.the_sync, options.the_field_sync, options.the_sync, std.crosses, sendable) depth 60 fits 20000
 
 pub shared_send : IsSend Shared.the_row
-shared_send = view_send SharedInside.the_row _ _ _ _ (recorded_send (SharedInside.the_field).row _ _ (SharedInside.the_type).to_one (struct_send (shape SharedInside.the_type) (std.Arc-send Script.the_row script_send script_sync, tt)))
+shared_send = view_send SharedInside.the_row _ _ _ _ (recorded_send (SharedInside.the_field).row _ _ (SharedInside.the_type).to_one (struct_send (shape SharedInside.the_type) (std.Arc-send CompiledScript.the_row script_send script_sync, tt)))
 
 pub shared_sync : IsSync Shared.the_row
-shared_sync = view_sync SharedInside.the_row _ _ _ _ (recorded_sync (SharedInside.the_field).row _ _ (SharedInside.the_type).to_one (struct_sync (shape SharedInside.the_type) (std.Arc-sync Script.the_row script_send script_sync, tt)))
+shared_sync = view_sync SharedInside.the_row _ _ _ _ (recorded_sync (SharedInside.the_field).row _ _ (SharedInside.the_type).to_one (struct_sync (shape SharedInside.the_type) (std.Arc-sync CompiledScript.the_row script_send script_sync, tt)))
 
 ruleset others = (roomy.the_send, progress.the_send, progress.the_field_send, live.the_send, recent.the_send, event.the_send, event.the_field_send, std.crosses, sendable)
 

@@ -8,10 +8,10 @@ use Rattle.mv_journal.specs.declared.event.Event.{Event}
 use Rattle.mv_journal.specs.declared.event.Event.TheVariants.{B, S, A, M, C, X, R, G}
 use Rattle.mv_journal.specs.declared.outcome.Mark.{Mark}
 use Rattle.mv_journal.specs.declared.outcome.Mark.TheVariants.{Plain, Exclusive, Moved}
-use Rattle.mv_lawful.specs.declared.fault.Fault.{Fault}
-use Rattle.mv_lawful.specs.declared.fault.Fault.TheVariants.{Order}
-use Rattle.mv_lawful.specs.Work.{Work}
-use Rattle.mv_lawful.specs.Lawful.{Turn, Live, Course, beginning, change_live, with_call, begin, again, finish, unless, of_live, refusal, after, reach, course_of, first_open, open_call, AllAllowed}
+use Rattle.mv_lawful.specs.declared.fault.EventFault.{EventFault}
+use Rattle.mv_lawful.specs.declared.fault.EventFault.TheVariants.{Order}
+use Rattle.mv_lawful.specs.Batch.{Batch}
+use Rattle.mv_lawful.specs.Lawful.{RoundStart, Live, Schedule, beginning, change_live, with_call, begin, again, finish, unless, of_live, refusal, after, reach, schedule_of, first_open, open_call, AllAllowed}
 use Rattle.mv_lawful.specs.Rounds.{WithinRounds}
 use Rattle.mv_core.specs.Calls.{IsLive}
 use Rattle.mv_lawful.proofs.Lists.{get_last, get_front, get_set, set_there, set_apart}
@@ -19,7 +19,7 @@ use Rattle.mv_lawful.proofs.Numbers.{within_more, within_end}
 
 -- Events of a live call
 
-pub live_at : (s : Course) (c : ℕ) (f : Live → Option Fault) → of_live (slice_get s.calls c) f ≡ None → (l : Live) × IsLive s c l × (f l ≡ None)
+pub live_at : (s : Schedule) (c : ℕ) (f : Live → Option EventFault) → of_live (slice_get s.calls c) f ≡ None → (l : Live) × IsLive s c l × (f l ≡ None)
 live_at s c f h = by (slice_get s.calls c) refl h where
   going : (l : Live) (b : Bool) → l.done ≡ b → slice_get s.calls c ≡ Some l → unless (not b) Order (f l) ≡ None → (l : Live) × IsLive s c l × (f l ≡ None)
   going l true is at k = absurd (search (rules, k))
@@ -83,10 +83,10 @@ done_more (x ∷ ls) (suc c) l m e f t = by x.done (done_more ls c l m e f t) wh
 -- of one call, after so many events: its rounds began after no more commits than there are, and it has no more steps
 -- than there are events
 pub record CallFacts (commits events : ℕ) (l : Live) : Type 0 where
-  pub first : Turn
-  pub rest : List Turn
-  pub turns : l.turns ≡ first ∷ rest
-  pub within : WithinRounds commits l.turns
+  pub first : RoundStart
+  pub rest : List RoundStart
+  pub round_starts : l.round_starts ≡ first ∷ rest
+  pub within : WithinRounds commits l.round_starts
   pub start : l.start ≤ commits
   pub steps : l.steps ≤ events
 
@@ -109,7 +109,7 @@ done_set ls c d m other h = (h.0, set_apart ls c d m other ∙ h.1, h.2)
 done_here : (ls : List Live) (c d : ℕ) (l m : Live) → slice_get ls c ≡ Some l → m.done ≡ true → d ≡ c → IsDoneIn (slice_set ls c m) d
 done_here ls c d l m at ended is = (m, subst (λ n. slice_get (slice_set ls c m) n ≡ Some m) (sym is) (set_there ls c m l at), ended)
 
-pub record Facts (w : Work) (events : ℕ) (s : Course) : Type 0 where
+pub record Facts (w : Batch) (events : ℕ) (s : Schedule) : Type 0 where
   pub count : length s.calls ≤ w.count
   pub done : done_in s.calls ≡ length s.order + length s.answered
   pub each : (c : ℕ) (l : Live) → slice_get s.calls c ≡ Some l → CallFacts (length s.order) events l
@@ -120,8 +120,8 @@ call_more : (n m e f : ℕ) (l : Live) → n ≤ m → e ≤ f → CallFacts n e
 call_more n m e f l le lf h = record {
   first = h.first;
   rest = h.rest;
-  turns = h.turns;
-  within = within_more n m l.turns le h.within;
+  round_starts = h.round_starts;
+  within = within_more n m l.round_starts le h.within;
   start = let a = h.start in omega (arith, a, le);
   steps = let a = h.steps in omega (arith, a, lf);
 }
@@ -130,14 +130,14 @@ call_again : (n e m : ℕ) (mark : Mark) (l : Live) → m ≤ n → CallFacts n 
 call_again n e m mark l le h = record {
   first = h.first;
   rest = h.rest ++ record { start = m; mark = mark } ∷ [];
-  turns = ap (λ ts. ts ++ record { start = m; mark = mark } ∷ []) h.turns;
-  within = within_end n l.turns (record { start = m; mark = mark }) h.within le;
+  round_starts = ap (λ ts. ts ++ record { start = m; mark = mark } ∷ []) h.round_starts;
+  within = within_end n l.round_starts (record { start = m; mark = mark }) h.within le;
   start = le;
   steps = h.steps;
 }
 
 -- one live call changes and stays live
-changed : (w : Work) (e : ℕ) (s : Course) (c : ℕ) (l m : Live) → Facts w e s → IsLive s c l → m.done ≡ false → CallFacts (length s.order) (e + 1) m → Facts w (e + 1) (record s { calls = slice_set s.calls c m })
+changed : (w : Batch) (e : ℕ) (s : Schedule) (c : ℕ) (l m : Live) → Facts w e s → IsLive s c l → m.done ≡ false → CallFacts (length s.order) (e + 1) m → Facts w (e + 1) (record s { calls = slice_set s.calls c m })
 changed w e s c l m k live still fresh = record {
   count = let n = length-set s.calls c m in let h = k.count in omega (arith, n, h);
   done = done_kept s.calls c l m live.at (still ∙ sym live.live) ∙ k.done;
@@ -150,7 +150,7 @@ changed w e s c l m k live still fresh = record {
   by d x (inr h) = call_more (length s.order) (length s.order) e (e + 1) x (omega arith) (omega arith) (k.each d x h.1)
 
 -- one live call commits
-committed : (w : Work) (e : ℕ) (s : Course) (c : ℕ) (l m : Live) → Facts w e s → IsLive s c l → m.done ≡ true → CallFacts (length s.order) (e + 1) m
+committed : (w : Batch) (e : ℕ) (s : Schedule) (c : ℕ) (l m : Live) → Facts w e s → IsLive s c l → m.done ≡ true → CallFacts (length s.order) (e + 1) m
     → Facts w (e + 1) (record s { order = s.order ++ c ∷ []; calls = slice_set s.calls c m })
 committed w e s c l m k live ended fresh = record {
   count = let n = length-set s.calls c m in let h = k.count in omega (arith, n, h);
@@ -174,7 +174,7 @@ committed w e s c l m k live ended fresh = record {
   back i d (inl at) = let h = k.back i d at in done_set s.calls c d m (not_live s.calls c d l h live.at live.live) h
 
 -- one live call is answered
-replied : (w : Work) (e : ℕ) (s : Course) (c : ℕ) (l m : Live) → Facts w e s → IsLive s c l → m.done ≡ true → CallFacts (length s.order) (e + 1) m
+replied : (w : Batch) (e : ℕ) (s : Schedule) (c : ℕ) (l m : Live) → Facts w e s → IsLive s c l → m.done ≡ true → CallFacts (length s.order) (e + 1) m
     → Facts w (e + 1) (record s { answered = s.answered ++ c ∷ []; calls = slice_set s.calls c m })
 replied w e s c l m k live ended fresh = record {
   count = let n = length-set s.calls c m in let h = k.count in omega (arith, n, h);
@@ -198,7 +198,7 @@ replied w e s c l m k live ended fresh = record {
   last i d (inl at) = let h = k.replied i d at in done_set s.calls c d m (not_live s.calls c d l h live.at live.live) h
 
 -- a call begins
-begun : (w : Work) (e : ℕ) (s : Course) → Facts w e s → length s.calls < w.count → Facts w (e + 1) (record s { calls = s.calls ++ begin (length s.order) ∷ [] })
+begun : (w : Batch) (e : ℕ) (s : Schedule) → Facts w e s → length s.calls < w.count → Facts w (e + 1) (record s { calls = s.calls ++ begin (length s.order) ∷ [] })
 begun w e s k room = record {
   count = let n = length-append s.calls (begin (length s.order) ∷ []) in omega (arith, n, room);
   done = done_begun s.calls (length s.order) ∙ k.done;
@@ -207,13 +207,13 @@ begun w e s k room = record {
   replied = λ i d at. let h = k.replied i d at in (h.0, get_front s.calls (begin (length s.order)) d h.0 h.1, h.2);
 } where
   fresh : CallFacts (length s.order) (e + 1) (begin (length s.order))
-  fresh = record { first = record { start = length s.order; mark = Plain }; rest = []; turns = refl; within = ((omega arith), tt); start = omega arith; steps = omega arith }
+  fresh = record { first = record { start = length s.order; mark = Plain }; rest = []; round_starts = refl; within = ((omega arith), tt); start = omega arith; steps = omega arith }
 
   by : (d : ℕ) (x : Live) → (slice_get s.calls d ≡ Some x) ⊎ ((d ≡ length s.calls) × (begin (length s.order) ≡ x)) → CallFacts (length s.order) (e + 1) x
   by d x (inl h) = call_more (length s.order) (length s.order) e (e + 1) x (omega arith) (omega arith) (k.each d x h)
   by d x (inr h) = subst (CallFacts (length s.order) (e + 1)) h.1 fresh
 
-pub room_of : (w : Work) (n c : ℕ) → unless ((c == n) && nat_lt c w.count) Order None ≡ None → (c ≡ n) × (n < w.count)
+pub room_of : (w : Batch) (n c : ℕ) → unless ((c == n) && nat_lt c w.count) Order None ≡ None → (c ≡ n) × (n < w.count)
 room_of w n c h = by (c == n) (nat_lt c w.count) refl refl h where
   same : (c == n) ≡ true → c ≡ n
   same h = grind (arith, eqb_tells, h)
@@ -226,16 +226,16 @@ room_of w n c h = by (c == n) (nat_lt c w.count) refl refl h where
   by true false e k h = absurd (search (rules, h))
   by false b e k h = absurd (search (rules, h))
 
-facts_on : (w : Work) (e : ℕ) (s : Course) (c : ℕ) (f : Live → Live) (l : Live) → slice_get s.calls c ≡ Some l → Facts w e (record s { calls = slice_set s.calls c (f l) }) → Facts w e (with_call s c f)
+facts_on : (w : Batch) (e : ℕ) (s : Schedule) (c : ℕ) (f : Live → Live) (l : Live) → slice_get s.calls c ≡ Some l → Facts w e (record s { calls = slice_set s.calls c (f l) }) → Facts w e (with_call s c f)
 facts_on w e s c f l at k = subst (λ ls. Facts w e (record s { calls = ls })) (sym (changed_at s.calls c f l at)) k
 
-pub facts_after : (w : Work) (e : ℕ) (s : Course) (v : Event) → refusal w s v ≡ None → Facts w e s → Facts w (e + 1) (after w s v)
+pub facts_after : (w : Batch) (e : ℕ) (s : Schedule) (v : Event) → refusal w s v ≡ None → Facts w e s → Facts w (e + 1) (after w s v)
 facts_after w e s (B c) h k = let r = room_of w (length s.calls) c h in begun w e s k r.1
 facts_after w e s (S c) h k =
     let a = live_at s c _ h in
     let m : Live = record a.0 { steps = a.0.steps + 1 } in
     let f = k.each c a.0 a.1.at in
-    facts_on w (e + 1) s c (λ l. record l { steps = l.steps + 1 }) a.0 a.1.at (changed w e s c a.0 m k a.1 a.1.live (record { first = f.first; rest = f.rest; turns = f.turns; within = f.within; start = f.start; steps = let b = f.steps in omega (arith, b) }))
+    facts_on w (e + 1) s c (λ l. record l { steps = l.steps + 1 }) a.0 a.1.at (changed w e s c a.0 m k a.1 a.1.live (record { first = f.first; rest = f.rest; round_starts = f.round_starts; within = f.within; start = f.start; steps = let b = f.steps in omega (arith, b) }))
 facts_after w e s (A c) h k =
     let a = live_at s c _ h in
     facts_on w (e + 1) s c (again (length s.order) Plain) a.0 a.1.at (changed w e s c a.0 (again (length s.order) Plain a.0) k a.1 a.1.live
@@ -247,29 +247,29 @@ facts_after w e s (M c) h k =
 facts_after w e s (C c) h k =
     let a = live_at s c _ h in
     facts_on w (e + 1) (record s { order = s.order ++ c ∷ [] }) c finish a.0 a.1.at (committed w e s c a.0 (finish a.0) k a.1 refl
-    (let f = k.each c a.0 a.1.at in record { first = f.first; rest = f.rest; turns = f.turns; within = f.within; start = f.start; steps = let b = f.steps in omega (arith, b) }))
+    (let f = k.each c a.0 a.1.at in record { first = f.first; rest = f.rest; round_starts = f.round_starts; within = f.within; start = f.start; steps = let b = f.steps in omega (arith, b) }))
 facts_after w e s (X c) h k =
     let a = live_at s c _ h in
     facts_on w (e + 1) (record s { order = s.order ++ c ∷ [] }) c (λ l. finish (again (length s.order) Exclusive l)) a.0 a.1.at (committed w e s c a.0 (finish (again (length s.order) Exclusive a.0)) k a.1 refl
     (let f = call_again (length s.order) (e + 1) (length s.order) Exclusive a.0 (omega arith) (call_more (length s.order) (length s.order) e (e + 1) a.0 (omega arith) (omega arith) (k.each c a.0 a.1.at)) in
-    record { first = f.first; rest = f.rest; turns = f.turns; within = f.within; start = f.start; steps = f.steps }))
+    record { first = f.first; rest = f.rest; round_starts = f.round_starts; within = f.within; start = f.start; steps = f.steps }))
 facts_after w e s (R c) h k =
     let a = live_at s c _ h in
     facts_on w (e + 1) (record s { answered = s.answered ++ c ∷ [] }) c finish a.0 a.1.at (replied w e s c a.0 (finish a.0) k a.1 refl
-    (let f = k.each c a.0 a.1.at in record { first = f.first; rest = f.rest; turns = f.turns; within = f.within; start = f.start; steps = let b = f.steps in omega (arith, b) }))
+    (let f = k.each c a.0 a.1.at in record { first = f.first; rest = f.rest; round_starts = f.round_starts; within = f.within; start = f.start; steps = let b = f.steps in omega (arith, b) }))
 facts_after w e s G h k = record { count = k.count; done = k.done; each = λ c l at. call_more (length s.order) (length s.order) e (e + 1) l (omega arith) (omega arith) (k.each c l at); back = k.back; replied = k.replied }
 
 -- Whole journals
 
-pub reach_more : (w : Work) (s : Course) (es : List Event) (e : Event) → reach w s (es ++ e ∷ []) ≡ after w (reach w s es) e
+pub reach_more : (w : Batch) (s : Schedule) (es : List Event) (e : Event) → reach w s (es ++ e ∷ []) ≡ after w (reach w s es) e
 reach_more w s [] e = refl
 reach_more w s (x ∷ es) e = reach_more w (after w s x) es e
 
-pub allowed_more : (w : Work) (s : Course) (es : List Event) (e : Event) → AllAllowed w s es → refusal w (reach w s es) e ≡ None → AllAllowed w s (es ++ e ∷ [])
+pub allowed_more : (w : Batch) (s : Schedule) (es : List Event) (e : Event) → AllAllowed w s es → refusal w (reach w s es) e ≡ None → AllAllowed w s (es ++ e ∷ [])
 allowed_more w s [] e all this = (this, tt)
 allowed_more w s (x ∷ es) e all this = (all.0, allowed_more w (after w s x) es e all.1 this)
 
-facts_reach : (w : Work) (n : ℕ) (s : Course) (es : List Event) → AllAllowed w s es → Facts w n s → Facts w (n + length es) (reach w s es)
+facts_reach : (w : Batch) (n : ℕ) (s : Schedule) (es : List Event) → AllAllowed w s es → Facts w n s → Facts w (n + length es) (reach w s es)
 facts_reach w n s [] h k = subst (λ m. Facts w m s) (sym more) k where
   more : n + 0 ≡ n
   more = omega arith
@@ -277,8 +277,8 @@ facts_reach w n s (e ∷ es) h k = subst (λ m. Facts w m (reach w (after w s e)
   more : n + suc (length es) ≡ n + 1 + length es
   more = omega arith
 
-pub facts_of : (w : Work) (es : List Event) → AllAllowed w beginning es → Facts w (length es) (course_of w es)
-facts_of w es h = subst (λ m. Facts w m (course_of w es)) none (facts_reach w 0 beginning es h start) where
+pub facts_of : (w : Batch) (es : List Event) → AllAllowed w beginning es → Facts w (length es) (schedule_of w es)
+facts_of w es h = subst (λ m. Facts w m (schedule_of w es)) none (facts_reach w 0 beginning es h start) where
   none : 0 + length es ≡ length es
   none = omega arith
 
@@ -288,7 +288,7 @@ facts_of w es h = subst (λ m. Facts w m (course_of w es)) none (facts_reach w 0
 -- The end
 
 -- no call is open: each is done
-pub all_done : (w : Work) (s : Course) → open_call w s ≡ None → (c : ℕ) → c < w.count → (l : Live) × (slice_get s.calls c ≡ Some l) × (l.done ≡ true)
+pub all_done : (w : Batch) (s : Schedule) → open_call w s ≡ None → (c : ℕ) → c < w.count → (l : Live) × (slice_get s.calls c ≡ Some l) × (l.done ≡ true)
 all_done w s h c less = open_done 0 s.calls c (below (first_open 0 s.calls) (shut (first_open 0 s.calls) h)) where
   shut : (n : ℕ) → (if nat_lt n w.count then Some n else None) ≡ None → nat_lt n w.count ≡ false
   shut n k = by (nat_lt n w.count) k where
@@ -302,9 +302,9 @@ all_done w s h c less = open_done 0 s.calls c (below (first_open 0 s.calls) (shu
 -- Where calls stand
 
 -- a live call isn't in the order
-pub live_apart : (w : Work) (e : ℕ) (s : Course) (c : ℕ) (l : Live) → Facts w e s → IsLive s c l → (k : ℕ) → slice_get s.order k ≡ Some c → ⊥
+pub live_apart : (w : Batch) (e : ℕ) (s : Schedule) (c : ℕ) (l : Live) → Facts w e s → IsLive s c l → (k : ℕ) → slice_get s.order k ≡ Some c → ⊥
 live_apart w e s c l f live k at = not_live s.calls c c l (f.back k c at) live.at live.live refl
 
 -- nor among the answered ones
-pub live_unanswered : (w : Work) (e : ℕ) (s : Course) (c : ℕ) (l : Live) → Facts w e s → IsLive s c l → (k : ℕ) → slice_get s.answered k ≡ Some c → ⊥
+pub live_unanswered : (w : Batch) (e : ℕ) (s : Schedule) (c : ℕ) (l : Live) → Facts w e s → IsLive s c l → (k : ℕ) → slice_get s.answered k ≡ Some c → ⊥
 live_unanswered w e s c l f live k at = not_live s.calls c c l (f.replied k c at) live.at live.live refl

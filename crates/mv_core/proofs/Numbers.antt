@@ -3,8 +3,8 @@ use Rattle.std.proofs.Common.{◌≡◌, ◌⊎◌, inl, inr, ℕ, zero, suc, �
 use Rattle.mv_journal.specs.declared.outcome.Mark.{Mark}
 use Rattle.mv_journal.specs.declared.outcome.Mark.TheVariants.{Moved}
 use Rattle.mv_journal.specs.declared.outcome.Round.{Round}
-use Rattle.mv_lawful.specs.Work.{Work}
-use Rattle.mv_lawful.specs.Lawful.{Turn}
+use Rattle.mv_lawful.specs.Batch.{Batch}
+use Rattle.mv_lawful.specs.Lawful.{RoundStart}
 use Rattle.mv_lawful.specs.Rounds.{later_run, round, rounds_of, last_turn_or, numbered, last_number, closed, counted, uncounted}
 use Rattle.mv_lawful.proofs.Numbers.{numbered_twice, numbered_own, last_of_end, numbered_end, none_numbered, rounds_more}
 use Rattle.mv_core.specs.Calls.{AreRounds}
@@ -37,20 +37,20 @@ closes m kept all (inl is) (inl moved) = ap (closed m) is
 closes m kept all (inr is) (inl moved) = subst (λ x. closed x kept ≡ closed x all) (sym moved) (ap (numbered None) is ∙ numbered_twice None None all)
 
 -- a round more with a number that is Runs'
-pub rounds_end : (w : Work) (order : List ℕ) (c n k : ℕ) (m : Mark) (t : Turn) (ts : List Turn)
+pub rounds_end : (w : Batch) (order : List ℕ) (c n k : ℕ) (m : Mark) (t : RoundStart) (ts : List RoundStart)
     → last_number (rounds_of w order c ((t ∷ ts) ++ record { start = n; mark = m } ∷ [])) ≡ Some k
     → rounds_of w order c ((t ∷ ts) ++ record { start = n; mark = m } ∷ []) ≡ closed m (rounds_of w order c (t ∷ ts)) ++ counted n m k ∷ []
 rounds_end w order c n k m t ts is =
-    let u : Turn = record { start = n; mark = m } in
+    let u : RoundStart = record { start = n; mark = m } in
     let more = rounds_more w order c t u ts in
     let own : Some (later_run w order c (last_turn_or t.start ts) n m) ≡ Some k =
     sym (last_of_end (closed m (rounds_of w order c (t ∷ ts))) (round u (Some (later_run w order c (last_turn_or t.start ts) n m)))) ∙ (sym (ap last_number more) ∙ is) in
     more ∙ ap (λ o. closed m (rounds_of w order c (t ∷ ts)) ++ record { start = n; count = o; mark = m } ∷ []) own
 
 -- a round more without its number
-pub rounds_begun : (w : Work) (order : List ℕ) (c n : ℕ) (m : Mark) (t : Turn) (ts : List Turn)
+pub rounds_begun : (w : Batch) (order : List ℕ) (c n : ℕ) (m : Mark) (t : RoundStart) (ts : List RoundStart)
     → numbered None (rounds_of w order c ((t ∷ ts) ++ record { start = n; mark = m } ∷ [])) ≡ closed m (rounds_of w order c (t ∷ ts)) ++ uncounted n m ∷ []
 rounds_begun w order c n m t ts =
-    let u : Turn = record { start = n; mark = m } in
+    let u : RoundStart = record { start = n; mark = m } in
     ap (numbered None) (rounds_more w order c t u ts)
     ∙ numbered_end None (closed m (rounds_of w order c (t ∷ ts))) (round u (Some (later_run w order c (last_turn_or t.start ts) n m)))

@@ -12,7 +12,7 @@ use Rattle.mv_record.specs.Writes.{AreRising}
 use Rattle.mv_recorded.proofs.Meant.{meaning_tells}
 use Rattle.mv_graph.specs.declared.graph.Graph.{Graph}
 use Rattle.mv_graph.specs.Nodes.{meaning_of}
-use Rattle.mv_core.specs.Told.{reply_with, reply_told, writes_with, writes_told}
+use Rattle.mv_core.specs.Output.{reply_with, reply_told, writes_with, writes_told}
 
 -- where only the last record has an end, it is the first one that there is
 last_end : (front : List Record) (last : Record) (e : End) → end_in front ≡ None → last.end ≡ Some e → end_in (front ++ last ∷ []) ≡ Some e

@@ -4,4 +4,4 @@ pub mod Calls
 pub mod Books
 pub mod Drives
 pub mod Cores
-pub mod Told
+pub mod Output

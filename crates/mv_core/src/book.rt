@@ -3,16 +3,16 @@
 ghost use Rattle.std.specs.Prelude.{◌≡◌, ◌<◌, ◌≤◌, ◌+◌, ◌++◌, ◌∷◌, ◌≢◌, ◌↔◌, [], None, Some, length, map, IsTrue, IfOk, IfErr, IfSome, IfNone, OnOk};
 ghost use Rattle.std.specs.Option.{option_copied};
 ghost use Rattle.mv_values.specs.Counts.{first_numbers};
-ghost use Rattle.mv_lawful.specs.Work.{since};
-ghost use Rattle.mv_lawful.specs.Lawful.{Live, Lawful, beginning, course_of, open_call, refusal, is_stale, has_round, oldest, floor, next_low, AllAllowed};
+ghost use Rattle.mv_lawful.specs.Batch.{since};
+ghost use Rattle.mv_lawful.specs.Lawful.{Live, Lawful, beginning, schedule_of, open_call, refusal, is_stale, has_round, oldest, floor, next_low, AllAllowed};
 ghost use Rattle.mv_lawful.specs.Places.{places};
 ghost use Rattle.mv_lawful.specs.Outcomes.{history_line, outcome_of, reply_in};
-ghost use Rattle.mv_script.specs.Scripts.{IsScript};
+ghost use Rattle.mv_script.specs.Scripts.{IsCompiledScript};
 ghost use Rattle.mv_view.specs.declared.view.Refused.TheVariants as refused;
 ghost use Rattle.mv_changes.specs.Commits.{changes_in, AreNumbered};
 ghost use Rattle.mv_undo.specs.Owning.{HasWritesOf};
 ghost use Rattle.mv_core.specs.Calls.{IsLive, IsLiveCall, due_number};
-ghost use Rattle.mv_core.specs.Books.{work_in, IsSettled, last_run, last_tables, last_changes, start_run, IsReader, IsNoReader, Made, IsSame, HasBegun, round_event, IsMissing, commit_event, own_number, IsOwnNumber, HasRoom, UsesOne, KeepsRoom, HasRounds, IsNotStale, IsAlone, Remembers, AreRecordsOf, IsAnswer, HasAnswered};
+ghost use Rattle.mv_core.specs.Books.{batch_in, IsSettled, last_run, last_tables, last_changes, start_run, IsReader, IsNoReader, Made, IsSame, HasBegun, round_event, IsMissing, commit_event, own_number, IsOwnNumber, HasRoom, UsesOne, KeepsRoom, HasRounds, IsNotStale, IsAlone, Remembers, AreRecordsOf, IsAnswer, HasAnswered};
 ghost use Rattle.mv_journal.specs.declared.event.Event.TheVariants.{S, G};
 ghost use Rattle.mv_journal.specs.declared.outcome.Mark.TheVariants.{Plain, Exclusive};
 
@@ -27,7 +27,7 @@ use mv_changes::recent::{Committed, Recent};
 use mv_exec::task::Task;
 use mv_journal::event::Event;
 use mv_journal::outcome::{HistoryLine, Mark, Outcome, Round};
-use mv_script::script::Script;
+use mv_script::script::CompiledScript;
 use mv_values::calls::Reply;
 use mv_values::list::List;
 use mv_values::memory::NoMemory;
@@ -88,7 +88,7 @@ impl Model for Book {
 
     ghost view = { λ b. record {
       script = b.script;
-      course = record { order = b.order.items; calls = map live_of b.calls.items; low = b.low; answered = b.answered.items };
+      schedule = record { order = b.order.items; calls = map live_of b.calls.items; low = b.low; answered = b.answered.items };
       rounds = map (λ p. p.rounds) b.calls.items;
       journal = b.journal.items;
       room = min b.order.room (min b.answered.room (min b.journal.room b.recent.room));
@@ -100,9 +100,9 @@ impl Model for Book {
 impl Book {
     /// Returns a history without events. It allocates no memory.
     pub fn new(alloc: Global, script: SharedScript) -> Book
-        requires { IsScript script }
+        requires { IsCompiledScript script }
         ensures script { result.script ≡ script }
-        ensures course { result.course ≡ beginning }
+        ensures schedule { result.schedule ≡ beginning }
         ensures journal { result.journal ≡ [] }
     {
         Book {
@@ -119,7 +119,7 @@ impl Book {
     }
 
     /// Returns the script.
-    pub fn script(&self) -> &Script
+    pub fn script(&self) -> &CompiledScript
         ensures { result.now ≡ self.now.script }
     {
         self.script.get()
@@ -128,16 +128,16 @@ impl Book {
     /// Returns the events. The law of journals allows each of them after those before it.
     pub fn journal(&self) -> &[Event]
         ensures events { result.now ≡ self.now.journal }
-        ensures allowed { AllAllowed (work_in self.now) beginning self.now.journal }
-        ensures reaches { self.now.course ≡ course_of (work_in self.now) self.now.journal }
+        ensures allowed { AllAllowed (batch_in self.now) beginning self.now.journal }
+        ensures reaches { self.now.schedule ≡ schedule_of (batch_in self.now) self.now.journal }
     {
         self.journal.as_slice()
     }
 
     /// Returns the call that begins next, or none if each has begun.
     pub fn next_call(&self) -> Option<u32>
-        ensures next { IfSome result (λ call. (call ≡ length self.now.course.calls) × (call < length self.now.script.calls)) }
-        ensures none { IfNone result (length self.now.course.calls ≡ length self.now.script.calls) }
+        ensures next { IfSome result (λ call. (call ≡ length self.now.schedule.calls) × (call < length self.now.script.calls)) }
+        ensures none { IfNone result (length self.now.schedule.calls ≡ length self.now.script.calls) }
     {
         let call = self.calls.len();
         if call < self.script.get().calls.len() {
@@ -170,7 +170,7 @@ impl Book {
 
     /// Adds the event that a call executes a statement.
     pub fn ran(&mut self, call: u32)
-        requires allowed { refusal (work_in self.old) self.old.course (S call) ≡ None }
+        requires allowed { refusal (batch_in self.old) self.old.schedule (S call) ≡ None }
         requires room { 0 < self.old.room }
         ensures made { Made (S call) self.old self.new }
         ensures room { UsesOne self.old self.new }
@@ -184,11 +184,11 @@ impl Book {
     /// none.
     pub fn restart(&mut self, call: u32, mark: Mark) -> u32
         requires mark { mark ≢ Exclusive }
-        requires allowed { refusal (work_in self.old) self.old.course (round_event mark call) ≡ None }
+        requires allowed { refusal (batch_in self.old) self.old.schedule (round_event mark call) ≡ None }
         requires settled { mark ≡ Plain → IsSettled self.old call }
         requires room { HasRoom self.old call 1 }
         ensures made { Made (round_event mark call) self.old self.new }
-        ensures start { result ≡ length self.old.course.order }
+        ensures start { result ≡ length self.old.schedule.order }
         ensures room { UsesOne self.old self.new }
     {
         let start = self.order.len() as u32;
@@ -200,7 +200,7 @@ impl Book {
     /// Gives the last round of a live call its number: that of the records that its task executed. Does nothing if the
     /// round has its number.
     pub fn settle(&mut self, call: u32, task: &Task)
-        requires live { IsLiveCall self.old.course call }
+        requires live { IsLiveCall self.old.schedule call }
         requires number { IsMissing task.now.executed self.old call }
         ensures settled { IsSettled self.new call }
         ensures same { IsSame self.old self.new }
@@ -230,7 +230,7 @@ impl Book {
         changes: Option<Changes>,
         exclusive: Option<&Task>,
     ) -> u32
-        requires allowed { refusal (work_in self.old) self.old.course (commit_event (own_number (option_copied exclusive)) call) ≡ None }
+        requires allowed { refusal (batch_in self.old) self.old.schedule (commit_event (own_number (option_copied exclusive)) call) ≡ None }
         requires reply { reply ≡ (last_run self.old call).reply }
         requires changes { IfSome changes (λ told. told ≡ last_changes self.old call) }
         requires alone { IfNone changes (IsAlone self.old call) }
@@ -238,7 +238,7 @@ impl Book {
         requires number { IsOwnNumber (own_number (option_copied exclusive)) self.old call }
         requires room { HasRoom self.old call 1 }
         ensures made { Made (commit_event (own_number (option_copied exclusive.entry)) call) self.old self.new }
-        ensures number { result ≡ length self.old.course.order + 1 }
+        ensures number { result ≡ length self.old.schedule.order + 1 }
         ensures room { UsesOne self.old self.new }
     {
         let start = self.order.len() as u32;
@@ -257,9 +257,9 @@ impl Book {
     /// the start. The call is no commit, and adds no changes. Fails with `Stale` exactly if the start is below low, and
     /// then does nothing. It allocates no memory.
     pub fn answer_read(&mut self, call: u32, reply: Reply) -> Result<u32, Refused>
-        requires live { IsLiveCall self.old.course call }
+        requires live { IsLiveCall self.old.schedule call }
         requires kind { IsReader self.old call }
-        requires reply { (l : Live) → IsLive self.old.course call l → reply ≡ (start_run self.old call l).reply }
+        requires reply { (l : Live) → IsLive self.old.schedule call l → reply ≡ (start_run self.old call l).reply }
         requires settled { IsSettled self.old call }
         requires room { 0 < self.old.room }
         ensures answered { HasAnswered call result self.old self.new }
@@ -296,7 +296,7 @@ impl Book {
 
     /// Returns the least start of a live call, or the number of commits if no call is live.
     fn oldest_start(&self) -> u32
-        ensures { result ≡ oldest (length self.now.course.order) self.now.course.calls }
+        ensures { result ≡ oldest (length self.now.schedule.order) self.now.schedule.calls }
     {
         self.live
             .oldest_start(self.calls.as_slice(), self.commits())
@@ -304,7 +304,7 @@ impl Book {
 
     /// Returns the low after a collection.
     fn next_low(&self) -> u32
-        ensures { result ≡ next_low (work_in self.now) self.now.course }
+        ensures { result ≡ next_low (batch_in self.now) self.now.schedule }
     {
         let floor = floor_of(self.commits(), self.script.get().options.horizon);
         self.low.max(self.oldest_start().max(floor))
@@ -315,8 +315,8 @@ impl Book {
     pub fn collect(&mut self) -> u32
         requires { 0 < self.old.room }
         ensures made { Made G self.old self.new }
-        ensures low { result ≡ self.new.course.low }
-        ensures rises { self.old.course.low ≤ result }
+        ensures low { result ≡ self.new.schedule.low }
+        ensures rises { self.old.schedule.low ≤ result }
         ensures room { UsesOne self.old self.new }
     {
         let low = self.next_low();
@@ -339,7 +339,7 @@ impl Book {
 
     /// Makes room for two events and for two rounds of a call. No room is lost, even if memory runs out.
     pub fn reserve(&mut self, call: u32) -> Result<(), NoMemory>
-        requires live { IsLiveCall self.old.course call }
+        requires live { IsLiveCall self.old.schedule call }
         ensures same { IsSame self.old self.new }
         ensures room { OnOk result (HasRoom self.new call 2) }
         ensures kept { KeepsRoom self.old self.new }
@@ -355,7 +355,7 @@ impl Book {
     /// the call's start, and may not have its number yet.
     pub fn rounds(&self, call: u32) -> Option<&[Round]>
         ensures live { IfSome result (λ rounds. HasRounds self.now call rounds.now) }
-        ensures none { IfNone result (IsLiveCall self.now.course call → ⊥) }
+        ensures none { IfNone result (IsLiveCall self.now.schedule call → ⊥) }
     {
         let progress = live_at(self.calls.as_slice(), call)?;
         Some(progress.rounds.as_slice())
@@ -364,9 +364,9 @@ impl Book {
     /// Returns the number of a live call's last round. If the round has none yet, that is the number of the records that
     /// its task executed.
     pub fn number(&self, call: u32, task: &Task) -> usize
-        requires live { IsLiveCall self.now.course call }
+        requires live { IsLiveCall self.now.schedule call }
         requires number { IsMissing task.now.executed self.now call }
-        ensures { due_number (work_in self.now) self.now.course call ≡ Some result }
+        ensures { due_number (batch_in self.now) self.now.schedule call ≡ Some result }
     {
         match last_number(self.calls[call as usize].rounds.as_slice()) {
             Some(count) => count,
@@ -376,32 +376,32 @@ impl Book {
 
     /// Returns the number of statements of a live call in the journal.
     pub fn steps(&self, call: u32) -> usize
-        requires { IsLiveCall self.now.course call }
-        ensures { (l : Live) → IsLive self.now.course call l → result ≡ l.steps }
+        requires { IsLiveCall self.now.schedule call }
+        ensures { (l : Live) → IsLive self.now.schedule call l → result ≡ l.steps }
     {
         self.calls[call as usize].steps
     }
 
     /// Returns the number of commits before the last round of a live call.
     pub fn start(&self, call: u32) -> u32
-        requires { IsLiveCall self.now.course call }
-        ensures value { (l : Live) → IsLive self.now.course call l → result ≡ l.start }
-        ensures past { result ≤ length self.now.course.order }
+        requires { IsLiveCall self.now.schedule call }
+        ensures value { (l : Live) → IsLive self.now.schedule call l → result ≡ l.start }
+        ensures past { result ≤ length self.now.schedule.order }
     {
         self.calls[call as usize].start
     }
 
     /// Returns low. A live call whose start is below it is stale.
     pub fn low(&self) -> u32
-        ensures { result ≡ self.now.course.low }
+        ensures { result ≡ self.now.schedule.low }
     {
         self.low
     }
 
     /// Whether the start of a live call is below low.
     pub fn is_stale(&self, call: u32) -> bool
-        requires { IsLiveCall self.now.course call }
-        ensures { (l : Live) → IsLive self.now.course call l → result ≡ is_stale self.now.course l }
+        requires { IsLiveCall self.now.schedule call }
+        ensures { (l : Live) → IsLive self.now.schedule call l → result ≡ is_stale self.now.schedule l }
     {
         self.start(call) < self.low
     }
@@ -409,25 +409,25 @@ impl Book {
     /// Whether a live call was repaired and moved less often than there are rounds. Then it may be repaired or moved once
     /// more before it is decided in one step.
     pub fn has_round(&self, call: u32) -> bool
-        requires { IsLiveCall self.now.course call }
-        ensures { (l : Live) → IsLive self.now.course call l → result ≡ has_round (work_in self.now) l }
+        requires { IsLiveCall self.now.schedule call }
+        ensures { (l : Live) → IsLive self.now.schedule call l → result ≡ has_round (batch_in self.now) l }
     {
         self.calls[call as usize].rounds.len() <= self.script.get().options.rounds as usize
     }
 
     /// Returns the number of commits.
     pub fn commits(&self) -> u32
-        ensures { result ≡ length self.now.course.order }
+        ensures { result ≡ length self.now.schedule.order }
     {
         self.order.len() as u32
     }
 
     /// Returns the commits after the start of a live call, with their changes. The call's start may not be below low.
     pub fn since(&self, call: u32) -> &[Committed]
-        requires live { IsLiveCall self.now.course call }
+        requires live { IsLiveCall self.now.schedule call }
         requires fresh { IsNotStale self.now call }
-        ensures changes { (l : Live) → IsLive self.now.course call l → changes_in result.now ≡ since (work_in self.now) self.now.course.order l.start }
-        ensures numbers { (l : Live) → IsLive self.now.course call l → AreNumbered (l.start + 1) result.now }
+        ensures changes { (l : Live) → IsLive self.now.schedule call l → changes_in result.now ≡ since (batch_in self.now) self.now.schedule.order l.start }
+        ensures numbers { (l : Live) → IsLive self.now.schedule call l → AreNumbered (l.start + 1) result.now }
     {
         self.recent.since(self.start(call))
     }
@@ -435,10 +435,10 @@ impl Book {
     /// Copies the commits after the start of a live call, with their changes. The call's start may not be below low. Fails
     /// with `NoMemory` if memory runs out.
     pub fn copy_since(&self, alloc: Global, call: u32) -> Result<List<Committed>, NoMemory>
-        requires live { IsLiveCall self.now.course call }
+        requires live { IsLiveCall self.now.schedule call }
         requires fresh { IsNotStale self.now call }
-        ensures changes { IfOk result (λ commits. (l : Live) → IsLive self.now.course call l → changes_in commits ≡ since (work_in self.now) self.now.course.order l.start) }
-        ensures numbers { IfOk result (λ commits. (l : Live) → IsLive self.now.course call l → AreNumbered (l.start + 1) commits) }
+        ensures changes { IfOk result (λ commits. (l : Live) → IsLive self.now.schedule call l → changes_in commits ≡ since (batch_in self.now) self.now.schedule.order l.start) }
+        ensures numbers { IfOk result (λ commits. (l : Live) → IsLive self.now.schedule call l → AreNumbered (l.start + 1) commits) }
     {
         let mut commits = List::new(alloc);
         append_copies(alloc, &mut commits, self.since(call))?;
@@ -449,11 +449,11 @@ impl Book {
     /// its statements at that start. Returns `Free` exactly if the law of journals allows its commit. It allocates no
     /// memory. It tries each predicate of the records on the key of each change of the predicate's table.
     pub fn check(&self, call: u32, task: &Task) -> Check
-        requires live { IsLiveCall self.now.course call }
+        requires live { IsLiveCall self.now.schedule call }
         requires kind { IsNoReader self.now call }
         requires records { AreRecordsOf self.now call task.now.log.records }
         requires writes { HasWritesOf task.now.undo task.now.log.records }
-        ensures { (l : Live) → IsLive self.now.course call l → IsAnswer result (work_in self.now) self.now.course call l }
+        ensures { (l : Live) → IsLive self.now.schedule call l → IsAnswer result (batch_in self.now) self.now.schedule call l }
     {
         let start = self.start(call);
         if start < self.low {
@@ -473,7 +473,7 @@ impl Book {
 
     /// Returns the calls in the order of the history, with their rounds, and a copy of the events.
     fn copies(&self, alloc: Global) -> Result<(List<HistoryLine>, List<Event>), NoMemory>
-        ensures history { IfOk result (λ copies. copies.0 ≡ map (history_line (work_in self.now) self.now.course) (places self.now.course)) }
+        ensures history { IfOk result (λ copies. copies.0 ≡ map (history_line (batch_in self.now) self.now.schedule) (places self.now.schedule)) }
         ensures events { IfOk result (λ copies. copies.1 ≡ self.now.journal) }
     {
         let history = history_of(
@@ -489,8 +489,8 @@ impl Book {
 
     /// Returns the replies, by call.
     fn replies(self, alloc: Global) -> Result<List<Reply>, NoMemory>
-        requires { open_call (work_in self) self.course ≡ None }
-        ensures { IfOk result (λ replies. replies ≡ map (reply_in (work_in self) self.course) (first_numbers (work_in self).count)) }
+        requires { open_call (batch_in self) self.schedule ≡ None }
+        ensures { IfOk result (λ replies. replies ≡ map (reply_in (batch_in self) self.schedule) (first_numbers (batch_in self).count)) }
     {
         replies_of(alloc, self.calls)
     }
@@ -498,10 +498,10 @@ impl Book {
     /// Turns the history into the outcome of the run: the replies by call, the calls in their order with their rounds,
     /// the events, and these tables, which are those after all commits. Its journal is lawful.
     pub fn outcome(self, alloc: Global, tables: Database) -> Result<Outcome, NoMemory>
-        requires ended { open_call (work_in self) self.course ≡ None }
+        requires ended { open_call (batch_in self) self.schedule ≡ None }
         requires tables { tables ≡ last_tables self }
-        ensures outcome { IfOk result (λ outcome. outcome ≡ outcome_of (work_in self) self.journal) }
-        ensures lawful { Lawful (work_in self) self.journal }
+        ensures outcome { IfOk result (λ outcome. outcome ≡ outcome_of (batch_in self) self.journal) }
+        ensures lawful { Lawful (batch_in self) self.journal }
     {
         let (history, journal) = self.copies(alloc)?;
         let replies = self.replies(alloc)?;

@@ -9,14 +9,16 @@ ghost use Rattle.mv_store.specs.Changes.{HasRaised};
 ghost use Rattle.mv_store.specs.Stored.{IsLike};
 ghost use Rattle.mv_core.specs.declared.book.Check.TheVariants.{Free as IsFree, Hit as IsHit};
 ghost use Rattle.mv_core.specs.Calls.{IsLive, IsLiveCall};
-ghost use Rattle.mv_core.specs.Books.{work_in, last_tables, last_run, last_changes, commit_event, own_number, Made, IsSame, IsSettled, IsMissing, IsNotStale, IsAlone, IsNoReader, IsOwnNumber, AreRecordsOf, AreLastOf, IsAnswer};
+ghost use Rattle.mv_core.specs.Books.{batch_in, last_tables, last_run, last_changes, commit_event, own_number, Made, IsSame, IsSettled, IsMissing, IsNotStale, IsAlone, IsNoReader, IsOwnNumber, AreRecordsOf, AreLastOf, IsAnswer};
 ghost use Rattle.mv_core.specs.Cores.{RunsOn, IsStoreOf, IsTaskIn, IsRunningIn, IsRepaired, IsPrepared, HasCommitted, HasMovedAndCommitted, HasCollected};
 
 use crate::book::{Book, Check};
 use crate::fresh::no_memory;
+use crate::output::put_told;
 use crate::spare::Spare;
-use crate::tasks::{Running, Told, move_task, repair_task, tell, validate_task, whole_task};
-use crate::told::put_told;
+use crate::tasks::{
+    CommitOutput, Running, move_task, repair_task, tell, validate_task, whole_task,
+};
 use mv_exec::task::Task;
 use mv_journal::outcome::{Mark, Outcome};
 use mv_log::records::Records;
@@ -37,7 +39,7 @@ pub(crate) fn check_task(
     requires stored { IsStoreOf book.now store.now }
     requires call { IsRunningIn book.now call running.old }
     requires kind { IsNoReader book.now call }
-    ensures answer { IfOk result (λ check. (l : Live) → IsLive book.now.course call l → IsAnswer check (work_in book.now) book.now.course call l) }
+    ensures answer { IfOk result (λ check. (l : Live) → IsLive book.now.schedule call l → IsAnswer check (batch_in book.now) book.now.schedule call l) }
     ensures records { IfOk result (λ check. check ≡ IsFree → AreRecordsOf book.now call running.new.task.log.records) }
     ensures hit { IfOk result (λ check. (number commit : ℕ) → check ≡ IsHit number commit → AreRecordsOf book.now call running.new.task.log.records) }
     ensures task { IsTaskIn book.now call running.new }
@@ -80,7 +82,7 @@ pub fn move_last(
     spare: &mut Spare,
 ) -> Result<Task, NoMemory>
     requires stored { IsStoreOf book.old store.now }
-    requires live { IsLiveCall book.old.course call }
+    requires live { IsLiveCall book.old.schedule call }
     requires number { call < length book.old.script.calls }
     ensures made { OnOk result (Made (M call) book.old book.new) }
     ensures settled { OnOk result (IsSettled book.new call) }
@@ -110,7 +112,7 @@ fn repair_last(
     requires fresh { IsNotStale book.now call }
     requires whole { AreRecordsOf book.now call running.old.task.log.records }
     requires ended { running.old.task.ended ≡ true }
-    ensures ok { OnOk result ((l : Live) → IsLive book.now.course call l → IsRepaired book.now.script book.now.course.order call l running.new) }
+    ensures ok { OnOk result ((l : Live) → IsLive book.now.schedule call l → IsRepaired book.now.script book.now.schedule.order call l running.new) }
     ensures err { OnErr result (IsTaskIn book.now call running.new) }
 {
     let mut view = StoreView::new(store, book.commits());
@@ -128,18 +130,18 @@ fn tell_last(
     store: &Store,
     call: u32,
     records: &Records<'_>,
-) -> Result<Told, NoMemory>
+) -> Result<CommitOutput, NoMemory>
     requires stored { IsStoreOf book.now store.now }
     requires number { call < length book.now.script.calls }
     requires whole { AreLastOf book.now call records.now }
-    ensures reply { IfOk result (λ told. told.reply ≡ (last_run book.now call).reply) }
-    ensures changes { IfOk result (λ told. IfSome told.changes (λ changes. changes ≡ last_changes book.now call)) }
-    ensures alone { IfOk result (λ told. IfNone told.changes (IsAlone book.now call)) }
+    ensures reply { IfOk result (λ output. output.reply ≡ (last_run book.now call).reply) }
+    ensures changes { IfOk result (λ output. IfSome output.changes (λ changes. changes ≡ last_changes book.now call)) }
+    ensures alone { IfOk result (λ output. IfNone output.changes (IsAlone book.now call)) }
     ensures like { IsLike store.now (last_tables book.now) }
 {
     let mut view = StoreView::new(store, store.last());
     match tell(alloc, book, &mut view, call, records) {
-        Ok(told) => Ok(told),
+        Ok(output) => Ok(output),
         Err(why) => Err(no_memory(why)),
     }
 }
@@ -152,19 +154,19 @@ fn prepare(
     store: &mut Store,
     call: u32,
     records: &Records<'_>,
-) -> Result<Told, NoMemory>
+) -> Result<CommitOutput, NoMemory>
     requires stored { IsStoreOf book.now store.old }
     requires number { call < length book.now.script.calls }
     requires whole { AreLastOf book.now call records.now }
-    ensures reply { IfOk result (λ told. told.reply ≡ (last_run book.now call).reply) }
-    ensures changes { IfOk result (λ told. IfSome told.changes (λ changes. changes ≡ last_changes book.now call)) }
-    ensures alone { IfOk result (λ told. IfNone told.changes (IsAlone book.now call)) }
+    ensures reply { IfOk result (λ output. output.reply ≡ (last_run book.now call).reply) }
+    ensures changes { IfOk result (λ output. IfSome output.changes (λ changes. changes ≡ last_changes book.now call)) }
+    ensures alone { IfOk result (λ output. IfNone output.changes (IsAlone book.now call)) }
     ensures ok { OnOk result (IsPrepared book.now call store.new) }
     ensures err { OnErr result (IsStoreOf book.now store.new) }
 {
-    let told = tell_last(alloc, book, store, call, records)?;
+    let output = tell_last(alloc, book, store, call, records)?;
     put_told(alloc, store, call, records)?;
-    Ok(told)
+    Ok(output)
 }
 
 /// Commits a live call, whose last round has its number. The records of its task are those of a full run on the last
@@ -179,9 +181,9 @@ pub fn commit_task(
     exclusive: Option<&Task>,
 ) -> Result<u32, NoMemory>
     requires stored { IsStoreOf book.old store.old }
-    requires live { IsLiveCall book.old.course call }
+    requires live { IsLiveCall book.old.schedule call }
     requires number { call < length book.old.script.calls }
-    requires allowed { refusal (work_in book.old) book.old.course (commit_event (own_number (option_copied exclusive)) call) ≡ None }
+    requires allowed { refusal (batch_in book.old) book.old.schedule (commit_event (own_number (option_copied exclusive)) call) ≡ None }
     requires whole { AreLastOf book.old call task.now.log.records }
     requires settled { IsSettled book.old call }
     requires own { IsOwnNumber (own_number (option_copied exclusive)) book.old call }
@@ -189,8 +191,8 @@ pub fn commit_task(
     ensures stored { IsStoreOf book.new store.new }
 {
     book.reserve(call)?;
-    let told = prepare(alloc, book, store, call, &task.records())?;
-    let commit = book.commit(call, told.reply, told.changes, exclusive);
+    let output = prepare(alloc, book, store, call, &task.records())?;
+    let commit = book.commit(call, output.reply, output.changes, exclusive);
     store.stamp(call, commit);
     Ok(commit)
 }
@@ -205,11 +207,11 @@ pub fn settle_and_commit(
     task: &Task,
 ) -> Result<u32, NoMemory>
     requires stored { IsStoreOf book.old store.old }
-    requires live { IsLiveCall book.old.course call }
+    requires live { IsLiveCall book.old.schedule call }
     requires number { call < length book.old.script.calls }
     requires missing { IsMissing task.now.executed book.old call }
     requires whole { AreRecordsOf book.old call task.now.log.records }
-    requires allowed { refusal (work_in book.old) book.old.course (C call) ≡ None }
+    requires allowed { refusal (batch_in book.old) book.old.schedule (C call) ≡ None }
     ensures made { HasCommitted (C call) result book.old book.new }
     ensures stored { IsStoreOf book.new store.new }
 {
@@ -228,7 +230,7 @@ pub fn move_and_commit(
     spare: &mut Spare,
 ) -> Result<u32, NoMemory>
     requires stored { IsStoreOf book.old store.old }
-    requires live { IsLiveCall book.old.course call }
+    requires live { IsLiveCall book.old.schedule call }
     requires kind { IsNoReader book.old call }
     requires number { call < length book.old.script.calls }
     ensures made { HasMovedAndCommitted call result book.old book.new }
@@ -236,10 +238,10 @@ pub fn move_and_commit(
 {
     let task = run_last(alloc, book, store, call, spare)?;
     book.reserve(call)?;
-    let told = prepare(alloc, book, store, call, &task.records())?;
+    let output = prepare(alloc, book, store, call, &task.records())?;
     book.restart(call, Mark::Moved);
     book.settle(call, &task);
-    let commit = book.commit(call, told.reply, told.changes, None);
+    let commit = book.commit(call, output.reply, output.changes, None);
     store.stamp(call, commit);
     spare.keep(task);
     Ok(commit)
@@ -260,7 +262,7 @@ pub fn decide_task(
     requires fresh { IsNotStale book.old call }
     requires whole { AreRecordsOf book.old call running.old.task.log.records }
     requires ended { running.old.task.ended ≡ true }
-    requires allowed { refusal (work_in book.old) book.old.course (X call) ≡ None }
+    requires allowed { refusal (batch_in book.old) book.old.schedule (X call) ≡ None }
     ensures made { HasCommitted (X call) result book.old book.new }
     ensures stored { IsStoreOf book.new store.new }
     ensures whole { OnOk result (AreLastOf book.old call running.new.task.log.records) }
@@ -282,7 +284,7 @@ pub fn decide_task(
 pub fn collect_versions(book: &mut Book, store: &mut Store) -> Result<(), NoMemory>
     requires { IsStoreOf book.old store.old }
     ensures made { HasCollected result book.old book.new }
-    ensures raised { OnOk result (HasRaised book.new.course.low store.old store.new) }
+    ensures raised { OnOk result (HasRaised book.new.schedule.low store.old store.new) }
     ensures same { OnErr result (store.new ≡ store.old) }
     ensures stored { IsStoreOf book.new store.new }
 {
@@ -297,9 +299,9 @@ pub fn collect_versions(book: &mut Book, store: &mut Store) -> Result<(), NoMemo
 /// events. Fails with `NoMemory` if memory runs out.
 pub fn outcome_of(alloc: Global, book: Book, store: Store) -> Result<Outcome, NoMemory>
     requires stored { IsStoreOf book store }
-    requires ended { open_call (work_in book) book.course ≡ None }
-    ensures outcome { IfOk result (λ outcome. outcome ≡ outcome_of (work_in book) book.journal) }
-    ensures lawful { OnOk result (Lawful (work_in book) book.journal) }
+    requires ended { open_call (batch_in book) book.schedule ≡ None }
+    ensures outcome { IfOk result (λ outcome. outcome ≡ outcome_of (batch_in book) book.journal) }
+    ensures lawful { OnOk result (Lawful (batch_in book) book.journal) }
 {
     let last = store.last();
     let tables = store.into_tables_at(alloc, last)?;

@@ -2,45 +2,45 @@
 
 ghost use Rattle.std.specs.Prelude.{◌≡◌, ◌<◌, ◌^◌, length};
 ghost use Rattle.mv_lawful.specs.Lawful.{open_call};
-ghost use Rattle.mv_core.specs.Books.{Booked, work_in};
+ghost use Rattle.mv_core.specs.Books.{Booked, batch_in};
 ghost use Rattle.mv_core.specs.Drives.{TakesLine, Driven, fault_at};
 
 use mv_journal::event::Event;
-use mv_lawful::fault::Fault;
+use mv_lawful::fault::EventFault;
 use mv_values::memory::NoMemory;
 use mv_view::view::Refused;
 use std::alloc::Global;
 
 /// The reasons why an event isn't made.
 #[derive(Clone, Copy)]
-pub enum Refusal {
+pub enum EventRefusal {
     /// The law of journals refuses it.
-    Refused(Fault),
+    Refused(EventFault),
     /// Memory ran out.
     NoMemory,
 }
 
-impl From<NoMemory> for Refusal {
+impl From<NoMemory> for EventRefusal {
     ghost use Rattle.std.specs.Prelude.{◌≡◌};
-    ghost use Rattle.mv_core.specs.declared.drive.Refusal.TheVariants as refusal;
+    ghost use Rattle.mv_core.specs.declared.drive.EventRefusal.TheVariants as refusal;
 
     ghost from_gives = { λ _ e. e ≡ refusal.NoMemory };
 
-    fn from(_error: NoMemory) -> Refusal {
-        Refusal::NoMemory
+    fn from(_error: NoMemory) -> EventRefusal {
+        EventRefusal::NoMemory
     }
 }
 
-impl From<Refused> for Refusal {
+impl From<Refused> for EventRefusal {
     ghost use Rattle.std.specs.Prelude.{◌≡◌};
     ghost use Rattle.mv_core.specs.Drives.{of_view};
 
     ghost from_gives = { λ refused e. e ≡ of_view refused };
 
-    fn from(refused: Refused) -> Refusal {
+    fn from(refused: Refused) -> EventRefusal {
         match refused {
-            Refused::Stale { .. } => Refusal::Refused(Fault::Stale),
-            Refused::NoMemory => Refusal::NoMemory,
+            Refused::Stale { .. } => EventRefusal::Refused(EventFault::Stale),
+            Refused::NoMemory => EventRefusal::NoMemory,
         }
     }
 }
@@ -49,7 +49,7 @@ impl From<Refused> for Refusal {
 #[derive(Clone, Copy)]
 pub enum DriveFault {
     /// The event with this number, counted from 1, is refused.
-    Refused { n: u32, fault: Fault },
+    Refused { n: u32, fault: EventFault },
     /// All events are made, but this call has neither committed nor been answered. It is the least such call.
     Open { call: u32 },
     /// Memory ran out.
@@ -78,16 +78,16 @@ pub trait Events {
 
     /// Returns the least call that has neither committed nor been answered.
     fn open_call(&self) -> Option<u32>
-        ensures { result ≡ open_call (work_in (booked self.now)) (booked self.now).course };
+        ensures { result ≡ open_call (batch_in (booked self.now)) (booked self.now).schedule };
 }
 
 /// Returns the fault of the event with this number.
-pub(crate) fn fault_at(refusal: Refusal, n: u32) -> DriveFault
+pub(crate) fn fault_at(refusal: EventRefusal, n: u32) -> DriveFault
     ensures { result ≡ fault_at n refusal }
 {
     match refusal {
-        Refusal::Refused(fault) => DriveFault::Refused { n, fault },
-        Refusal::NoMemory => DriveFault::NoMemory,
+        EventRefusal::Refused(fault) => DriveFault::Refused { n, fault },
+        EventRefusal::NoMemory => DriveFault::NoMemory,
     }
 }
 

@@ -2,15 +2,15 @@
 
 ghost use Rattle.std.specs.Prelude.{◌≡◌, ◌<◌, ◌≤◌, [], ◌==◌, ◌&&◌, not, nat_lt, ◌+◌, length, slice_get, slice_set, Some, None, IfOk, IfErr, IfSome, IfNone, OnOk};
 ghost use Rattle.mv_journal.specs.declared.event.Event.TheVariants.{A, X};
-ghost use Rattle.mv_lawful.specs.Lawful.{Live, Lawful, beginning, course_of, has_step, has_round, open_call, AllAllowed};
+ghost use Rattle.mv_lawful.specs.Lawful.{Live, Lawful, beginning, schedule_of, has_step, has_round, open_call, AllAllowed};
 ghost use Rattle.mv_lawful.specs.Outcomes.{outcome_of};
 ghost use Rattle.mv_exec.specs.Running.{stepped};
 ghost use Rattle.mv_changes.specs.Commits.{changes_in, AreNumbered};
-ghost use Rattle.mv_lawful.specs.Work.{since};
+ghost use Rattle.mv_lawful.specs.Batch.{since};
 ghost use Rattle.mv_lawful.specs.Rounds.{last_number};
 ghost use Rattle.mv_core.specs.Calls.{IsLive, IsLiveCall, due_number};
-ghost use Rattle.mv_script.specs.Scripts.{IsScript};
-ghost use Rattle.mv_core.specs.Books.{work_in, HasRounds, IsSame, IsNotStale, IsReader, IsNoReader, IsAnswer, AreRecordsOf, HasAnswered};
+ghost use Rattle.mv_script.specs.Scripts.{IsCompiledScript};
+ghost use Rattle.mv_core.specs.Books.{batch_in, HasRounds, IsSame, IsNotStale, IsReader, IsNoReader, IsAnswer, AreRecordsOf, HasAnswered};
 ghost use Rattle.mv_core.specs.Cores.{HasStep, HasEnded, MayStep, IsAllowedIfFresh, HasRefused, HasBegunCall, HasStepped, HasTried, HasRepaired, HasDecided, HasMovedUp, HasCollected, AreFirstOf, AreOfLast, HasAllRecords, KeepsOtherTasks, BeginsTask, RunsOne, RunsWhole, records_in};
 
 use crate::block::Block;
@@ -31,7 +31,7 @@ use mv_journal::event::Event;
 use mv_journal::outcome::{Outcome, Round};
 use mv_log::records::Records;
 use mv_script::columns::indexed_columns;
-use mv_script::script::Script;
+use mv_script::script::CompiledScript;
 use mv_store::store::Store;
 use mv_store::view::StoreView;
 use mv_values::list::List;
@@ -83,10 +83,10 @@ impl Model for Core {
 
 impl Core {
     /// Returns a core without events. It copies the opening database. Fails with `NoMemory` if memory runs out.
-    pub fn new(alloc: Global, script: Script) -> Result<Core, NoMemory>
-        requires { IsScript script }
+    pub fn new(alloc: Global, script: CompiledScript) -> Result<Core, NoMemory>
+        requires { IsCompiledScript script }
         ensures script { IfOk result (λ core. core.book.script ≡ script) }
-        ensures course { IfOk result (λ core. core.book.course ≡ beginning) }
+        ensures schedule { IfOk result (λ core. core.book.schedule ≡ beginning) }
         ensures journal { IfOk result (λ core. core.book.journal ≡ []) }
         ensures tasks { IfOk result (λ core. core.tasks ≡ []) }
     {
@@ -128,7 +128,7 @@ impl Core {
 
     /// Fails with `Stale` if the start of a live call is below low.
     fn refuse_stale(&self, call: u32) -> Result<(), Refused>
-        requires { IsLiveCall self.now.book.course call }
+        requires { IsLiveCall self.now.book.schedule call }
         ensures fresh { OnOk result (IsNotStale self.now.book call) }
         ensures refused { IfErr result (λ why. HasRefused call why self.now.book self.now.book) }
     {
@@ -145,7 +145,7 @@ impl Core {
     /// the statement before, nothing is executed. Fails with `Stale` exactly if the start is below low, and with
     /// `NoMemory` if memory runs out. On an error all is as before.
     pub fn step(&mut self, alloc: Global, call: u32) -> Result<Stepped, Refused>
-        requires live { IsLiveCall self.old.book.course call }
+        requires live { IsLiveCall self.old.book.schedule call }
         requires left { HasStep self.old.book call }
         ensures made { HasStepped call result self.old.book self.new.book }
         ensures one { OnOk result (RunsOne call self.old self.new) }
@@ -167,7 +167,7 @@ impl Core {
     /// start. Fails with `Stale` exactly if the start is below low, and with `NoMemory` if memory runs out. Then the
     /// call isn't answered.
     pub fn answer_read(&mut self, alloc: Global, call: u32) -> Result<u32, Refused>
-        requires live { IsLiveCall self.old.book.course call }
+        requires live { IsLiveCall self.old.book.schedule call }
         requires kind { IsReader self.old.book call }
         ensures answered { HasAnswered call result self.old.book self.new.book }
         ensures others { KeepsOtherTasks call self.old self.new }
@@ -188,7 +188,7 @@ impl Core {
     /// exactly if a commit after the start hits a record of the call, and `Stale` exactly if the start is below low.
     /// Then nothing is committed, as after `NoMemory`, which comes if memory runs out.
     pub fn attempt(&mut self, alloc: Global, call: u32) -> Result<Attempt, NoMemory>
-        requires live { IsLiveCall self.old.book.course call }
+        requires live { IsLiveCall self.old.book.schedule call }
         requires kind { IsNoReader self.old.book call }
         ensures made { HasTried call result self.old.book self.new.book }
         ensures whole { IfOk result (λ attempt. RunsWhole call attempt self.new) }
@@ -213,9 +213,9 @@ impl Core {
     /// Validates a live call that isn't read only. First it runs the rest of the call at its start, unless that is
     /// below low.
     pub(crate) fn validate(&mut self, alloc: Global, call: u32) -> Result<Check, NoMemory>
-        requires live { IsLiveCall self.old.book.course call }
+        requires live { IsLiveCall self.old.book.schedule call }
         requires kind { IsNoReader self.old.book call }
-        ensures answer { IfOk result (λ check. (l : Live) → IsLive self.old.book.course call l → IsAnswer check (work_in self.old.book) self.old.book.course call l) }
+        ensures answer { IfOk result (λ check. (l : Live) → IsLive self.old.book.schedule call l → IsAnswer check (batch_in self.old.book) self.old.book.schedule call l) }
         ensures same { IsSame self.old.book self.new.book }
     {
         let Some(block) = &mut self.tasks[call as usize] else {
@@ -230,7 +230,7 @@ impl Core {
     /// executed records. Fails with `Stale` exactly if the start is below low, and with `NoMemory` if memory runs out. On
     /// an error all is as before, but the call may have lost its records. It then runs again from its first statement.
     pub fn again(&mut self, alloc: Global, call: u32) -> Result<usize, Refused>
-        requires live { IsLiveCall self.old.book.course call }
+        requires live { IsLiveCall self.old.book.schedule call }
         requires allowed { IsAllowedIfFresh self.old.book (A call) }
         ensures made { HasRepaired call result self.old.book self.new.book }
         ensures whole { OnOk result (HasAllRecords self.new call) }
@@ -252,7 +252,7 @@ impl Core {
     /// all its rounds. First it runs the rest of the call at its start. Returns the number of the commit. Fails as
     /// `again` does.
     pub fn exclusive(&mut self, alloc: Global, call: u32) -> Result<u32, Refused>
-        requires live { IsLiveCall self.old.book.course call }
+        requires live { IsLiveCall self.old.book.schedule call }
         requires allowed { IsAllowedIfFresh self.old.book (X call) }
         ensures made { HasDecided call result self.old.book self.new.book }
         ensures others { KeepsOtherTasks call self.old self.new }
@@ -272,7 +272,7 @@ impl Core {
     /// Moves a live call: it starts anew after all commits, and is run whole. Returns the number of its records. Fails
     /// with `NoMemory` if memory runs out, and then the call hasn't moved.
     pub fn move_up(&mut self, alloc: Global, call: u32) -> Result<usize, NoMemory>
-        requires { IsLiveCall self.old.book.course call }
+        requires { IsLiveCall self.old.book.schedule call }
         ensures made { HasMovedUp call result self.old.book self.new.book }
         ensures whole { OnOk result (HasAllRecords self.new call) }
         ensures others { KeepsOtherTasks call self.old self.new }
@@ -300,8 +300,8 @@ impl Core {
     /// Returns the events. The law of journals allows each of them after those before it.
     pub fn journal(&self) -> &[Event]
         ensures events { result.now ≡ self.now.book.journal }
-        ensures allowed { AllAllowed (work_in self.now.book) beginning self.now.book.journal }
-        ensures reaches { self.now.book.course ≡ course_of (work_in self.now.book) self.now.book.journal }
+        ensures allowed { AllAllowed (batch_in self.now.book) beginning self.now.book.journal }
+        ensures reaches { self.now.book.schedule ≡ schedule_of (batch_in self.now.book) self.now.book.journal }
     {
         self.book.journal()
     }
@@ -311,15 +311,15 @@ impl Core {
     pub fn rounds(&self, call: u32) -> Option<&[Round]>
         ensures live { IfSome result (λ rounds. HasRounds self.now.book call rounds.now) }
         ensures numbers { IfSome result (λ rounds. last_number rounds.now ≡ None → length rounds.now ≡ 1) }
-        ensures none { IfNone result (IsLiveCall self.now.book.course call → ⊥) }
+        ensures none { IfNone result (IsLiveCall self.now.book.schedule call → ⊥) }
     {
         self.book.rounds(call)
     }
 
     /// Whether the statements of a live call have run: it isn't in its first round, or no statement of that is left.
     pub fn ended(&self, call: u32) -> bool
-        requires { IsLiveCall self.now.book.course call }
-        ensures { (l : Live) → IsLive self.now.book.course call l → result ≡ not (has_step (work_in self.now.book) self.now.book.course call l) }
+        requires { IsLiveCall self.now.book.schedule call }
+        ensures { (l : Live) → IsLive self.now.book.schedule call l → result ≡ not (has_step (batch_in self.now.book) self.now.book.schedule call l) }
     {
         !self.may_step(call)
     }
@@ -327,7 +327,7 @@ impl Core {
     /// Returns the records of a live call, as far as it has run. They are the first ones of its full run on the tables at
     /// its start.
     pub fn records(&self, call: u32) -> Records<'_>
-        requires { IsLiveCall self.now.book.course call }
+        requires { IsLiveCall self.now.book.schedule call }
         ensures told { result ≡ records_in self.now call }
         ensures first { AreFirstOf self.now.book call result }
     {
@@ -340,7 +340,7 @@ impl Core {
     /// Returns the records of the latest commit: those of a full run of its call on the tables before it. A call must have
     /// committed.
     pub fn last_records(&self) -> Records<'_>
-        requires { 0 < length self.now.book.course.order }
+        requires { 0 < length self.now.book.schedule.order }
         ensures { AreOfLast self.now.book result }
     {
         let Some(block) = &self.last else {
@@ -351,10 +351,10 @@ impl Core {
 
     /// Returns the commits after the start of a live call, with their changes. The call's start may not be below low.
     pub fn since(&self, call: u32) -> &[Committed]
-        requires live { IsLiveCall self.now.book.course call }
+        requires live { IsLiveCall self.now.book.schedule call }
         requires fresh { IsNotStale self.now.book call }
-        ensures changes { (l : Live) → IsLive self.now.book.course call l → changes_in result.now ≡ since (work_in self.now.book) self.now.book.course.order l.start }
-        ensures numbers { (l : Live) → IsLive self.now.book.course call l → AreNumbered (l.start + 1) result.now }
+        ensures changes { (l : Live) → IsLive self.now.book.schedule call l → changes_in result.now ≡ since (batch_in self.now.book) self.now.book.schedule.order l.start }
+        ensures numbers { (l : Live) → IsLive self.now.book.schedule call l → AreNumbered (l.start + 1) result.now }
     {
         self.book.since(call)
     }
@@ -362,10 +362,10 @@ impl Core {
     /// Copies the commits after the start of a live call, with their changes. The call's start may not be below low. Fails
     /// with `NoMemory` if memory runs out.
     pub fn copy_since(&self, alloc: Global, call: u32) -> Result<List<Committed>, NoMemory>
-        requires live { IsLiveCall self.now.book.course call }
+        requires live { IsLiveCall self.now.book.schedule call }
         requires fresh { IsNotStale self.now.book call }
-        ensures changes { IfOk result (λ commits. (l : Live) → IsLive self.now.book.course call l → changes_in commits ≡ since (work_in self.now.book) self.now.book.course.order l.start) }
-        ensures numbers { IfOk result (λ commits. (l : Live) → IsLive self.now.book.course call l → AreNumbered (l.start + 1) commits) }
+        ensures changes { IfOk result (λ commits. (l : Live) → IsLive self.now.book.schedule call l → changes_in commits ≡ since (batch_in self.now.book) self.now.book.schedule.order l.start) }
+        ensures numbers { IfOk result (λ commits. (l : Live) → IsLive self.now.book.schedule call l → AreNumbered (l.start + 1) commits) }
     {
         self.book.copy_since(alloc, call)
     }
@@ -373,7 +373,7 @@ impl Core {
     /// Runs a live call whole at its start, beside its own task. Fails with `Stale` exactly if the start is below low, and
     /// with `NoMemory` if memory runs out.
     pub fn run_whole(&self, alloc: Global, call: u32) -> Result<Task, Refused>
-        requires { IsLiveCall self.now.book.course call }
+        requires { IsLiveCall self.now.book.schedule call }
         ensures records { IfOk result (λ task. AreRecordsOf self.now.book call task.log.records) }
         ensures number { OnOk result (call < length self.now.book.script.calls) }
         ensures fresh { OnOk result (IsNotStale self.now.book call) }
@@ -388,9 +388,9 @@ impl Core {
 
     /// Returns the number of records that the last round of a live call executed. The call's statements must have run.
     pub fn executed(&self, call: u32) -> usize
-        requires live { IsLiveCall self.now.book.course call }
+        requires live { IsLiveCall self.now.book.schedule call }
         requires ended { HasEnded self.now.book call }
-        ensures { due_number (work_in self.now.book) self.now.book.course call ≡ Some result }
+        ensures { due_number (batch_in self.now.book) self.now.book.schedule call ≡ Some result }
     {
         let Some(block) = &self.tasks[call as usize] else {
             unreachable!();
@@ -404,14 +404,14 @@ impl Core {
 
     /// Returns the number of commits.
     pub fn commits(&self) -> u32
-        ensures { result ≡ length self.now.book.course.order }
+        ensures { result ≡ length self.now.book.schedule.order }
     {
         self.book.commits()
     }
 
     /// Returns the number of calls that have begun.
     pub fn begun(&self) -> u32
-        ensures begun { result ≡ length self.now.book.course.calls }
+        ensures begun { result ≡ length self.now.book.schedule.calls }
         ensures within { result ≤ length self.now.book.script.calls }
     {
         self.tasks.len() as u32
@@ -419,23 +419,23 @@ impl Core {
 
     /// Returns the call that begins next, or none if each has begun.
     pub fn next_call(&self) -> Option<u32>
-        ensures next { IfSome result (λ call. (call ≡ length self.now.book.course.calls) × (call < length self.now.book.script.calls)) }
-        ensures none { IfNone result (length self.now.book.course.calls ≡ length self.now.book.script.calls) }
+        ensures next { IfSome result (λ call. (call ≡ length self.now.book.schedule.calls) × (call < length self.now.book.script.calls)) }
+        ensures none { IfNone result (length self.now.book.schedule.calls ≡ length self.now.book.script.calls) }
     {
         self.book.next_call()
     }
 
     /// Whether a live call is of a READ ONLY procedure.
     pub fn is_read_only(&self, call: u32) -> bool
-        requires { IsLiveCall self.now.book.course call }
-        ensures { result ≡ (work_in self.now.book).read_only call }
+        requires { IsLiveCall self.now.book.schedule call }
+        ensures { result ≡ (batch_in self.now.book).read_only call }
     {
         is_read_only(self.book.script(), call)
     }
 
     /// Whether this call begins next.
     pub(crate) fn is_next(&self, call: u32) -> bool
-        ensures { result ≡ ((call == length self.now.book.course.calls) && nat_lt call (length self.now.book.script.calls)) }
+        ensures { result ≡ ((call == length self.now.book.schedule.calls) && nat_lt call (length self.now.book.script.calls)) }
     {
         match self.next_call() {
             Some(next) => next == call,
@@ -460,8 +460,8 @@ impl Core {
     /// Whether a live call was repaired and moved less often than there are rounds. Then it may be repaired once more
     /// before it is decided in one step.
     pub(crate) fn has_round(&self, call: u32) -> bool
-        requires { IsLiveCall self.now.book.course call }
-        ensures { (l : Live) → IsLive self.now.book.course call l → result ≡ has_round (work_in self.now.book) l }
+        requires { IsLiveCall self.now.book.schedule call }
+        ensures { (l : Live) → IsLive self.now.book.schedule call l → result ≡ has_round (batch_in self.now.book) l }
     {
         self.book.has_round(call)
     }
@@ -469,7 +469,7 @@ impl Core {
     /// Returns the least call that has neither committed nor been answered. Takes time linear in the number of calls
     /// that have begun.
     pub fn open_call(&self) -> Option<u32>
-        ensures { result ≡ open_call (work_in self.now.book) self.now.book.course }
+        ensures { result ≡ open_call (batch_in self.now.book) self.now.book.schedule }
     {
         for call in 0..self.begun() {
             if self.rounds(call).is_some() {
@@ -483,9 +483,9 @@ impl Core {
     /// events, and the tables after all commits. Each call must have committed or been answered. Fails with `NoMemory`
     /// if memory runs out.
     pub fn outcome(self, alloc: Global) -> Result<Outcome, NoMemory>
-        requires { open_call (work_in self.book) self.book.course ≡ None }
-        ensures outcome { IfOk result (λ outcome. outcome ≡ outcome_of (work_in self.book) self.book.journal) }
-        ensures lawful { OnOk result (Lawful (work_in self.book) self.book.journal) }
+        requires { open_call (batch_in self.book) self.book.schedule ≡ None }
+        ensures outcome { IfOk result (λ outcome. outcome ≡ outcome_of (batch_in self.book) self.book.journal) }
+        ensures lawful { OnOk result (Lawful (batch_in self.book) self.book.journal) }
     {
         let Core { book, store, .. } = self;
         outcome_of(alloc, book, store)

@@ -6,123 +6,123 @@ ghost use Rattle.mv_core.specs.Drives.{HasTaken, TakesLine, TellsRound};
 ghost use Rattle.mv_core.specs.Cores.{HasAllRecords, HasRunWhole};
 
 use crate::book::Check;
-use crate::drive::{DriveFault, Events, Refusal, fault_at};
+use crate::drive::{DriveFault, EventRefusal, Events, fault_at};
 use crate::engine::{Attempt, Core};
 use mv_journal::event::Event;
-use mv_lawful::fault::Fault;
+use mv_lawful::fault::EventFault;
 use std::alloc::Global;
 
 /// Begins a call, if it is the next one.
-fn begin_event(core: &mut Core, alloc: Global, call: u32) -> Result<(), Refusal>
+fn begin_event(core: &mut Core, alloc: Global, call: u32) -> Result<(), EventRefusal>
     ensures { HasTaken (B call) core.old.book core.new.book result }
 {
     if !core.is_next(call) {
-        return Err(Refusal::Refused(Fault::Order));
+        return Err(EventRefusal::Refused(EventFault::Order));
     }
     core.begin(alloc)?;
     Ok(())
 }
 
 /// Executes the next statement of a call, if it has one.
-fn step_event(core: &mut Core, alloc: Global, call: u32) -> Result<(), Refusal>
+fn step_event(core: &mut Core, alloc: Global, call: u32) -> Result<(), EventRefusal>
     ensures { HasTaken (S call) core.old.book core.new.book result }
 {
     if !core.may_step(call) {
-        return Err(Refusal::Refused(Fault::Order));
+        return Err(EventRefusal::Refused(EventFault::Order));
     }
     core.step(alloc, call)?;
     Ok(())
 }
 
 /// Moves a call, if it is live.
-fn move_event(core: &mut Core, alloc: Global, call: u32) -> Result<(), Refusal>
+fn move_event(core: &mut Core, alloc: Global, call: u32) -> Result<(), EventRefusal>
     ensures taken { HasTaken (M call) core.old.book core.new.book result }
     ensures whole { OnOk result (HasAllRecords core.new call) }
 {
     if core.rounds(call).is_none() {
-        return Err(Refusal::Refused(Fault::Order));
+        return Err(EventRefusal::Refused(EventFault::Order));
     }
     core.move_up(alloc, call)?;
     Ok(())
 }
 
 /// Commits a call, if it is live and may commit.
-fn commit_event(core: &mut Core, alloc: Global, call: u32) -> Result<(), Refusal>
+fn commit_event(core: &mut Core, alloc: Global, call: u32) -> Result<(), EventRefusal>
     ensures { HasTaken (C call) core.old.book core.new.book result }
 {
     if core.rounds(call).is_none() {
-        return Err(Refusal::Refused(Fault::Order));
+        return Err(EventRefusal::Refused(EventFault::Order));
     }
     if core.is_read_only(call) {
-        return Err(Refusal::Refused(Fault::Kind));
+        return Err(EventRefusal::Refused(EventFault::Kind));
     }
     match core.attempt(alloc, call)? {
         Attempt::Committed(_) => Ok(()),
-        Attempt::Hit { .. } => Err(Refusal::Refused(Fault::Conflict)),
-        Attempt::Stale { .. } => Err(Refusal::Refused(Fault::Stale)),
+        Attempt::Hit { .. } => Err(EventRefusal::Refused(EventFault::Conflict)),
+        Attempt::Stale { .. } => Err(EventRefusal::Refused(EventFault::Stale)),
     }
 }
 
 /// Whether a live call that is hit may be repaired once more before it is decided in one step. Refuses the repair of any
 /// other call.
-fn round_left(core: &mut Core, alloc: Global, call: u32) -> Result<bool, Refusal>
+fn round_left(core: &mut Core, alloc: Global, call: u32) -> Result<bool, EventRefusal>
     ensures { TellsRound call result core.old.book core.new.book }
 {
     if core.rounds(call).is_none() {
-        return Err(Refusal::Refused(Fault::Order));
+        return Err(EventRefusal::Refused(EventFault::Order));
     }
     if core.is_read_only(call) {
-        return Err(Refusal::Refused(Fault::Kind));
+        return Err(EventRefusal::Refused(EventFault::Kind));
     }
     match core.validate(alloc, call)? {
-        Check::Free => return Err(Refusal::Refused(Fault::Idle)),
-        Check::Stale { .. } => return Err(Refusal::Refused(Fault::Stale)),
+        Check::Free => return Err(EventRefusal::Refused(EventFault::Idle)),
+        Check::Stale { .. } => return Err(EventRefusal::Refused(EventFault::Stale)),
         Check::Hit { .. } => {}
     }
     Ok(core.has_round(call))
 }
 
 /// Repairs a call, if it is live, hit and may be repaired once more.
-fn repair_event(core: &mut Core, alloc: Global, call: u32) -> Result<(), Refusal>
+fn repair_event(core: &mut Core, alloc: Global, call: u32) -> Result<(), EventRefusal>
     ensures taken { HasTaken (A call) core.old.book core.new.book result }
     ensures whole { OnOk result (HasAllRecords core.new call) }
 {
     let more = round_left(core, alloc, call)?;
     if !more {
-        return Err(Refusal::Refused(Fault::Rounds));
+        return Err(EventRefusal::Refused(EventFault::Rounds));
     }
     core.again(alloc, call)?;
     Ok(())
 }
 
 /// Repairs and commits a call in one step, if it is live and hit, and has used its rounds.
-fn decide_event(core: &mut Core, alloc: Global, call: u32) -> Result<(), Refusal>
+fn decide_event(core: &mut Core, alloc: Global, call: u32) -> Result<(), EventRefusal>
     ensures { HasTaken (X call) core.old.book core.new.book result }
 {
     let more = round_left(core, alloc, call)?;
     if more {
-        return Err(Refusal::Refused(Fault::Rounds));
+        return Err(EventRefusal::Refused(EventFault::Rounds));
     }
     core.exclusive(alloc, call)?;
     Ok(())
 }
 
 /// Answers a call, if it is live and read only.
-fn answer_event(core: &mut Core, alloc: Global, call: u32) -> Result<(), Refusal>
+fn answer_event(core: &mut Core, alloc: Global, call: u32) -> Result<(), EventRefusal>
     ensures { HasTaken (R call) core.old.book core.new.book result }
 {
     if core.rounds(call).is_none() {
-        return Err(Refusal::Refused(Fault::Order));
+        return Err(EventRefusal::Refused(EventFault::Order));
     }
     if !core.is_read_only(call) {
-        return Err(Refusal::Refused(Fault::Kind));
+        return Err(EventRefusal::Refused(EventFault::Kind));
     }
     core.answer_read(alloc, call)?;
     Ok(())
 }
 
 /// Collects old versions.
-fn collect_event(core: &mut Core) -> Result<(), Refusal>
+fn collect_event(core: &mut Core) -> Result<(), EventRefusal>
     ensures { HasTaken G core.old.book core.new.book result }
 {
     core.collect()?;
@@ -130,7 +130,7 @@ fn collect_event(core: &mut Core) -> Result<(), Refusal>
 }
 
 /// Makes an event. If it is refused, the history is unchanged.
-fn take(core: &mut Core, alloc: Global, event: Event) -> Result<(), Refusal>
+fn take(core: &mut Core, alloc: Global, event: Event) -> Result<(), EventRefusal>
     ensures taken { HasTaken event core.old.book core.new.book result }
     ensures whole { OnOk result (HasRunWhole event core.new) }
 {

@@ -3,7 +3,7 @@
 ghost use Rattle.std.specs.Prelude.{◌≡◌, ◌<◌, ◌≤◌, ◌^◌, All, IfOk, length, map};
 ghost use Rattle.mv_lawful.specs.Places.{start_in, places};
 ghost use Rattle.mv_core.specs.declared.progress.Progress.{Progress as Kept};
-ghost use Rattle.mv_core.specs.Calls.{live_of, line_of, course_with};
+ghost use Rattle.mv_core.specs.Calls.{live_of, line_of, schedule_with};
 
 use crate::progress::Progress;
 use mv_journal::outcome::HistoryLine;
@@ -47,7 +47,7 @@ pub(crate) fn history_of(
     requires order { All (λ c. c < length calls.now) order.now }
     requires answered { All (λ c. c < length calls.now) answered.now }
     requires past { All (λ c. start_in (map live_of calls.now) c ≤ length order.now) answered.now }
-    ensures { IfOk result (λ history. history ≡ map (line_of calls.now) (places (course_with calls.now order.now answered.now))) }
+    ensures { IfOk result (λ history. history ≡ map (line_of calls.now) (places (schedule_with calls.now order.now answered.now))) }
 {
     let starts = starts_of(alloc, calls)?;
     let places = places_of(alloc, order, starts.as_slice(), answered)?;

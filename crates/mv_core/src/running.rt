@@ -10,7 +10,7 @@ ghost use Rattle.mv_effect.specs.Looking.{OnlyAsks};
 ghost use Rattle.mv_graph.specs.declared.graph.Graph.{Graph};
 ghost use Rattle.mv_graph.specs.Nodes.{meaning_of};
 ghost use Rattle.mv_exec.specs.Running.{IsTaskOf, IsUnchanged, HasLeft};
-ghost use Rattle.mv_script.specs.Scripts.{IsScript, IsCallOf, work_of};
+ghost use Rattle.mv_script.specs.Scripts.{IsCompiledScript, IsCallOf, batch_of};
 ghost use Rattle.mv_history.specs.Kept.{executions};
 ghost use Rattle.mv_repair.specs.Repairing.{changes_since};
 ghost use Rattle.mv_core.specs.Cores.{RunsOn, IsTaskFor, IsDatabaseIn, CanRepair, HasRunOne, CountsAll};
@@ -21,20 +21,20 @@ use mv_exec::step::Stepped;
 use mv_exec::task::Task;
 use mv_graph::graph::Graph;
 use mv_repair::repair::repair;
-use mv_script::script::Script;
+use mv_script::script::CompiledScript;
 use mv_values::calls::Call;
 use mv_view::view::{Refused, View};
 use std::alloc::Global;
 
 /// Returns the call of a number.
-fn call_at(script: &Script, number: u32) -> Option<&Call>
+fn call_at(script: &CompiledScript, number: u32) -> Option<&Call>
     ensures { option_copied result ≡ slice_get script.now.calls number }
 {
     script.calls.as_slice().get(number as usize)
 }
 
 /// Returns the graph of the procedure that a call names.
-fn graph_for<'g>(script: &'g Script, call: &Call) -> Option<&'g Graph>
+fn graph_for<'g>(script: &'g CompiledScript, call: &Call) -> Option<&'g Graph>
     ensures { option_copied result ≡ slice_get script.now.graphs call.now.procedure }
 {
     script.graphs.as_slice().get(call.procedure as usize)
@@ -48,8 +48,8 @@ pub(crate) struct Called<'s> {
 }
 
 /// Returns the call of a number with its graph.
-pub(crate) fn find_call(script: &Script, number: u32) -> Called<'_>
-    requires script { IsScript script.now }
+pub(crate) fn find_call(script: &CompiledScript, number: u32) -> Called<'_>
+    requires script { IsCompiledScript script.now }
     requires number { number < length script.now.calls }
     ensures { IsCallOf script.now number result.call.now result.graph.now }
 {
@@ -63,10 +63,10 @@ pub(crate) fn find_call(script: &Script, number: u32) -> Called<'_>
 }
 
 /// Whether a call is of a READ ONLY procedure.
-pub fn is_read_only(script: &Script, number: u32) -> bool
-    requires script { IsScript script.now }
+pub fn is_read_only(script: &CompiledScript, number: u32) -> bool
+    requires script { IsCompiledScript script.now }
     requires number { number < length script.now.calls }
-    ensures { result ≡ (work_of script.now).read_only number }
+    ensures { result ≡ (batch_of script.now).read_only number }
 {
     find_call(script, number).graph.read_only()
 }
@@ -75,12 +75,12 @@ pub fn is_read_only(script: &Script, number: u32) -> bool
 /// `Stale` if the view reports it.
 pub fn run_next<'s, V: View<'s>>(
     alloc: Global,
-    script: &Script,
+    script: &CompiledScript,
     number: u32,
     task: &mut Task,
     view: &mut V,
 ) -> Result<Stepped, Refused>
-    requires script { IsScript script.now }
+    requires script { IsCompiledScript script.now }
     requires number { number < length script.now.calls }
     requires database { IsDatabaseIn script.now number (V.sight view.old).database }
     requires runs { RunsOn script.now number (V.sight view.old).database task.old }
@@ -97,17 +97,17 @@ pub fn run_next<'s, V: View<'s>>(
 /// the view reports it. Then the call keeps the records added so far.
 pub fn run_all<'s, V: View<'s>>(
     alloc: Global,
-    script: &Script,
+    script: &CompiledScript,
     number: u32,
     task: &mut Task,
     view: &mut V,
 ) -> Result<(), Refused>
-    requires script { IsScript script.now }
+    requires script { IsCompiledScript script.now }
     requires number { number < length script.now.calls }
     requires database { IsDatabaseIn script.now number (V.sight view.old).database }
     requires runs { RunsOn script.now number (V.sight view.old).database task.old }
     ensures runs { RunsOn script.now number (V.sight view.old).database task.new }
-    ensures records { OnOk result (task.new.log.records ≡ ((work_of script.now).run number (V.sight view.old).database).records) }
+    ensures records { OnOk result (task.new.log.records ≡ ((batch_of script.now).run number (V.sight view.old).database).records) }
     ensures ended { OnOk result (task.new.ended ≡ true) }
     ensures counts { CountsAll task.old task.new }
     ensures view { OnlyAsks (V.sight view.old) (V.sight view.new) result }
@@ -121,19 +121,19 @@ pub fn run_all<'s, V: View<'s>>(
 /// out, and with `Stale` if the view reports it. Then its records are of no use.
 pub fn repair_over<'s, V: View<'s>>(
     alloc: Global,
-    script: &Script,
+    script: &CompiledScript,
     number: u32,
     task: &mut Task,
     since: &[Committed],
     view: &mut V,
 ) -> Result<usize, Refused>
-    requires script { IsScript script.now }
+    requires script { IsCompiledScript script.now }
     requires number { number < length script.now.calls }
     requires call { IsTaskFor script.now number task.old }
     requires leads { CanRepair script.now number task.old (changes_since since.now) (V.sight view.old).database }
     ensures call { IsTaskFor script.now number task.new }
     ensures runs { OnOk result (RunsOn script.now number (V.sight view.old).database task.new) }
-    ensures records { OnOk result (task.new.log.records ≡ ((work_of script.now).run number (V.sight view.old).database).records) }
+    ensures records { OnOk result (task.new.log.records ≡ ((batch_of script.now).run number (V.sight view.old).database).records) }
     ensures executed { OnOk result (task.new.executed ≡ executions task.old.log.records task.new.log.records (changes_since since.now)) }
     ensures answer { IfOk result (λ count. count ≡ task.new.executed) }
     ensures view { OnlyAsks (V.sight view.old) (V.sight view.new) result }

@@ -2,7 +2,7 @@
 
 ghost use Rattle.std.specs.Prelude.{◌≡◌, IfOk};
 
-use mv_script::script::Script;
+use mv_script::script::CompiledScript;
 use mv_values::memory::NoMemory;
 use std::alloc::Global;
 use std::marker::Model;
@@ -11,16 +11,16 @@ use std::sync::Arc;
 /// A script with several owners, in any threads. Contracts see the script.
 #[derive(Drop)]
 pub struct SharedScript {
-    script: Arc<Script, Global>,
+    script: Arc<CompiledScript, Global>,
 }
 
 impl Model for SharedScript {
     ghost use Rattle.std.specs.Coded.{codes};
     ghost use Rattle.std.specs.Arc.{arc_value};
     ghost use Rattle.mv_catalog.specs.contracts.resolved.RStmt as statement;
-    ghost use Rattle.mv_script.specs.declared.script.Script.{Script as Told};
+    ghost use Rattle.mv_script.specs.declared.script.CompiledScript.{CompiledScript as ScriptValue};
 
-    ghost Value = { Told };
+    ghost Value = { ScriptValue };
 
     ghost coded = { Prim.hlevel (codes, statement.the_row.coded) };
 
@@ -29,7 +29,7 @@ impl Model for SharedScript {
 
 impl SharedScript {
     /// Returns the first owner of a script. Fails with `NoMemory` if memory runs out.
-    pub fn new(alloc: Global, script: Script) -> Result<SharedScript, NoMemory>
+    pub fn new(alloc: Global, script: CompiledScript) -> Result<SharedScript, NoMemory>
         ensures { IfOk result (λ shared. shared ≡ script) }
     {
         let script = Arc::new(alloc, script)?;
@@ -45,7 +45,7 @@ impl SharedScript {
     }
 
     /// Returns the script.
-    pub fn get(&self) -> &Script
+    pub fn get(&self) -> &CompiledScript
         ensures { result.now ≡ self.now }
     {
         &self.script

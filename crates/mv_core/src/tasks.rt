@@ -13,21 +13,21 @@ ghost use Rattle.mv_exec.specs.Running.{IsTaskOf, IsTaskOn, IsUnchanged, HasLeft
 ghost use Rattle.mv_journal.specs.declared.event.Event.TheVariants.{A, M};
 ghost use Rattle.mv_lawful.specs.Lawful.{Live, has_step, refusal};
 ghost use Rattle.mv_core.specs.declared.book.Check.TheVariants.{Free as IsFree, Hit as IsHit};
-ghost use Rattle.mv_script.specs.Scripts.{IsScript, work_of};
+ghost use Rattle.mv_script.specs.Scripts.{IsCompiledScript, batch_of};
 ghost use Rattle.mv_core.specs.Calls.{IsLive, IsLiveCall, due_number};
-ghost use Rattle.mv_core.specs.Books.{work_in, last_tables, last_run, last_changes, Made, IsSame, IsSettled, IsMissing, IsNotStale, IsAlone, IsReader, IsNoReader, AreRecordsOf, AreLastOf, IsAnswer, HasAnswered};
-ghost use Rattle.mv_core.specs.Told.{reply_told};
+ghost use Rattle.mv_core.specs.Books.{batch_in, last_tables, last_run, last_changes, Made, IsSame, IsSettled, IsMissing, IsNotStale, IsAlone, IsReader, IsNoReader, AreRecordsOf, AreLastOf, IsAnswer, HasAnswered};
+ghost use Rattle.mv_core.specs.Output.{reply_told};
 ghost use Rattle.mv_core.specs.Cores.{RunsOn, IsDatabaseIn, IsTaskIn, IsRunningIn, HasRunOn, HasRunOne, IsLiveTask, IsRepaired, HasStep, ShowsStart, ShowsLast, count_or};
 
 use crate::book::{Book, Check};
+use crate::output::{changes_told, reply_of};
 use crate::running::{find_call, has_more, repair_over, run_all, run_next};
 use crate::spare::Spare;
-use crate::told::{changes_told, reply_of};
 use mv_changes::changes::Changes;
 use mv_exec::task::Task;
 use mv_journal::outcome::Mark;
 use mv_log::records::Records;
-use mv_script::script::Script;
+use mv_script::script::CompiledScript;
 use mv_values::calls::Reply;
 use mv_values::memory::NoMemory;
 use mv_view::view::{Refused, View};
@@ -81,11 +81,11 @@ impl Running {
 /// `NoMemory` if memory runs out.
 pub fn new_task(
     alloc: Global,
-    script: &Script,
+    script: &CompiledScript,
     number: u32,
     spare: &mut Spare,
 ) -> Result<Task, NoMemory>
-    requires script { IsScript script.now }
+    requires script { IsCompiledScript script.now }
     requires number { number < length script.now.calls }
     ensures runs { IfOk result (λ task. (db : Tables) → RunsOn script.now number db task) }
     ensures records { IfOk result (λ task. task.log.records ≡ []) }
@@ -98,11 +98,11 @@ pub fn new_task(
 
 /// Whether a live call is in its first round, which has a statement left.
 pub fn has_step(book: &Book, call: u32, running: &Running) -> bool
-    requires script { IsScript book.now.script }
-    requires live { IsLiveCall book.now.course call }
+    requires script { IsCompiledScript book.now.script }
+    requires live { IsLiveCall book.now.schedule call }
     requires number { call < length book.now.script.calls }
     requires task { IsTaskIn book.now call running.now }
-    ensures { (l : Live) → IsLive book.now.course call l → result ≡ has_step (work_in book.now) book.now.course call l }
+    ensures { (l : Live) → IsLive book.now.schedule call l → result ≡ has_step (batch_in book.now) book.now.schedule call l }
 {
     let Some(rounds) = book.rounds(call) else {
         unreachable!();
@@ -124,9 +124,9 @@ pub fn step_task<'s, V: View<'s>>(
     requires call { IsRunningIn book.now call running.old }
     requires shows { ShowsStart book.now call (V.sight view.old) }
     requires left { HasStep book.now call }
-    ensures ok { OnOk result ((l : Live) → IsLive book.now.course call l → IsLiveTask book.now.script book.now.course.order call (record l { steps = l.steps + 1 }) running.new) }
-    ensures one { OnOk result ((l : Live) → IsLive book.now.course call l → length running.old.task.log.records ≤ l.steps → HasRunOne running.old.task running.new.task) }
-    ensures named { OnOk result ((l : Live) → IsLive book.now.course call l → l.steps < length running.old.task.log.records → running.new ≡ running.old) }
+    ensures ok { OnOk result ((l : Live) → IsLive book.now.schedule call l → IsLiveTask book.now.script book.now.schedule.order call (record l { steps = l.steps + 1 }) running.new) }
+    ensures one { OnOk result ((l : Live) → IsLive book.now.schedule call l → length running.old.task.log.records ≤ l.steps → HasRunOne running.old.task running.new.task) }
+    ensures named { OnOk result ((l : Live) → IsLive book.now.schedule call l → l.steps < length running.old.task.log.records → running.new ≡ running.old) }
     ensures err { OnErr result (IsUnchanged running.old.task running.new.task) }
     ensures task { IsTaskIn book.now call running.new }
     ensures ran { HasRunOn running.old running.new }
@@ -171,7 +171,7 @@ pub fn validate_task<'s, V: View<'s>>(
     requires call { IsRunningIn book.now call running.old }
     requires kind { IsNoReader book.now call }
     requires shows { IsNotStale book.now call → ShowsStart book.now call (V.sight view.old) }
-    ensures answer { IfOk result (λ check. (l : Live) → IsLive book.now.course call l → IsAnswer check (work_in book.now) book.now.course call l) }
+    ensures answer { IfOk result (λ check. (l : Live) → IsLive book.now.schedule call l → IsAnswer check (batch_in book.now) book.now.schedule call l) }
     ensures records { IfOk result (λ check. check ≡ IsFree → AreRecordsOf book.now call running.new.task.log.records) }
     ensures hit { IfOk result (λ check. (number commit : ℕ) → check ≡ IsHit number commit → AreRecordsOf book.now call running.new.task.log.records) }
     ensures fresh { OnErr result (IsNotStale book.now call) }
@@ -202,7 +202,7 @@ pub fn repair_task<'s, V: View<'s>>(
     requires fresh { IsNotStale book.now call }
     requires whole { AreRecordsOf book.now call running.old.task.log.records }
     requires ended { running.old.task.ended ≡ true }
-    ensures ok { OnOk result ((l : Live) → IsLive book.now.course call l → IsRepaired book.now.script book.now.course.order call l running.new) }
+    ensures ok { OnOk result ((l : Live) → IsLive book.now.schedule call l → IsRepaired book.now.script book.now.schedule.order call l running.new) }
     ensures err { OnErr result (IsTaskIn book.now call running.new) }
     ensures view { OnlyAsks (V.sight view.old) (V.sight view.new) result }
 {
@@ -232,10 +232,10 @@ pub fn rerun_task<'s, V: View<'s>>(
     requires fresh { IsNotStale book.old call }
     requires whole { AreRecordsOf book.old call running.old.task.log.records }
     requires ended { running.old.task.ended ≡ true }
-    requires allowed { refusal (work_in book.old) book.old.course (A call) ≡ None }
-    ensures made { IfOk result (λ n. Made (A call) book.old book.new × (due_number (work_in book.new) book.new.course call ≡ Some n)) }
+    requires allowed { refusal (batch_in book.old) book.old.schedule (A call) ≡ None }
+    ensures made { IfOk result (λ n. Made (A call) book.old book.new × (due_number (batch_in book.new) book.new.schedule call ≡ Some n)) }
     ensures settled { OnOk result (IsSettled book.new call) }
-    ensures repaired { OnOk result ((l : Live) → IsLive book.old.course call l → IsRepaired book.old.script book.old.course.order call l running.new) }
+    ensures repaired { OnOk result ((l : Live) → IsLive book.old.schedule call l → IsRepaired book.old.script book.old.schedule.order call l running.new) }
     ensures same { OnErr result (IsSame book.old book.new) }
     ensures task { OnErr result (IsTaskIn book.old call running.new) }
     ensures view { OnlyAsks (V.sight view.old) (V.sight view.new) result }
@@ -252,16 +252,16 @@ pub fn rerun_task<'s, V: View<'s>>(
 /// memory runs out, and with `Stale` if the view reports it.
 pub fn whole_task<'s, V: View<'s>>(
     alloc: Global,
-    script: &Script,
+    script: &CompiledScript,
     number: u32,
     view: &mut V,
     spare: &mut Spare,
 ) -> Result<Task, Refused>
-    requires script { IsScript script.now }
+    requires script { IsCompiledScript script.now }
     requires number { number < length script.now.calls }
     requires database { IsDatabaseIn script.now number (V.sight view.old).database }
     ensures runs { IfOk result (λ task. RunsOn script.now number (V.sight view.old).database task) }
-    ensures records { IfOk result (λ task. task.log.records ≡ ((work_of script.now).run number (V.sight view.old).database).records) }
+    ensures records { IfOk result (λ task. task.log.records ≡ ((batch_of script.now).run number (V.sight view.old).database).records) }
     ensures executed { IfOk result (λ task. task.executed ≡ length task.log.records) }
     ensures view { OnlyAsks (V.sight view.old) (V.sight view.new) result }
 {
@@ -280,9 +280,9 @@ pub fn move_task<'s, V: View<'s>>(
     call: u32,
     spare: &mut Spare,
 ) -> Result<Task, Refused>
-    requires script { IsScript book.old.script }
+    requires script { IsCompiledScript book.old.script }
     requires shows { ShowsLast book.old (V.sight view.old) }
-    requires live { IsLiveCall book.old.course call }
+    requires live { IsLiveCall book.old.schedule call }
     requires number { call < length book.old.script.calls }
     ensures made { OnOk result (Made (M call) book.old book.new) }
     ensures settled { OnOk result (IsSettled book.new call) }
@@ -302,8 +302,8 @@ pub fn move_task<'s, V: View<'s>>(
 /// Event R of a live read only call that has run whole at its start, and tells this reply. Returns the start. Fails with
 /// `Stale` exactly if the start is below low, and with `NoMemory` if memory runs out. Then the call isn't answered.
 pub fn answer_told(book: &mut Book, call: u32, task: &Task, reply: Reply) -> Result<u32, Refused>
-    requires script { IsScript book.old.script }
-    requires live { IsLiveCall book.old.course call }
+    requires script { IsCompiledScript book.old.script }
+    requires live { IsLiveCall book.old.schedule call }
     requires number { call < length book.old.script.calls }
     requires kind { IsReader book.old call }
     requires missing { IsMissing task.now.executed book.old call }
@@ -318,8 +318,8 @@ pub fn answer_told(book: &mut Book, call: u32, task: &Task, reply: Reply) -> Res
 
 /// The same, with the reply that the task tells. It copies that.
 pub fn answer_task(alloc: Global, book: &mut Book, call: u32, task: &Task) -> Result<u32, Refused>
-    requires script { IsScript book.old.script }
-    requires live { IsLiveCall book.old.course call }
+    requires script { IsCompiledScript book.old.script }
+    requires live { IsLiveCall book.old.schedule call }
     requires number { call < length book.old.script.calls }
     requires kind { IsReader book.old call }
     requires missing { IsMissing task.now.executed book.old call }
@@ -338,7 +338,7 @@ pub fn changes_made<'s, V: View<'s>>(
     view: &mut V,
     records: &Records<'_>,
 ) -> Result<Changes, Refused>
-    requires script { IsScript book.now.script }
+    requires script { IsCompiledScript book.now.script }
     requires shows { ShowsLast book.now (V.sight view.old) }
     ensures made { (call : ℕ) → call < length book.now.script.calls → AreLastOf book.now call records.now → IfOk result (λ changes. changes ≡ last_changes book.now call) }
     ensures view { MayAnswer (V.sight view.old) (V.sight view.new) result }
@@ -346,9 +346,9 @@ pub fn changes_made<'s, V: View<'s>>(
     changes_told(alloc, book.script().opening.len(), records, view)
 }
 
-/// What a commit tells.
+/// The output of a commit.
 #[derive(Drop)]
-pub struct Told {
+pub struct CommitOutput {
     pub reply: Reply,
     /// The changes to the tables after all earlier commits. They may be left out if no other call is live.
     pub changes: Option<Changes>,
@@ -363,25 +363,25 @@ pub fn tell<'s, V: View<'s>>(
     view: &mut V,
     call: u32,
     records: &Records<'_>,
-) -> Result<Told, Refused>
-    requires script { IsScript book.now.script }
+) -> Result<CommitOutput, Refused>
+    requires script { IsCompiledScript book.now.script }
     requires shows { ShowsLast book.now (V.sight view.old) }
     requires number { call < length book.now.script.calls }
     requires whole { AreLastOf book.now call records.now }
-    ensures reply { IfOk result (λ told. told.reply ≡ (last_run book.now call).reply) }
-    ensures changes { IfOk result (λ told. IfSome told.changes (λ changes. changes ≡ last_changes book.now call)) }
-    ensures alone { IfOk result (λ told. IfNone told.changes (IsAlone book.now call)) }
+    ensures reply { IfOk result (λ output. output.reply ≡ (last_run book.now call).reply) }
+    ensures changes { IfOk result (λ output. IfSome output.changes (λ changes. changes ≡ last_changes book.now call)) }
+    ensures alone { IfOk result (λ output. IfNone output.changes (IsAlone book.now call)) }
     ensures view { MayAnswer (V.sight view.old) (V.sight view.new) result }
 {
     let reply = reply_of(alloc, records)?;
     if book.is_alone(call) {
-        return Ok(Told {
+        return Ok(CommitOutput {
             reply,
             changes: None,
         });
     }
     let changes = changes_made(alloc, book, view, records)?;
-    Ok(Told {
+    Ok(CommitOutput {
         reply,
         changes: Some(changes),
     })

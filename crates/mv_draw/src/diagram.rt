@@ -8,7 +8,7 @@ use mv_svg::content::Content;
 use mv_svg::look::Look;
 use mv_svg::picture::picture;
 use mv_svg::shape::Shape;
-use mv_trace::fault::Fault;
+use mv_trace::fault::TextFault;
 use mv_trace::graph::{Edge, Kind, Procedure};
 use mv_trace::statements::Statement;
 use mv_trace::words::{add_count, add_number};
@@ -39,7 +39,7 @@ pub fn draw_diagram(
     alloc: Global,
     procedures: &[Procedure],
     statements: &[Statement],
-) -> Result<List<u8>, Fault>
+) -> Result<List<u8>, TextFault>
     ensures { IfOk result (λ text. ∥ IsDocument text ∥₁) }
 {
     let left = reach_of(procedures, false).saturating_add(20);
@@ -74,12 +74,12 @@ pub fn draw_diagram(
 }
 
 /// Returns how the text and the script differ.
-fn difference(procedures: &[Procedure], statements: &[Statement]) -> Fault {
+fn difference(procedures: &[Procedure], statements: &[Statement]) -> TextFault {
     let mut text = 0usize;
     for procedure in procedures {
         text = text.saturating_add(procedure.statements);
     }
-    Fault::Statements {
+    TextFault::Statements {
         text,
         script: statements.len(),
     }

@@ -2,7 +2,7 @@
 use Rattle.std.proofs.Common.{◌≡◌, ◌==◌, not, List, [], ◌∷◌, length, map, refl, sym, ◌∙◌, rules}
 use Rattle.std.proofs.lemmas.List.{map-id}
 use Rattle.mv_values.specs.declared.rows.Keyed.{Keyed}
-use Rattle.mv_alone.specs.Rows.{is_some_row, matching}
+use Rattle.mv_eval.specs.Rows.{is_some_row, matching}
 use Rattle.mv_recorded.proofs.Matching.{matching_all}
 
 pub all_rows : (rows : List Keyed) → map (λ k. k) rows ≡ matching [] rows

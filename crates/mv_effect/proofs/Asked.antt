@@ -16,7 +16,7 @@ use Rattle.mv_values.specs.Counts.{one_more}
 use Rattle.mv_values.proofs.KeyOrder.{tied}
 use Rattle.mv_catalog.specs.declared.resolved.RStmt.{RStmt}
 use Rattle.mv_catalog.specs.declared.resolved.RStmt.TheOpen.{RStmt-F}
-use Rattle.mv_alone.specs.declared.state.Env.{Env}
+use Rattle.mv_eval.specs.declared.state.Env.{Env}
 use Rattle.mv_record.specs.declared.effect.Effect.{Effect}
 use Rattle.mv_recorded.specs.Effects.{IsEffect}
 use Rattle.mv_record.proofs.Patching.{row_of-placed_same, placed_other, rising_placed}

@@ -15,7 +15,7 @@ use Rattle.mv_values.specs.Preds.{admits}
 use Rattle.mv_values.specs.Tables.{columns_at}
 use Rattle.mv_values.proofs.KeyOrder.{tied, same_key}
 use Rattle.mv_catalog.specs.Text.{IsTable}
-use Rattle.mv_alone.proofs.Few.{Each, Pairs, NotBoth, without, pairs_of, each_weaker, pairs_weaker, each_kept, pairs_kept, one_goes}
+use Rattle.mv_eval.proofs.Few.{Each, Pairs, NotBoth, without, pairs_of, each_weaker, pairs_weaker, each_kept, pairs_kept, one_goes}
 use Rattle.mv_record.specs.Writes.{is_on}
 use Rattle.mv_undo.specs.Owning.{touches, is_among, AreSought}
 use Rattle.mv_checks.proofs.Referring.{columns_few}

@@ -7,11 +7,11 @@ use Rattle.mv_values.specs.declared.calls.End.{End}
 use Rattle.mv_values.specs.declared.schema.TableInfo.{TableInfo}
 use Rattle.mv_values.specs.Tables.{key_columns}
 use Rattle.mv_catalog.specs.declared.resolved.RCond.{RCond}
-use Rattle.mv_alone.specs.declared.state.Env.{Env}
-use Rattle.mv_alone.specs.declared.state.Stop.{Stop}
-use Rattle.mv_alone.specs.declared.state.Stop.TheVariants.{Memory, Ended}
-use Rattle.mv_alone.specs.Outcome.{Fails, then_do}
-use Rattle.mv_alone.specs.Rows.{tests_of, IsPlaced}
+use Rattle.mv_eval.specs.declared.state.Env.{Env}
+use Rattle.mv_eval.specs.declared.state.Stop.{Stop}
+use Rattle.mv_eval.specs.declared.state.Stop.TheVariants.{Memory, Ended}
+use Rattle.mv_eval.specs.Results.{Fails, then_do}
+use Rattle.mv_eval.specs.Rows.{tests_of, IsPlaced}
 use Rattle.mv_log.specs.Logged.{Logged, no_effect}
 use Rattle.mv_record.specs.declared.effect.Effect.{Effect}
 use Rattle.mv_record.specs.declared.record.Slot.{Slot}

@@ -17,10 +17,10 @@ use Rattle.mv_catalog.specs.declared.resolved.RCond.{RCond}
 use Rattle.mv_catalog.specs.declared.resolved.RExpr.{RExpr}
 use Rattle.mv_catalog.specs.declared.resolved.RSort.{RSort}
 use Rattle.mv_catalog.specs.declared.resolved.RStmt.TheOpen.{Select, Total}
-use Rattle.mv_alone.specs.declared.state.Env.{Env}
-use Rattle.mv_alone.specs.FirstRows.{AreAdmitted, IsFromEnd, Leads}
-use Rattle.mv_alone.specs.Rows.{is_some_row, item_at, ordered}
-use Rattle.mv_alone.proofs.FirstRows.{kept_all, some_foremost}
+use Rattle.mv_eval.specs.declared.state.Env.{Env}
+use Rattle.mv_eval.specs.FirstRows.{AreAdmitted, IsFromEnd, Leads}
+use Rattle.mv_eval.specs.Rows.{is_some_row, item_at, ordered}
+use Rattle.mv_eval.proofs.FirstRows.{kept_all, some_foremost}
 use Rattle.mv_record.proofs.Patching.{rising_found, rising_applied}
 use Rattle.mv_recorded.specs.Asking.{column_in, with_sorts, KnowsKey}
 use Rattle.mv_recorded.specs.Effects.{IsEffect, asks, effect_after, row_number, effect_of_select, effect_of_aggregate}

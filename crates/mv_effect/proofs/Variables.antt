@@ -3,9 +3,9 @@ use Rattle.std.proofs.Common.{◌≡◌, ◌≤◌, ℕ, zero, suc, ◌==◌, Bo
 use Rattle.std.proofs.lemmas.Bool.Decides.{eqb_tells}
 use Rattle.mv_values.specs.declared.value.Value.{Value}
 use Rattle.mv_values.specs.Columns.{column_of, columns_of}
-use Rattle.mv_alone.specs.declared.state.Env.{Env}
-use Rattle.mv_alone.specs.declared.state.Content.TheVariants.{Scalar}
-use Rattle.mv_alone.specs.Env.{scalar_in, scalar_at, truth, with_value, with_values, with_found}
+use Rattle.mv_eval.specs.declared.state.Env.{Env}
+use Rattle.mv_eval.specs.declared.state.Content.TheVariants.{Scalar}
+use Rattle.mv_eval.specs.Env.{scalar_in, scalar_at, truth, with_value, with_values, with_found}
 use Rattle.mv_recorded.proofs.Slots.{set_has, found_has, get_other}
 use Rattle.mv_effect.specs.Targets.{last_column}
 use Rattle.mv_recorded.specs.Effects.{slots_behind}

@@ -11,7 +11,7 @@ use Rattle.mv_values.specs.Preds.{matches, matched}
 use Rattle.mv_values.specs.Tables.{rows_at, key_columns, KeysStand}
 use Rattle.mv_table.specs.Spans.{AdmitsOnly}
 use Rattle.mv_table.proofs.Whole.{only_under}
-use Rattle.mv_alone.proofs.Spanning.{whole_matches}
+use Rattle.mv_eval.proofs.Spanning.{whole_matches}
 use Rattle.mv_record.specs.Writes.{AreRising}
 use Rattle.mv_record.proofs.Patching.{row_of-found}
 use Rattle.mv_recorded.specs.Asking.{KnowsKey}

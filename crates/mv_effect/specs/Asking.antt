@@ -1,7 +1,7 @@
 -- Logs whose open effect asks one predicate, and columns that are added once.
 use Rattle.std.specs.Prelude.{◌≡◌, ℕ, ℤ, List, [], ◌∷◌, Result, Ok, Err}
 use Rattle.mv_values.specs.declared.pred.Pred.{Pred}
-use Rattle.mv_alone.specs.declared.state.Stop.{Stop}
+use Rattle.mv_eval.specs.declared.state.Stop.{Stop}
 use Rattle.mv_recorded.specs.Effects.{only_asks}
 use Rattle.mv_log.specs.Logged.{Logged, once_more}
 

@@ -2,8 +2,8 @@
 use Rattle.std.specs.Prelude.{◌≡◌, Bool, [], Ok}
 use Rattle.mv_values.specs.declared.value.Value.{Value}
 use Rattle.mv_catalog.specs.declared.resolved.RStmt.TheOpen.{RStmt-F, Branch}
-use Rattle.mv_alone.specs.declared.state.Env.{Env}
-use Rattle.mv_alone.specs.Value.{value_of, is_so}
+use Rattle.mv_eval.specs.declared.state.Env.{Env}
+use Rattle.mv_eval.specs.Value.{value_of, is_so}
 
 -- an IF chooses this branch, unless its condition faults
 abbrev pub Chooses : {X : Type 0} → Env → Bool → RStmt-F X → Type 0

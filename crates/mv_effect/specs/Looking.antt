@@ -10,7 +10,7 @@ use Rattle.mv_values.specs.Counts.{one_more}
 use Rattle.mv_catalog.specs.declared.resolved.RStmt.{RStmt, out-RStmt}
 use Rattle.mv_catalog.specs.declared.resolved.RStmt.TheOpen.{RStmt-F}
 use Rattle.mv_catalog.specs.Text.{IsTable, HaveParents}
-use Rattle.mv_alone.specs.declared.state.Env.{Env}
+use Rattle.mv_eval.specs.declared.state.Env.{Env}
 use Rattle.mv_record.specs.Databases.{IsDatabaseOf}
 use Rattle.mv_recorded.specs.Asking.{preds_of}
 use Rattle.mv_undo.specs.Owning.{touches}

@@ -1,8 +1,8 @@
 -- Statements that are stopped.
 use Rattle.std.specs.Prelude.{◌≡◌, List, [], Result, Ok, Err}
 use Rattle.mv_values.specs.declared.pred.Pred.{Pred}
-use Rattle.mv_alone.specs.declared.state.Stop.{Stop}
-use Rattle.mv_alone.specs.declared.state.Stop.TheVariants.{Memory, Ended}
+use Rattle.mv_eval.specs.declared.state.Stop.{Stop}
+use Rattle.mv_eval.specs.declared.state.Stop.TheVariants.{Memory, Ended}
 use Rattle.mv_log.specs.Logged.{Logged}
 use Rattle.mv_record.specs.declared.effect.Effect.{Effect}
 use Rattle.mv_recorded.specs.Effects.{only_end}

@@ -10,7 +10,7 @@ ghost use Rattle.mv_effect.specs.Looking.{OnlyAsks};
 ghost use Rattle.mv_view.specs.Viewing.{Sight};
 
 use crate::numbers::narrow;
-use mv_alone::state::Stop;
+use mv_eval::state::Stop;
 use mv_log::log::Log;
 use mv_values::calls::End;
 use mv_values::list::List;

@@ -4,7 +4,7 @@ ghost use Rattle.std.specs.Prelude.{◌≡◌, ◌∷◌, [], ◌++◌, map, not
 ghost use Rattle.std.specs.List.{list_all};
 ghost use Rattle.mv_values.specs.Keys.{keys};
 ghost use Rattle.mv_values.specs.Patching.{applied, found_by};
-ghost use Rattle.mv_alone.specs.Rows.{is_some_row};
+ghost use Rattle.mv_eval.specs.Rows.{is_some_row};
 ghost use Rattle.mv_undo.specs.Owning.{earlier};
 ghost use Rattle.mv_recorded.specs.Asking.{is_among, fault_of, first_fault, asked_in, preds_up_to, KnowsKey};
 ghost use Rattle.mv_recorded.specs.Own.{Each};
@@ -43,7 +43,7 @@ fn have_keys(own: &[Key], rows: &[Found<'_>]) -> bool
 
 /// Whether the predicate finds a row after the call's own writes that the statement sees. Asks the view for the first
 /// one.
-#[tactic(auto, using(mv_alone::proofs::FirstRows::some_foremost))]
+#[tactic(auto, using(mv_eval::proofs::FirstRows::some_foremost))]
 fn finds_some<'s, V: View<'s>>(
     alloc: Global,
     context: &Context<'_>,

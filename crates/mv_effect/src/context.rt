@@ -1,6 +1,6 @@
 //! Where a statement is executed.
 
-use mv_alone::state::Env;
+use mv_eval::state::Env;
 use mv_undo::undo::Undo;
 use mv_values::schema::TableInfo;
 

@@ -3,8 +3,8 @@
 ghost use Rattle.std.specs.Prelude.{◌≡◌, ◌<◌, ◌≤◌, OnOk, OnErr, All, length, map, []};
 ghost use Rattle.std.specs.List.{flat_map};
 ghost use Rattle.mv_values.specs.Tables.{key_columns};
-ghost use Rattle.mv_alone.specs.Outcome.{Gives};
-ghost use Rattle.mv_alone.specs.Rows.{tests_of, IsPlaced};
+ghost use Rattle.mv_eval.specs.Results.{Gives};
+ghost use Rattle.mv_eval.specs.Rows.{tests_of, IsPlaced};
 ghost use Rattle.mv_catalog.specs.Text.{IsTable};
 ghost use Rattle.mv_catalog.specs.declared.resolved.RSort.{RSort};
 ghost use Rattle.mv_recorded.specs.Asking.{columns_in, column_in, with_sorts, KnowsKey};
@@ -16,10 +16,10 @@ ghost use Rattle.mv_effect.specs.Stops.{leaving};
 
 use crate::asking::ask;
 use crate::numbers::narrow;
-use mv_alone::expr::value;
-use mv_alone::find::{key_in, test_on};
-use mv_alone::state::{Env, Stop};
 use mv_catalog::resolved::{Query, RAgg, RCond, RExpr, RExprKind, RSetItem, RSort, Update};
+use mv_eval::expr::value;
+use mv_eval::find::{key_in, test_on};
+use mv_eval::state::{Env, Stop};
 use mv_log::log::Log;
 use mv_values::memory::NoMemory;
 use mv_values::schema::TableInfo;

@@ -9,7 +9,7 @@ ghost use Rattle.mv_values.specs.Preds.{matched};
 ghost use Rattle.mv_values.specs.Tables.{rows_at, key_columns};
 ghost use Rattle.mv_table.specs.Scans.{foremost};
 ghost use Rattle.mv_table.specs.Spans.{AdmitsOnly};
-ghost use Rattle.mv_alone.specs.Rows.{is_some_row};
+ghost use Rattle.mv_eval.specs.Rows.{is_some_row};
 ghost use Rattle.mv_record.specs.Admitting.{Admitted};
 ghost use Rattle.mv_record.specs.Writes.{writes_on, AreRising};
 ghost use Rattle.mv_undo.specs.Overlaying.{IsSeen};
@@ -22,7 +22,7 @@ ghost use Rattle.mv_recorded.specs.Asking.{KnowsKey};
 
 use crate::asking::asked_pred;
 use crate::context::Context;
-use mv_alone::find::key_in;
+use mv_eval::find::key_in;
 use mv_log::log::Log;
 use mv_record::applying::put_row;
 use mv_table::found::Found;

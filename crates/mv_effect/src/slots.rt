@@ -4,8 +4,8 @@ ghost use Rattle.std.specs.Prelude.{◌≡◌, ◌<◌, ◌^◌, ◌==◌, ◌�
 ghost use Rattle.std.specs.Option.{is_some, option_copied};
 ghost use Rattle.mv_values.specs.declared.value.Value.{Value};
 ghost use Rattle.mv_values.specs.Columns.{columns_of};
-ghost use Rattle.mv_alone.specs.Env.{scalar_at, truth, with_values, with_found};
-ghost use Rattle.mv_alone.specs.Alone.{with_selected, totalled};
+ghost use Rattle.mv_eval.specs.Env.{scalar_at, truth, with_values, with_found};
+ghost use Rattle.mv_eval.specs.Alone.{with_selected, totalled};
 ghost use Rattle.mv_recorded.specs.Doing.{when};
 ghost use Rattle.mv_recorded.specs.Reading.{each_once};
 ghost use Rattle.mv_effect.specs.Targets.{last_column};
@@ -13,8 +13,8 @@ ghost use Rattle.mv_recorded.specs.Effects.{slots_behind};
 ghost use Rattle.mv_effect.specs.Logging.{without_effect, with_sets};
 
 use crate::numbers::is_among_first;
-use mv_alone::env::column_value;
-use mv_alone::state::{Content, Env};
+use mv_eval::env::column_value;
+use mv_eval::state::{Content, Env};
 use mv_log::log::Log;
 use mv_record::record::Slot;
 use mv_table::found::Found;

@@ -4,8 +4,8 @@ ghost use Rattle.std.specs.Prelude.{◌≡◌, ◌<◌, ◌^◌, ℕ, List, [], 
 ghost use Rattle.mv_values.specs.declared.value.Value.{Value};
 ghost use Rattle.mv_catalog.specs.declared.resolved.RStmt.{RStmt};
 ghost use Rattle.mv_catalog.specs.declared.resolved.RStmt.TheOpen as layer;
-ghost use Rattle.mv_alone.specs.Alone.{is_turn};
-ghost use Rattle.mv_alone.specs.Value.{value_of, is_so};
+ghost use Rattle.mv_eval.specs.Alone.{is_turn};
+ghost use Rattle.mv_eval.specs.Value.{value_of, is_so};
 ghost use Rattle.mv_view.specs.Viewing.{Sight};
 ghost use Rattle.mv_recorded.specs.Effects.{IsEffectAnywhere};
 ghost use Rattle.mv_effect.specs.Logging.{IsBlank, without_effect, with_rows};
@@ -13,11 +13,11 @@ ghost use Rattle.mv_effect.specs.Looking.{OnlyAsks};
 
 use crate::asking::{end, stop_early};
 use crate::slots::push_found;
-use mv_alone::env::copied_turns;
-use mv_alone::expr::{holds, value};
-use mv_alone::line::line_of_exprs;
-use mv_alone::state::Env;
 use mv_catalog::resolved::RExpr;
+use mv_eval::env::copied_turns;
+use mv_eval::expr::{holds, value};
+use mv_eval::line::line_of_exprs;
+use mv_eval::state::Env;
 use mv_log::log::Log;
 use mv_record::record::Slot;
 use mv_values::calls::End;

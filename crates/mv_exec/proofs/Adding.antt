@@ -13,8 +13,8 @@ use Rattle.mv_values.specs.Tables.{Tables}
 use Rattle.mv_catalog.specs.declared.resolved.ProcInfo.{ProcInfo}
 use Rattle.mv_catalog.specs.declared.resolved.RStmt.{RStmt, out-RStmt, roll-RStmt, roll-out-RStmt}
 use Rattle.mv_catalog.specs.declared.resolved.RStmt.TheOpen.{RStmt-F}
-use Rattle.mv_alone.specs.declared.state.Env.{Env}
-use Rattle.mv_alone.specs.declared.state.State.{State}
+use Rattle.mv_eval.specs.declared.state.Env.{Env}
+use Rattle.mv_eval.specs.declared.state.State.{State}
 use Rattle.mv_record.specs.declared.record.Record.{Record}
 use Rattle.mv_record.specs.Runs.{lines_in, writes_in}
 use Rattle.mv_record.specs.Writes.{AreRising}
@@ -25,17 +25,17 @@ use Rattle.mv_recorded.specs.Recorded.{Site, own_record, outside, within_loop}
 use Rattle.mv_recorded.specs.Effect.{with_slots, behind, EndsOnly, TellsEffect, HasColumns}
 use Rattle.mv_recorded.specs.Own.{rows_of}
 use Rattle.mv_recorded.proofs.Effects.{effect_known}
-use Rattle.mv_exec.specs.declared.places.Holder.{Holder}
-use Rattle.mv_exec.specs.declared.places.Holder.TheVariants as by
+use Rattle.mv_exec.specs.declared.frames.Holder.{Holder}
+use Rattle.mv_exec.specs.declared.frames.Holder.TheVariants as by
 use Rattle.mv_effect.specs.Choosing.{Chooses}
-use Rattle.mv_exec.specs.declared.places.Place.{Place}
+use Rattle.mv_exec.specs.declared.frames.Frame.{Frame}
 use Rattle.mv_exec.specs.declared.task.Task.{Task}
 use Rattle.mv_exec.specs.Left.{Job, run, left, inside}
-use Rattle.mv_exec.specs.Places.{block_of, statement_before, holder_of, site_in, site_of, some_run, some_turns, turns_of, jobs_here, jobs_of, jobs_left, HoldsPlace}
-use Rattle.mv_exec.specs.Moves.{inner_places, after_empty_loop, place_after}
-use Rattle.mv_exec.specs.Tasks.{places_of, state_of, left_of, IsTask, IsHeldBefore, AreHeldBefore}
+use Rattle.mv_exec.specs.Frames.{block_of, statement_before, holder_of, site_in, site_of, some_run, some_turns, turns_of, jobs_here, jobs_of, jobs_left, HoldsFrame}
+use Rattle.mv_exec.specs.Moves.{inner_frames, after_empty_loop, frame_after}
+use Rattle.mv_exec.specs.Tasks.{frames_of, state_of, left_of, IsTask, IsHeldBefore, AreHeldBefore}
 use Rattle.mv_exec.proofs.Leaving.{statement_first}
-use Rattle.mv_exec.proofs.Placing.{jobs_more, holding_more, site_more}
+use Rattle.mv_exec.proofs.Framing.{jobs_more, holding_more, site_more}
 use Rattle.mv_exec.proofs.Going.{same_all_behind, same_run}
 use Rattle.mv_exec.proofs.Turning.{FirstOf, first_of, held_last, held_outer}
 use Rattle.mv_exec.proofs.Inside.{inner_jobs, inside_left, inner_left}
@@ -59,7 +59,7 @@ same_turns_of rs r site block first (by.Branch number b) lt = refl
 same_turns_of rs r site block first (by.Loop number x k) lt =
     ap (λ o. some_turns (within_loop x number site) first x block (drop k (rows_of o)) (k + 1)) (get_front rs r number lt)
 
-same_jobs : (proc : ProcInfo) (rs : List Record) (r : Record) (s : Option RStmt) (site : Site) (ps : List Place) → AreHeldBefore (length rs) ps
+same_jobs : (proc : ProcInfo) (rs : List Record) (r : Record) (s : Option RStmt) (site : Site) (ps : List Frame) → AreHeldBefore (length rs) ps
     → jobs_of proc (rs ++ r ∷ []) s site ps ≡ jobs_of proc rs s site ps
 same_jobs proc rs r s site [] h = refl
 same_jobs proc rs r s site (p ∷ ps) h =
@@ -108,7 +108,7 @@ from_first xs n x h =
     f.rest ∙ ap (λ (y : _). y ∷ drop (n + 1) xs) (some_is f.it x (slice_get xs n) f.there h)
 
 -- what a task will leave: the next statement's own record, and what comes behind it
-pub left_next : (proc : ProcInfo) (tables : List TableInfo) (task : Task) (db : Tables) (outer : List Place) (p : Place) (s : RStmt) → HoldsPlace proc (places_of task) outer p s
+pub left_next : (proc : ProcInfo) (tables : List TableInfo) (task : Task) (db : Tables) (outer : List Frame) (p : Frame) (s : RStmt) → HoldsFrame proc (frames_of task) outer p s
     → let site : Site = site_of outside outer in
     let st : State = state_of task db in
     let own : Record = own_record tables task.parameters (out-RStmt s) p.number (site_in p.holder site) task.log.records st in
@@ -129,27 +129,27 @@ left_next proc tables task db outer p s at =
 
 -- Where a record has been added
 
--- the statement that the innermost place has passed
-pub held_statement : (proc : ProcInfo) (ps outer : List Place) (p : Place) (s : RStmt) (m : ℕ) → HoldsPlace proc ps outer p s → holder_of proc None (outer ++ place_after m p ∷ []) ≡ Some s
+-- the statement that the innermost frame has passed
+pub held_statement : (proc : ProcInfo) (ps outer : List Frame) (p : Frame) (s : RStmt) (m : ℕ) → HoldsFrame proc ps outer p s → holder_of proc None (outer ++ frame_after m p ∷ []) ≡ Some s
 held_statement proc ps outer p s m at =
-    holding_more proc None outer (place_after m p)
+    holding_more proc None outer (frame_after m p)
     ∙ (ap (slice_get (block_of proc (holder_of proc None outer) p)) (let e : p.at + 1 - 1 ≡ p.at = omega arith in e) ∙ at.stands)
 
-new_jobs : (proc : ProcInfo) (task : Task) (r : Record) (outer : List Place) (p : Place) (s : RStmt) (b : Bool) → IsTask proc task → HoldsPlace proc (places_of task) outer p s
+new_jobs : (proc : ProcInfo) (task : Task) (r : Record) (outer : List Frame) (p : Frame) (s : RStmt) (b : Bool) → IsTask proc task → HoldsFrame proc (frames_of task) outer p s
     → let site : Site = site_of outside outer in
     let block : List RStmt = block_of proc (holder_of proc None outer) p in
-    jobs_left proc (task.log.records ++ r ∷ []) ((outer ++ place_after (size s) p ∷ []) ++ inner_places (length task.log.records) p.number b (out-RStmt s))
+    jobs_left proc (task.log.records ++ r ∷ []) ((outer ++ frame_after (size s) p ∷ []) ++ inner_frames (length task.log.records) p.number b (out-RStmt s))
     ≡ inner_jobs (length task.log.records) p.number b (site_in p.holder site) r.rows (out-RStmt s)
     ++ (some_run (site_in p.holder site) (p.number + size s) (drop (p.at + 1) block) ++ (turns_of task.log.records site block p.first p.holder ++ jobs_left proc task.log.records outer))
 new_jobs proc task r outer p s b t at =
     let rs : List Record = task.log.records ++ r ∷ [] in
     let number : ℕ = length task.log.records in
-    let q : Place = place_after (size s) p in
+    let q : Frame = frame_after (size s) p in
     let site : Site = site_of outside outer in
     let block : List RStmt = block_of proc (holder_of proc None outer) p in
     let runs : List Job = some_run (site_in p.holder site) (p.number + size s) (drop (p.at + 1) block) in
     let holders : AreHeldBefore number (outer ++ p ∷ []) = subst (AreHeldBefore number) at.are t.holders in
-    inner_left proc rs (outer ++ q ∷ []) s (out-RStmt s) number p.number b (held_statement proc (places_of task) outer p s (size s) at) refl
+    inner_left proc rs (outer ++ q ∷ []) s (out-RStmt s) number p.number b (held_statement proc (frames_of task) outer p s (size s) at) refl
     ∙ (ap (λ o. inner_jobs number p.number b (site_of outside (outer ++ q ∷ [])) (rows_of o) (out-RStmt s) ++ jobs_left proc rs (outer ++ q ∷ [])) (get_last task.log.records r)
     ∙ (ap (λ i. inner_jobs number p.number b i r.rows (out-RStmt s) ++ jobs_left proc rs (outer ++ q ∷ [])) (site_more outside outer q)
     ∙ ap (λ js. inner_jobs number p.number b (site_in p.holder site) r.rows (out-RStmt s) ++ js)
@@ -159,17 +159,17 @@ new_jobs proc task r outer p s b t at =
     ∙ append_assoc runs (turns_of task.log.records site block p.first p.holder) (jobs_left proc task.log.records outer))))))
 
 -- what is left behind a record that doesn't end the call
-abbrev Goes : ProcInfo → List TableInfo → Task → Tables → Record → List Record → List Place → Place → RStmt → Bool → Type 0
+abbrev Goes : ProcInfo → List TableInfo → Task → Tables → Record → List Record → List Frame → Frame → RStmt → Bool → Type 0
 Goes proc tables task db r tail outer p s b =
-    left tables task.parameters (jobs_left proc (task.log.records ++ r ∷ []) ((outer ++ place_after (size s) p ∷ []) ++ inner_places (length task.log.records) p.number b (out-RStmt s)))
+    left tables task.parameters (jobs_left proc (task.log.records ++ r ∷ []) ((outer ++ frame_after (size s) p ∷ []) ++ inner_frames (length task.log.records) p.number b (out-RStmt s)))
     (task.log.records ++ r ∷ []) (state_with (task.log.records ++ r ∷ []) (after_empty_loop (out-RStmt s) r.rows (with_slots r.sets task.variables.env)) db) ≡ tail
 
 -- two lists with one first record
 pub first_same : (r q : Record) (rs qs : List Record) → r ∷ rs ≡ q ∷ qs → (r ≡ q) × (rs ≡ qs)
 first_same r q rs qs h = (cc, cc)
 
-own_goes : (proc : ProcInfo) (tables : List TableInfo) (task : Task) (db : Tables) (tail : List Record) (outer : List Place) (p : Place) (s : RStmt) (b : Bool) (next : State)
-    → IsTask proc task → HoldsPlace proc (places_of task) outer p s → Chooses task.variables.env b (out-RStmt s)
+own_goes : (proc : ProcInfo) (tables : List TableInfo) (task : Task) (db : Tables) (tail : List Record) (outer : List Frame) (p : Frame) (s : RStmt) (b : Bool) (next : State)
+    → IsTask proc task → HoldsFrame proc (frames_of task) outer p s → Chooses task.variables.env b (out-RStmt s)
     → let site : Site = site_in p.holder (site_of outside outer) in
     let st : State = state_of task db in
     let own : Record = own_record tables task.parameters (out-RStmt s) p.number site task.log.records st in
@@ -200,8 +200,8 @@ own_goes proc tables task db tail outer p s b next t at chosen ok is tails =
     ∙ (sym (ap (λ out. on out (left tables params (inside tables number y p.number site st ++ run site (p.number + size s) rest ∷ more) rs)) ok) ∙ tails)))))
 
 -- a record that is the next one leads to where the rest is left
-pub goes_on : (proc : ProcInfo) (tables : List TableInfo) (task : Task) (db : Tables) (r : Record) (tail : List Record) (outer : List Place) (p : Place) (s : RStmt) (b : Bool)
-    → IsTask proc task → HoldsPlace proc (places_of task) outer p s → Chooses task.variables.env b (out-RStmt s) → HasColumns (out-RStmt s) → AreRising db
+pub goes_on : (proc : ProcInfo) (tables : List TableInfo) (task : Task) (db : Tables) (r : Record) (tail : List Record) (outer : List Frame) (p : Frame) (s : RStmt) (b : Bool)
+    → IsTask proc task → HoldsFrame proc (frames_of task) outer p s → Chooses task.variables.env b (out-RStmt s) → HasColumns (out-RStmt s) → AreRising db
     → left_of proc tables task db ≡ r ∷ tail → r.end ≡ None → Goes proc tables task db r tail outer p s b
 goes_on proc tables task db r tail outer p s b t at chosen has rise leaves ends = by (itself tables y st) refl
   where
@@ -238,8 +238,8 @@ goes_on proc tables task db r tail outer p s b t at chosen has rise leaves ends 
         cc
 
 -- behind a record that ends the call nothing is left
-pub ends_all : (proc : ProcInfo) (tables : List TableInfo) (task : Task) (db : Tables) (r : Record) (tail : List Record) (outer : List Place) (p : Place) (s : RStmt) (e : End)
-    → HoldsPlace proc (places_of task) outer p s → left_of proc tables task db ≡ r ∷ tail → r.end ≡ Some e → tail ≡ []
+pub ends_all : (proc : ProcInfo) (tables : List TableInfo) (task : Task) (db : Tables) (r : Record) (tail : List Record) (outer : List Frame) (p : Frame) (s : RStmt) (e : End)
+    → HoldsFrame proc (frames_of task) outer p s → left_of proc tables task db ≡ r ∷ tail → r.end ≡ Some e → tail ≡ []
 ends_all proc tables task db r tail outer p s e at leaves ends = by (itself tables (out-RStmt s) (state_of task db)) (ap (λ (q : Record). q.end) both.0 ∙ ends) both.1
   where
     site : Site

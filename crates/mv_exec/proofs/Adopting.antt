@@ -7,15 +7,15 @@ use Rattle.mv_record.specs.declared.record.Record.{Record}
 use Rattle.mv_record.specs.Runs.{writes_in}
 use Rattle.mv_exec.specs.declared.task.Task.{Task}
 use Rattle.mv_exec.specs.Tasks.{left_of, IsTask, StandsAsBefore}
-use Rattle.mv_exec.specs.Ahead.{ForeseesLeft}
+use Rattle.mv_exec.specs.Ahead.{PeeksLeft}
 use Rattle.mv_exec.specs.Steps.{HasAddedRecord}
 use Rattle.mv_exec.proofs.Stepping.{some_left}
 
 -- something is ahead of a call that hasn't ended
-pub some_ahead : (proc : ProcInfo) (task : Task) → IsTask proc task → task.ended ≡ false → ForeseesLeft proc task None → ⊥
+pub some_ahead : (proc : ProcInfo) (task : Task) → IsTask proc task → task.ended ≡ false → PeeksLeft proc task None → ⊥
 some_ahead proc task t live none = some_left proc task t live [] [] (none [] [])
 
-pub none_ended : (proc : ProcInfo) (task : Task) → task.ended ≡ true → ForeseesLeft proc task None
+pub none_ended : (proc : ProcInfo) (task : Task) → task.ended ≡ true → PeeksLeft proc task None
 none_ended proc task e tables db = subst (λ b. left_of proc tables (record task { ended = b }) db ≡ []) (sym e) refl
 
 -- a call that stands as before one that hasn't ended hasn't either

@@ -6,43 +6,43 @@ use Rattle.mv_values.specs.declared.schema.TableInfo.{TableInfo}
 use Rattle.mv_values.specs.Tables.{Tables}
 use Rattle.mv_catalog.specs.declared.resolved.ProcInfo.{ProcInfo}
 use Rattle.mv_catalog.specs.declared.resolved.RStmt.{RStmt}
-use Rattle.mv_alone.specs.declared.state.Env.{Env}
-use Rattle.mv_alone.specs.TableAfter.{entered, begun}
+use Rattle.mv_eval.specs.declared.state.Env.{Env}
+use Rattle.mv_eval.specs.TableAfter.{entered, begun}
 use Rattle.mv_recorded.specs.Recorded.{outside, recorded}
 use Rattle.mv_log.specs.Logged.{Logged, empty as no_records}
 use Rattle.mv_undo.specs.declared.owned.Owned.{Owned}
 use Rattle.mv_undo.specs.Owning.{before}
 use Rattle.mv_graph.proofs.Texts.{whole_text}
-use Rattle.mv_exec.specs.declared.places.Place.{Place}
+use Rattle.mv_exec.specs.declared.frames.Frame.{Frame}
 use Rattle.mv_exec.specs.declared.task.Task.{Task}
 use Rattle.mv_exec.specs.Left.{left}
 use Rattle.mv_exec.specs.Env.{CallVariables, at_beginning}
-use Rattle.mv_exec.specs.Places.{block_of, holder_of, some_run, jobs_left, is_left, AreFilled, AreNumbered, EndsLeft}
-use Rattle.mv_exec.specs.Tasks.{standing, first_place, none_in, run_of, IsTask, AreHeldBefore, BeginsCall, fresh_task}
+use Rattle.mv_exec.specs.Frames.{block_of, holder_of, some_run, jobs_left, is_left, AreFilled, AreNumbered, EndsLeft}
+use Rattle.mv_exec.specs.Tasks.{standing, first_frame, none_in, run_of, IsTask, AreHeldBefore, BeginsCall, fresh_task}
 use Rattle.mv_exec.proofs.Leaving.{all_left}
 use Rattle.mv_exec.proofs.Going.{same_run}
-use Rattle.mv_exec.proofs.Placing.{no_last, same_last}
+use Rattle.mv_exec.proofs.Framing.{no_last, same_last}
 
-filled : (proc : ProcInfo) (body : List RStmt) → proc.body ≡ body → AreFilled proc None (standing (none_in body) (first_place ∷ []))
+filled : (proc : ProcInfo) (body : List RStmt) → proc.body ≡ body → AreFilled proc None (standing (none_in body) (first_frame ∷ []))
 filled proc [] e = tt
 filled proc (s ∷ ss) e = (subst (λ (ss : List RStmt). 0 < length ss) (sym e) (omega arith), tt)
 
-numbered : (proc : ProcInfo) (body : List RStmt) → AreNumbered proc None (standing (none_in body) (first_place ∷ []))
+numbered : (proc : ProcInfo) (body : List RStmt) → AreNumbered proc None (standing (none_in body) (first_frame ∷ []))
 numbered proc [] = tt
 numbered proc (s ∷ ss) = ((whole_text proc, refl), tt)
 
-ends : (proc : ProcInfo) (body : List RStmt) → proc.body ≡ body → EndsLeft proc [] (standing (none_in body) (first_place ∷ []))
+ends : (proc : ProcInfo) (body : List RStmt) → proc.body ≡ body → EndsLeft proc [] (standing (none_in body) (first_frame ∷ []))
 ends proc [] e outer p h = absurd (no_last outer p (sym h))
 ends proc (s ∷ ss) e outer p h =
-    let k : ([] ≡ outer) × (first_place ≡ p) = same_last [] outer first_place p h in
+    let k : ([] ≡ outer) × (first_frame ≡ p) = same_last [] outer first_frame p h in
     subst (λ q. is_left [] (block_of proc (holder_of proc None outer) q) q ≡ true) k.1
-    (ap (λ (bl : List RStmt). is_left [] bl first_place) e ∙ ap (λ b. b || false) (lt-ltb 0 (length (s ∷ ss)) (omega arith)))
+    (ap (λ (bl : List RStmt). is_left [] bl first_frame) e ∙ ap (λ b. b || false) (lt-ltb 0 (length (s ∷ ss)) (omega arith)))
 
-holders : (b : Bool) → AreHeldBefore 0 (standing b (first_place ∷ []))
+holders : (b : Bool) → AreHeldBefore 0 (standing b (first_frame ∷ []))
 holders true = tt
 holders false = (tt, tt)
 
-jobs : (proc : ProcInfo) (body : List RStmt) → proc.body ≡ body → jobs_left proc [] (standing (none_in body) (first_place ∷ [])) ≡ some_run outside 1 proc.body ++ []
+jobs : (proc : ProcInfo) (body : List RStmt) → proc.body ≡ body → jobs_left proc [] (standing (none_in body) (first_frame ∷ [])) ≡ some_run outside 1 proc.body ++ []
 jobs proc [] e = ap (λ ss. some_run outside 1 ss ++ []) (sym e)
 jobs proc (s ∷ ss) e = refl
 
@@ -77,16 +77,16 @@ pub none_before : (all : List Owned) → before 0 all ≡ []
 none_before [] = refl
 none_before (o ∷ all) = ap (λ b. if b then o ∷ before 0 all else before 0 all) (le-ltb o.number 0 (omega arith)) ∙ none_before all
 
-pub only_first : (ps : List Place) → 0 < length ps → slice_set (take 1 ps) 0 first_place ≡ first_place ∷ []
+pub only_first : (ps : List Frame) → 0 < length ps → slice_set (take 1 ps) 0 first_frame ≡ first_frame ∷ []
 only_first [] lt = absurd (omega (arith, lt))
 only_first (p ∷ ps) lt = refl
 
 -- a task whose parts are those of a call that has done nothing
-pub all_fresh : (params : ℕ) (variables : CallVariables) (env : Env) (log : Logged) (undo : List Owned) (definers : List (Option ℕ)) (places : List Place) (empty : Bool)
-    → variables ≡ at_beginning env → undo ≡ [] → definers ≡ [] → places ≡ first_place ∷ []
-    → (let t : Task = record { parameters = params; variables = variables; log = log; executed = 0; undo = undo; definers = definers; places = places; ended = empty; empty = empty } in t)
+pub all_fresh : (params : ℕ) (variables : CallVariables) (env : Env) (log : Logged) (undo : List Owned) (definers : List (Option ℕ)) (frames : List Frame) (empty : Bool)
+    → variables ≡ at_beginning env → undo ≡ [] → definers ≡ [] → frames ≡ first_frame ∷ []
+    → (let t : Task = record { parameters = params; variables = variables; log = log; executed = 0; undo = undo; definers = definers; frames = frames; ended = empty; empty = empty } in t)
     ≡ fresh_task params env log empty
-all_fresh params variables env log undo definers places empty v u d p = cc
+all_fresh params variables env log undo definers frames empty v u d p = cc
 
 -- the same of a task that is such a one
 pub new_task : (proc : ProcInfo) (task : Task) (params : ℕ) (env : Env) (empty : Bool) → task ≡ fresh_task params env no_records empty → empty ≡ none_in proc.body → IsTask proc task

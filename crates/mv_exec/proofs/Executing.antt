@@ -7,8 +7,8 @@ use Rattle.mv_values.specs.Tables.{Tables}
 use Rattle.mv_catalog.specs.declared.resolved.ProcInfo.{ProcInfo}
 use Rattle.mv_catalog.specs.declared.resolved.RStmt.{RStmt, out-RStmt}
 use Rattle.mv_catalog.specs.Statements.{size}
-use Rattle.mv_alone.specs.declared.state.Env.{Env}
-use Rattle.mv_alone.specs.declared.state.State.{State}
+use Rattle.mv_eval.specs.declared.state.Env.{Env}
+use Rattle.mv_eval.specs.declared.state.State.{State}
 use Rattle.mv_record.specs.declared.record.Record.{Record}
 use Rattle.mv_record.specs.Runs.{writes_in}
 use Rattle.mv_record.specs.Writes.{AreRising}
@@ -26,18 +26,18 @@ use Rattle.mv_effect.specs.Looking.{AskedBy, AskedFor}
 use Rattle.mv_graph.specs.declared.graph.Graph.{Graph}
 use Rattle.mv_graph.specs.declared.graph.Step.{Step}
 use Rattle.mv_graph.specs.Steps.{TellsOf}
-use Rattle.mv_exec.specs.declared.places.Place.{Place}
-use Rattle.mv_exec.specs.Foreseen.{Ahead}
+use Rattle.mv_exec.specs.declared.frames.Frame.{Frame}
+use Rattle.mv_exec.specs.Peeked.{Ahead}
 use Rattle.mv_exec.specs.declared.task.Task.{Task}
 use Rattle.mv_exec.specs.Left.{run, left, inside}
-use Rattle.mv_exec.specs.Places.{block_of, holder_of, site_in, site_of, turns_of, jobs_left, HoldsPlace}
-use Rattle.mv_exec.specs.Tasks.{places_of, state_of, left_of, IsTask}
+use Rattle.mv_exec.specs.Frames.{block_of, holder_of, site_in, site_of, turns_of, jobs_left, HoldsFrame}
+use Rattle.mv_exec.specs.Tasks.{frames_of, state_of, left_of, IsTask}
 use Rattle.mv_exec.specs.declared.recording.OpenStatement.{OpenStatement}
 use Rattle.mv_exec.specs.declared.recording.Origin.TheVariants.{Executed}
-use Rattle.mv_exec.specs.Ahead.{ForeseesLeft, ahead_in}
-use Rattle.mv_exec.specs.Recording.{IsRecordOf, foreseen}
+use Rattle.mv_exec.specs.Ahead.{PeeksLeft, ahead_in}
+use Rattle.mv_exec.specs.Recording.{IsRecordOf, peeked}
 use Rattle.mv_exec.specs.Steps.{HasAddedRecord, HasExecuted, with_log}
-use Rattle.mv_exec.specs.Running.{Foresees, first_preds, preds_ahead}
+use Rattle.mv_exec.specs.Running.{Peeks, first_preds, preds_ahead}
 use Rattle.mv_exec.proofs.Adding.{left_next}
 use Rattle.mv_exec.proofs.Adopting.{added_before}
 use Rattle.mv_exec.proofs.Held.{asked_told}
@@ -56,8 +56,8 @@ pub record LeavesNext (proc : ProcInfo) (tables : List TableInfo) (task : Task) 
   pub left : left_of proc tables task db ≡ r ∷ tail
 
 -- the record of the next statement's effect is the next one
-effect_next : (proc : ProcInfo) (tables : List TableInfo) (task : Task) (db : Tables) (outer : List Place) (p : Place) (s : RStmt) (ahead : Ahead) (e : Effect)
-    → IsTask proc task → HoldsPlace proc (places_of task) outer p s → ForeseesLeft proc task (Some ahead)
+effect_next : (proc : ProcInfo) (tables : List TableInfo) (task : Task) (db : Tables) (outer : List Frame) (p : Frame) (s : RStmt) (ahead : Ahead) (e : Effect)
+    → IsTask proc task → HoldsFrame proc (frames_of task) outer p s → PeeksLeft proc task (Some ahead)
     → IsEffect tables (out-RStmt s) task.variables.env (applied (earlier (length task.log.records) task.undo) db) e → LeavesNext proc tables task db (record_of ahead.spot ahead.parent ahead.reads e)
 effect_next proc tables task db outer p s ahead e t at next effect =
     let st : State = state_of task db in
@@ -67,9 +67,9 @@ effect_next proc tables task db outer p s ahead e t at next effect =
     (inside tables (length task.log.records) (out-RStmt s) p.number site st ++ run site (p.number + size s) (drop (p.at + 1) (block_of proc (holder_of proc None outer) p))
     ∷ (turns_of task.log.records (site_of outside outer) (block_of proc (holder_of proc None outer) p) p.first p.holder ++ jobs_left proc task.log.records outer)) (task.log.records ++ own ∷ [])) in
     let leaves : left_of proc tables task db ≡ own ∷ rest = left_next proc tables task db outer p s at in
-    let foreseen : Foresees (Some ahead) (own ∷ rest) = subst (Foresees (Some ahead)) leaves (next tables db) in
+    let peeked : Peeks (Some ahead) (own ∷ rest) = subst (Peeks (Some ahead)) leaves (next tables db) in
     let is : e ≡ effect_of tables (out-RStmt s) st = subst (λ ws. IsEffect tables (out-RStmt s) task.variables.env (applied ws db) e) (own_writes proc task t) effect st.lines in
-    let same : own ≡ record_of ahead.spot ahead.parent ahead.reads e = ap (λ (a : Ahead). record_of a.spot a.parent a.reads (effect_of tables (out-RStmt s) st)) (same_ahead (ahead_in own) ahead foreseen.0 foreseen.1 foreseen.2) ∙ ap (record_of ahead.spot ahead.parent ahead.reads) (sym is) in
+    let same : own ≡ record_of ahead.spot ahead.parent ahead.reads e = ap (λ (a : Ahead). record_of a.spot a.parent a.reads (effect_of tables (out-RStmt s) st)) (same_ahead (ahead_in own) ahead peeked.0 peeked.1 peeked.2) ∙ ap (record_of ahead.spot ahead.parent ahead.reads) (sym is) in
     record {
       tail = rest;
       left = leaves ∙ ap (λ r. r ∷ rest) same;
@@ -81,9 +81,9 @@ effect_next proc tables task db outer p s ahead e t at next effect =
 abbrev pub record_in : Logged → OpenStatement → Record
 record_in log at = record_of (record { statement = at.statement; turns = log.turns }) at.parent log.reads log.effect
 
--- it has what was foreseen before the effect
-pub as_foreseen : (log new : Logged) (at : OpenStatement) → new ≡ record log { effect = new.effect } → (let a : Ahead = foreseen log at in record_in new at ≡ record_of a.spot a.parent a.reads new.effect)
-as_foreseen log new at is = ap (λ (l : Logged). record_of (record { statement = at.statement; turns = l.turns }) at.parent l.reads new.effect) is
+-- it has what was peeked before the effect
+pub as_peeked : (log new : Logged) (at : OpenStatement) → new ≡ record log { effect = new.effect } → (let a : Ahead = peeked log at in record_in new at ≡ record_of a.spot a.parent a.reads new.effect)
+as_peeked log new at is = ap (λ (l : Logged). record_of (record { statement = at.statement; turns = l.turns }) at.parent l.reads new.effect) is
 
 -- it was added to the call before the effect
 pub added_effect : (proc : ProcInfo) (old : Task) (log : Logged) (at : OpenStatement) (new : Task) → log ≡ record old.log { effect = log.effect }
@@ -94,7 +94,7 @@ added_effect proc old log at new is added =
 -- What the view was asked
 
 -- it was asked for the predicates of the next record
-asked_next : (proc : ProcInfo) (tables : List TableInfo) (task : Task) (before after : Sight) (outer : List Place) (p : Place) (s : RStmt) → IsTask proc task → HoldsPlace proc (places_of task) outer p s
+asked_next : (proc : ProcInfo) (tables : List TableInfo) (task : Task) (before after : Sight) (outer : List Frame) (p : Frame) (s : RStmt) → IsTask proc task → HoldsFrame proc (frames_of task) outer p s
     → AskedBy tables (out-RStmt s) task.variables.env (earlier (length task.log.records) task.undo) before after → AskedFor (first_preds (left_of proc tables task before.database)) (writes_in task.log.records) before after
 asked_next proc tables task before after outer p s t at asked =
     let st : State = state_of task before.database in
@@ -102,7 +102,7 @@ asked_next proc tables task before after outer p s t at asked =
     (subst (λ ws. AskedFor (preds_of tables (out-RStmt s) (record { env = task.variables.env; tables = applied ws before.database; lines = st.lines })) ws before after) (own_writes proc task t) (asked st.lines))
 
 -- the same by the step of the open statement
-pub asked_ahead : (g : Graph) (task : Task) (before after : Sight) (outer : List Place) (p : Place) (s : RStmt) (step : Step) (tables : List TableInfo) (env : Env) (n : ℕ) → IsTask g.procedure task → HoldsPlace g.procedure (places_of task) outer p s
+pub asked_ahead : (g : Graph) (task : Task) (before after : Sight) (outer : List Frame) (p : Frame) (s : RStmt) (step : Step) (tables : List TableInfo) (env : Env) (n : ℕ) → IsTask g.procedure task → HoldsFrame g.procedure (frames_of task) outer p s
     → TellsOf g.procedure s step → tables ≡ g.tables → env ≡ task.variables.env → n ≡ length task.log.records → AskedBy tables (out-RStmt step.statement) env (earlier n task.undo) before after
     → AskedFor (preds_ahead g before.database task) (writes_in task.log.records) before after
 asked_ahead g task before after outer p s step tables env n t at tells same_tables same_env same_number asked =
@@ -126,8 +126,8 @@ recounted : (proc : ProcInfo) (old : Task) (r : Record) (new : Task) (n : ℕ) �
 recounted proc old r new n h = record { parameters = h.parameters; records = h.records; beginning = h.beginning; left = h.left; keys = h.keys }
 
 -- the next record of the run was added
-pub executed_next : (proc : ProcInfo) (tables : List TableInfo) (old new : Task) (before after : Sight) (n : ℕ) (outer : List Place) (p : Place) (s : RStmt) (ahead : Ahead) (e : Effect) (r : Record)
-    → IsTask proc old → HoldsPlace proc (places_of old) outer p s → HasColumns (out-RStmt s) → AreRising before.database → ForeseesLeft proc old (Some ahead)
+pub executed_next : (proc : ProcInfo) (tables : List TableInfo) (old new : Task) (before after : Sight) (n : ℕ) (outer : List Frame) (p : Frame) (s : RStmt) (ahead : Ahead) (e : Effect) (r : Record)
+    → IsTask proc old → HoldsFrame proc (frames_of old) outer p s → HasColumns (out-RStmt s) → AreRising before.database → PeeksLeft proc old (Some ahead)
     → IsEffect tables (out-RStmt s) old.variables.env (applied (earlier (length old.log.records) old.undo) before.database) e
     → AskedFor (first_preds (left_of proc tables old before.database)) (writes_in old.log.records) before after
     → r ≡ record_of ahead.spot ahead.parent ahead.reads e → HasAddedRecord proc old r new → HasExecuted tables proc old (record new { executed = n }) before after

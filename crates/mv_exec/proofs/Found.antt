@@ -3,9 +3,9 @@ use Rattle.std.proofs.Common.{◌≡◌, ℕ, List, [], ◌∷◌, refl, ◌∙�
 use Rattle.mv_values.specs.declared.value.Value.{Value}
 use Rattle.mv_catalog.specs.declared.resolved.RStmt.{RStmt}
 use Rattle.mv_catalog.specs.declared.resolved.RStmt.TheOpen.{RStmt-F, ForSelect, ForRows}
-use Rattle.mv_alone.specs.declared.state.Env.{Env}
-use Rattle.mv_alone.specs.declared.state.Content.TheVariants.{Turn}
-use Rattle.mv_alone.specs.Env.{with_held}
+use Rattle.mv_eval.specs.declared.state.Env.{Env}
+use Rattle.mv_eval.specs.declared.state.Content.TheVariants.{Turn}
+use Rattle.mv_eval.specs.Env.{with_held}
 use Rattle.mv_record.specs.declared.record.Slot.{Slot}
 use Rattle.mv_recorded.specs.Effect.{with_slots}
 use Rattle.mv_recorded.proofs.Held.{slots_found}

@@ -5,8 +5,8 @@ use Rattle.mv_values.specs.declared.schema.TableInfo.{TableInfo}
 use Rattle.mv_values.specs.Patching.{applied}
 use Rattle.mv_values.specs.Tables.{KeysStand, Tables}
 use Rattle.mv_catalog.specs.declared.resolved.ProcInfo.{ProcInfo}
-use Rattle.mv_alone.specs.declared.state.Env.{Env}
-use Rattle.mv_alone.specs.TableAfter.{entered}
+use Rattle.mv_eval.specs.declared.state.Env.{Env}
+use Rattle.mv_eval.specs.TableAfter.{entered}
 use Rattle.mv_record.specs.declared.record.Record.{Record}
 use Rattle.mv_record.specs.Runs.{writes_in}
 use Rattle.mv_record.specs.Writes.{AreRising}
@@ -16,11 +16,11 @@ use Rattle.mv_view.specs.Viewing.{Sight}
 use Rattle.mv_effect.specs.Looking.{AskedFor}
 use Rattle.mv_graph.specs.declared.graph.Graph.{Graph}
 use Rattle.mv_graph.specs.Nodes.{IsSound, meaning_of}
-use Rattle.mv_exec.specs.Foreseen.{Ahead}
+use Rattle.mv_exec.specs.Peeked.{Ahead}
 use Rattle.mv_exec.specs.declared.task.Task.{Task}
 use Rattle.mv_exec.specs.Tasks.{left_of, run_of, IsTask, StandsAsBefore, BeginsCall, TellsEnd, fresh_task}
-use Rattle.mv_exec.specs.Running.{HasLeft, IsTaskOf, IsTaskOn, IsRunningOn, IsSameCall, IsSameCallOn, IsUnchanged, Foresees, IsAhead, HasContent, HasAdopted, GoesOnWith, HasRun, EndsExactly, count_left, first_preds}
-use Rattle.mv_exec.specs.Ahead.{ForeseesLeft, ahead_in}
+use Rattle.mv_exec.specs.Running.{HasLeft, IsTaskOf, IsTaskOn, IsRunningOn, IsSameCall, IsSameCallOn, IsUnchanged, Peeks, IsAhead, HasContent, HasAdopted, GoesOnWith, HasRun, EndsExactly, count_left, first_preds}
+use Rattle.mv_exec.specs.Ahead.{PeeksLeft, ahead_in}
 use Rattle.mv_exec.specs.Recording.{IsAtRest}
 use Rattle.mv_exec.specs.Steps.{HasAddedNext, HasAddedRecord, HasExecuted}
 use Rattle.mv_exec.proofs.Beginning.{fresh_is_task, fresh_run}
@@ -128,17 +128,17 @@ finished g db task rise on ended call is =
 
 -- What is ahead
 
-pub foresees : (g : Graph) (task : Task) (ahead : Option Ahead) → ForeseesLeft g.procedure task ahead → IsAhead g task ahead
-foresees g task ahead h call db rest is rise leaves = subst (Foresees ahead) (is.left db rest rise leaves) (h g.tables db)
+pub peeks : (g : Graph) (task : Task) (ahead : Option Ahead) → PeeksLeft g.procedure task ahead → IsAhead g task ahead
+peeks g task ahead h call db rest is rise leaves = subst (Peeks ahead) (is.left db rest rise leaves) (h g.tables db)
 
 -- nothing is ahead exactly of a call that has ended
-pub none_ahead : (proc : ProcInfo) (task : Task) (ahead : Option Ahead) → IsTask proc task → ForeseesLeft proc task ahead → (task.ended ≡ true) ↔ (ahead ≡ None)
+pub none_ahead : (proc : ProcInfo) (task : Task) (ahead : Option Ahead) → IsTask proc task → PeeksLeft proc task ahead → (task.ended ≡ true) ↔ (ahead ≡ None)
 none_ahead proc task None t h = (λ ended. refl, λ none. by task.ended refl)
   where
     by : (b : Bool) → task.ended ≡ b → task.ended ≡ true
     by true e = e
     by false e = absurd (some_ahead proc task t e h)
-none_ahead proc task (Some ahead) t h = (λ ended. absurd (subst (Foresees (Some ahead)) (none_ended proc task ended [] []) (h [] [])), λ none. absurd (search (rules, none)))
+none_ahead proc task (Some ahead) t h = (λ ended. absurd (subst (Peeks (Some ahead)) (none_ended proc task ended [] []) (h [] [])), λ none. absurd (search (rules, none)))
 
 -- What an answer tells
 
@@ -216,7 +216,7 @@ adopted g old new given it executed = record {
   next = it.next;
   records = it.added.records;
   content = it.content;
-  place = foresees g old (Some (ahead_in it.next)) it.ahead;
+  place = peeks g old (Some (ahead_in it.next)) it.ahead;
   executed = executed;
 }
 

@@ -4,12 +4,12 @@ use Rattle.mv_values.specs.declared.value.Value.{Value}
 use Rattle.mv_values.specs.declared.calls.End.{End}
 use Rattle.mv_values.specs.declared.schema.TableInfo.{TableInfo}
 use Rattle.mv_catalog.specs.declared.resolved.RStmt.{RStmt}
-use Rattle.mv_alone.specs.declared.state.State.{State}
+use Rattle.mv_eval.specs.declared.state.State.{State}
 use Rattle.mv_record.specs.declared.record.Record.{Record}
 use Rattle.mv_recorded.specs.Asking.{on}
 use Rattle.mv_recorded.specs.Recorded.{Site}
 use Rattle.mv_exec.specs.Left.{Job, run, turns, does_job, tells_job, left}
-use Rattle.mv_exec.specs.Places.{some_run, some_turns}
+use Rattle.mv_exec.specs.Frames.{some_run, some_turns}
 use Rattle.mv_exec.proofs.Leaving.{run_ends, turns_end}
 
 -- the same is left behind all records and from all states

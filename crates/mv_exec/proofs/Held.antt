@@ -1,4 +1,4 @@
--- What a step tells of its statement: what the statement does by itself, and the place inside it.
+-- What a step tells of its statement: what the statement does by itself, and the frame inside it.
 use Rattle.std.proofs.Common.{◌≡◌, ℕ, zero, suc, ◌+◌, ◌-◌, ◌<◌, ◌≤◌, Bool, true, false, nat_lt, List, [], ◌∷◌, refl, sym, ap, subst, ◌∙◌, arith}
 use Rattle.std.proofs.lemmas.Bool.{lt-ltb, le-ltb}
 use Rattle.mv_values.specs.declared.schema.TableInfo.{TableInfo}
@@ -10,7 +10,7 @@ use Rattle.mv_catalog.specs.declared.resolved.ProcInfo.{ProcInfo}
 use Rattle.mv_catalog.specs.declared.resolved.RStmt.{RStmt, out-RStmt, out-roll-RStmt, roll-out-RStmt}
 use Rattle.mv_catalog.specs.declared.resolved.RStmt.TheFolds.{fold-roll-RStmt, map-RStmt}
 use Rattle.mv_catalog.specs.declared.resolved.RStmt.TheOpen.{RStmt-F, Assign, Select, Total, ForSelect, ForRows, Branch, Insert, Update, Delete, Print, Rollback}
-use Rattle.mv_alone.specs.declared.state.Env.{Env}
+use Rattle.mv_eval.specs.declared.state.Env.{Env}
 use Rattle.mv_record.specs.declared.effect.Effect.{Effect}
 use Rattle.mv_recorded.specs.Effects.{IsEffect}
 use Rattle.mv_view.specs.Viewing.{Sight}
@@ -22,10 +22,10 @@ use Rattle.mv_graph.specs.Steps.{own_part, skip_by, TellsOf}
 use Rattle.mv_graph.proofs.Sizes.{some_size}
 use Rattle.mv_exec.specs.declared.moves.Holds.{Holds}
 use Rattle.mv_exec.specs.declared.moves.Holds.TheVariants as holds
-use Rattle.mv_exec.specs.declared.places.Holder.TheVariants as by
-use Rattle.mv_exec.specs.declared.places.Place.{Place}
+use Rattle.mv_exec.specs.declared.frames.Holder.TheVariants as by
+use Rattle.mv_exec.specs.declared.frames.Frame.{Frame}
 use Rattle.mv_exec.specs.Holding.{holds_in, some_branch, some_loop}
-use Rattle.mv_exec.specs.Moves.{branch_place, loop_place, inner_places, after_turns, after_empty_body, after_empty_loop}
+use Rattle.mv_exec.specs.Moves.{branch_frame, loop_frame, inner_frames, after_turns, after_empty_body, after_empty_loop}
 
 -- The statement by itself
 
@@ -98,7 +98,7 @@ chooses_told proc s step env b tells h = own_chooses env b (out-RStmt s) (subst 
 pub names_told : (tables : List TableInfo) (proc : ProcInfo) (s : RStmt) (step : Step) → TellsOf proc s step → NamesColumns tables (out-RStmt s) → NamesColumns tables (out-RStmt step.statement)
 names_told tables proc s step tells h = subst (NamesColumns tables) (sym (out_own proc s step tells)) (own_names tables (out-RStmt s) h)
 
--- The place inside
+-- The frame inside
 
 own_holds : (y : RStmt-F RStmt) → holds_in (own_part y) ≡ holds_in y
 own_holds (Assign x e) = refl
@@ -120,7 +120,7 @@ size_out : (s : RStmt) → size s ≡ size_step (map-RStmt RStmt ℕ size (out-R
 size_out s = ap size (sym (roll-out-RStmt s)) ∙ fold-roll-RStmt ℕ size_step (out-RStmt s)
 
 -- nothing is inside
-nothing_by : (y : RStmt-F RStmt) (number n : ℕ) (b : Bool) → holds_in y ≡ holds.Nothing → inner_places number n b y ≡ []
+nothing_by : (y : RStmt-F RStmt) (number n : ℕ) (b : Bool) → holds_in y ≡ holds.Nothing → inner_frames number n b y ≡ []
 nothing_by (Assign x e) number n b h = refl
 nothing_by (Select cs xs t conds sorts offset) number n b h = refl
 nothing_by (Total agg x t conds) number n b h = refl
@@ -133,14 +133,14 @@ nothing_by (Delete t conds) number n b h = refl
 nothing_by (Print es) number n b h = refl
 nothing_by (Rollback reason) number n b h = refl
 
-pub nothing_inside : (proc : ProcInfo) (s : RStmt) (step : Step) (number n : ℕ) (b : Bool) → TellsOf proc s step → holds.Nothing ≡ holds_in (out-RStmt step.statement) → [] ≡ inner_places number n b (out-RStmt s)
+pub nothing_inside : (proc : ProcInfo) (s : RStmt) (step : Step) (number n : ℕ) (b : Bool) → TellsOf proc s step → holds.Nothing ≡ holds_in (out-RStmt step.statement) → [] ≡ inner_frames number n b (out-RStmt s)
 nothing_inside proc s step number n b tells is = sym (nothing_by (out-RStmt s) number n b (holds_told proc s step holds.Nothing tells is))
 
 -- a loop's turns are
-abbrev one_loop : ℕ → ℕ → ℕ → ℕ → List Place
+abbrev one_loop : ℕ → ℕ → ℕ → ℕ → List Frame
 one_loop number x first n = record { holder = by.Loop number x 0; first = first; at = n; number = first + n } ∷ []
 
-loop_by_size : (number x first : ℕ) (body : List RStmt) (n : ℕ) → n ≡ size_of body → some_loop number x first n ≡ loop_place number x first body
+loop_by_size : (number x first : ℕ) (body : List RStmt) (n : ℕ) → n ≡ size_of body → some_loop number x first n ≡ loop_frame number x first body
 loop_by_size number x first [] n e = ap (some_loop number x first) e
 loop_by_size number x first (s ∷ ss) zero e = absurd (omega (arith, e, some_size s))
 loop_by_size number x first (s ∷ ss) (suc n) e = ap (one_loop number x first) e
@@ -148,7 +148,7 @@ loop_by_size number x first (s ∷ ss) (suc n) e = ap (one_loop number x first) 
 same_row : (x y : ℕ) → holds.Body x ≡ holds.Body y → x ≡ y
 same_row x y h = cc
 
-body_by : (y : RStmt-F RStmt) (number n x whole : ℕ) (b : Bool) → holds_in y ≡ holds.Body x → whole ≡ size_step (map-RStmt RStmt ℕ size y) → some_loop number x (n + 1) (whole - 1) ≡ inner_places number n b y
+body_by : (y : RStmt-F RStmt) (number n x whole : ℕ) (b : Bool) → holds_in y ≡ holds.Body x → whole ≡ size_step (map-RStmt RStmt ℕ size y) → some_loop number x (n + 1) (whole - 1) ≡ inner_frames number n b y
 body_by (ForSelect x once cs t conds sorts body) number n z whole b h e =
     ap (λ k. some_loop number k (n + 1) (whole - 1)) (sym (same_row x z h)) ∙ loop_by_size number x (n + 1) body (whole - 1) (omega (arith, e))
 body_by (ForRows x y body) number n z whole b h e =
@@ -164,11 +164,11 @@ body_by (Print es) number n z whole b h k = cc
 body_by (Rollback reason) number n z whole b h k = cc
 
 pub body_inside : (proc : ProcInfo) (s : RStmt) (step : Step) (number n x : ℕ) (b : Bool) → TellsOf proc s step → holds.Body x ≡ holds_in (out-RStmt step.statement)
-    → some_loop number x (n + 1) (step.size - 1) ≡ inner_places number n b (out-RStmt s)
+    → some_loop number x (n + 1) (step.size - 1) ≡ inner_frames number n b (out-RStmt s)
 body_inside proc s step number n x b tells is = body_by (out-RStmt s) number n x step.size b (holds_told proc s step (holds.Body x) tells is) (tells.size ∙ size_out s)
 
 -- a branch is
-branch_by_size : (number : ℕ) (b : Bool) (first : ℕ) (block : List RStmt) (some : Bool) → some ≡ nat_lt 0 (size_of block) → some_branch number b first some ≡ branch_place (by.Branch number b) first block
+branch_by_size : (number : ℕ) (b : Bool) (first : ℕ) (block : List RStmt) (some : Bool) → some ≡ nat_lt 0 (size_of block) → some_branch number b first some ≡ branch_frame (by.Branch number b) first block
 branch_by_size number b first [] some e = ap (some_branch number b first) e
 branch_by_size number b first (s ∷ ss) some e = ap (some_branch number b first) (e ∙ lt-ltb 0 (size_of (s ∷ ss)) (omega (arith, some_size s)))
 
@@ -176,7 +176,7 @@ by_difference : (a b n : ℕ) → b ≡ a + n → nat_lt a b ≡ nat_lt 0 n
 by_difference a b zero e = le-ltb a b (omega (arith, e)) ∙ sym (le-ltb 0 0 (omega arith))
 by_difference a b (suc n) e = lt-ltb a b (omega (arith, e)) ∙ sym (lt-ltb 0 (suc n) (omega arith))
 
-yes_by : (y : RStmt-F RStmt) (number n skip : ℕ) → holds_in y ≡ holds.Branches → skip ≡ skip_by size_of y → some_branch number true (n + 1) (nat_lt 1 skip) ≡ inner_places number n true y
+yes_by : (y : RStmt-F RStmt) (number n skip : ℕ) → holds_in y ≡ holds.Branches → skip ≡ skip_by size_of y → some_branch number true (n + 1) (nat_lt 1 skip) ≡ inner_frames number n true y
 yes_by (Branch e ys ns) number n skip h k = branch_by_size number true (n + 1) ys (nat_lt 1 skip) (by_difference 1 skip (size_of ys) k)
 yes_by (Assign x e) number n skip h k = cc
 yes_by (Select cs xs t conds sorts offset) number n skip h k = cc
@@ -190,7 +190,7 @@ yes_by (Print es) number n skip h k = cc
 yes_by (Rollback reason) number n skip h k = cc
 
 no_by : (y : RStmt-F RStmt) (number n skip whole : ℕ) → holds_in y ≡ holds.Branches → skip ≡ skip_by size_of y → whole ≡ size_step (map-RStmt RStmt ℕ size y)
-    → some_branch number false (n + skip) (nat_lt skip whole) ≡ inner_places number n false y
+    → some_branch number false (n + skip) (nat_lt skip whole) ≡ inner_frames number n false y
 no_by (Branch e ys ns) number n skip whole h k w =
     ap (λ m. some_branch number false m (nat_lt skip whole)) (let at : n + skip ≡ n + 1 + size_of ys = omega (arith, k) in at)
     ∙ branch_by_size number false (n + 1 + size_of ys) ns (nat_lt skip whole) (by_difference skip whole (size_of ns) (omega (arith, k, w)))
@@ -206,11 +206,11 @@ no_by (Print es) number n skip whole h k w = cc
 no_by (Rollback reason) number n skip whole h k w = cc
 
 pub yes_inside : (proc : ProcInfo) (s : RStmt) (step : Step) (number n : ℕ) → TellsOf proc s step → holds.Branches ≡ holds_in (out-RStmt step.statement)
-    → some_branch number true (n + 1) (nat_lt 1 step.skip) ≡ inner_places number n true (out-RStmt s)
+    → some_branch number true (n + 1) (nat_lt 1 step.skip) ≡ inner_frames number n true (out-RStmt s)
 yes_inside proc s step number n tells is = yes_by (out-RStmt s) number n step.skip (holds_told proc s step holds.Branches tells is) tells.skip
 
 pub no_inside : (proc : ProcInfo) (s : RStmt) (step : Step) (number n : ℕ) → TellsOf proc s step → holds.Branches ≡ holds_in (out-RStmt step.statement)
-    → some_branch number false (n + step.skip) (nat_lt step.skip step.size) ≡ inner_places number n false (out-RStmt s)
+    → some_branch number false (n + step.skip) (nat_lt step.skip step.size) ≡ inner_frames number n false (out-RStmt s)
 no_inside proc s step number n tells is = no_by (out-RStmt s) number n step.skip step.size (holds_told proc s step holds.Branches tells is) tells.skip (tells.size ∙ size_out s)
 
 -- A loop with an empty body

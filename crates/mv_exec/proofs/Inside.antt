@@ -7,23 +7,23 @@ use Rattle.mv_values.specs.declared.schema.TableInfo.{TableInfo}
 use Rattle.mv_catalog.specs.declared.resolved.ProcInfo.{ProcInfo}
 use Rattle.mv_catalog.specs.declared.resolved.RStmt.{RStmt, out-RStmt}
 use Rattle.mv_catalog.specs.declared.resolved.RStmt.TheOpen.{RStmt-F, Assign, Select, Total, ForSelect, ForRows, Branch, Insert, Update, Delete, Print, Rollback}
-use Rattle.mv_alone.specs.declared.state.State.{State}
-use Rattle.mv_alone.specs.declared.state.Content.TheVariants.{Turn}
-use Rattle.mv_alone.specs.Outcome.{then_do}
-use Rattle.mv_alone.specs.Env.{with_held}
-use Rattle.mv_alone.specs.Value.{value_of, is_so}
+use Rattle.mv_eval.specs.declared.state.State.{State}
+use Rattle.mv_eval.specs.declared.state.Content.TheVariants.{Turn}
+use Rattle.mv_eval.specs.Results.{then_do}
+use Rattle.mv_eval.specs.Env.{with_held}
+use Rattle.mv_eval.specs.Value.{value_of, is_so}
 use Rattle.mv_record.specs.declared.record.Record.{Record}
 use Rattle.mv_recorded.specs.Asking.{on}
 use Rattle.mv_recorded.specs.Doing.{fixed_rows, itself, before_turns}
 use Rattle.mv_recorded.specs.Recorded.{Site, outside, within, within_loop, in_turn}
-use Rattle.mv_exec.specs.declared.places.Holder.TheVariants as by
+use Rattle.mv_exec.specs.declared.frames.Holder.TheVariants as by
 use Rattle.mv_effect.specs.Choosing.{Chooses}
-use Rattle.mv_exec.specs.declared.places.Place.{Place}
+use Rattle.mv_exec.specs.declared.frames.Frame.{Frame}
 use Rattle.mv_exec.specs.Left.{Job, run, turns, left, inside}
-use Rattle.mv_exec.specs.Places.{body_in, branch_in, block_in, holder_of, site_of, some_run, some_turns, loop_rows, jobs_left}
-use Rattle.mv_exec.specs.Moves.{branch_place, loop_place, inner_places, after_turns, after_empty_body, after_empty_loop}
+use Rattle.mv_exec.specs.Frames.{body_in, branch_in, block_in, holder_of, site_of, some_run, some_turns, loop_rows, jobs_left}
+use Rattle.mv_exec.specs.Moves.{branch_frame, loop_frame, inner_frames, after_turns, after_empty_body, after_empty_loop}
 use Rattle.mv_exec.proofs.Leaving.{turn_begins, run_ends, turns_end}
-use Rattle.mv_exec.proofs.Placing.{jobs_more}
+use Rattle.mv_exec.proofs.Framing.{jobs_more}
 use Rattle.mv_exec.proofs.Lists.{past_all}
 use Rattle.mv_exec.proofs.Going.{same_run, same_turns}
 
@@ -95,19 +95,19 @@ inside_left tables params (Delete t conds) number n site b js before st next to 
 inside_left tables params (Print es) number n site b js before st next to h c = refl
 inside_left tables params (Rollback reason) number n site b js before st next to h c = refl
 
--- Places inside
+-- Frames inside
 
-entered_jobs : (proc : ProcInfo) (rs : List Record) (os : List Place) (number : ℕ) (b : Bool) (first : ℕ) (block : List RStmt)
+entered_jobs : (proc : ProcInfo) (rs : List Record) (os : List Frame) (number : ℕ) (b : Bool) (first : ℕ) (block : List RStmt)
     → block_in proc (by.Branch number b) (holder_of proc None os) ≡ block
-    → jobs_left proc rs (os ++ branch_place (by.Branch number b) first block) ≡ some_run (within number (site_of outside os)) first block ++ jobs_left proc rs os
+    → jobs_left proc rs (os ++ branch_frame (by.Branch number b) first block) ≡ some_run (within number (site_of outside os)) first block ++ jobs_left proc rs os
 entered_jobs proc rs os number b first [] e = ap (jobs_left proc rs) (append-nil os)
 entered_jobs proc rs os number b first (s ∷ ss) e =
     jobs_more proc rs None outside os (record { holder = by.Branch number b; first = first; at = 0; number = first })
     ∙ ap (λ bl. (some_run (within number (site_of outside os)) first bl ++ []) ++ jobs_left proc rs os) e
 
-looped_jobs : (proc : ProcInfo) (rs : List Record) (os : List Place) (number x first : ℕ) (body : List RStmt)
+looped_jobs : (proc : ProcInfo) (rs : List Record) (os : List Frame) (number x first : ℕ) (body : List RStmt)
     → block_in proc (by.Loop number x 0) (holder_of proc None os) ≡ body
-    → jobs_left proc rs (os ++ loop_place number x first body) ≡ over (within_loop x number (site_of outside os)) first x body (loop_rows rs number) ++ jobs_left proc rs os
+    → jobs_left proc rs (os ++ loop_frame number x first body) ≡ over (within_loop x number (site_of outside os)) first x body (loop_rows rs number) ++ jobs_left proc rs os
 looped_jobs proc rs os number x first [] e = ap (jobs_left proc rs) (append-nil os)
 looped_jobs proc rs os number x first (s ∷ ss) e =
     let loop : Site = within_loop x number (site_of outside os) in
@@ -116,10 +116,10 @@ looped_jobs proc rs os number x first (s ∷ ss) e =
     ∙ (ap (λ bl. (some_run (in_turn 0 loop) (first + n) (drop n bl) ++ some_turns loop first x bl (loop_rows rs number) 1) ++ jobs_left proc rs os) e
     ∙ ap (λ bl. (some_run (in_turn 0 loop) (first + n) bl ++ some_turns loop first x (s ∷ ss) (loop_rows rs number) 1) ++ jobs_left proc rs os) (past_all (s ∷ ss)))
 
--- a place inside a statement is left what the statement holds
-pub inner_left : (proc : ProcInfo) (rs : List Record) (os : List Place) (s : RStmt) (y : RStmt-F RStmt) (number n : ℕ) (b : Bool)
+-- a frame inside a statement is left what the statement holds
+pub inner_left : (proc : ProcInfo) (rs : List Record) (os : List Frame) (s : RStmt) (y : RStmt-F RStmt) (number n : ℕ) (b : Bool)
     → holder_of proc None os ≡ Some s → out-RStmt s ≡ y
-    → jobs_left proc rs (os ++ inner_places number n b y) ≡ inner_jobs number n b (site_of outside os) (loop_rows rs number) y ++ jobs_left proc rs os
+    → jobs_left proc rs (os ++ inner_frames number n b y) ≡ inner_jobs number n b (site_of outside os) (loop_rows rs number) y ++ jobs_left proc rs os
 inner_left proc rs os s (Assign x e) number n b at is = ap (jobs_left proc rs) (append-nil os)
 inner_left proc rs os s (Select cs xs t conds sorts offset) number n b at is = ap (jobs_left proc rs) (append-nil os)
 inner_left proc rs os s (Total agg x t conds) number n b at is = ap (jobs_left proc rs) (append-nil os)

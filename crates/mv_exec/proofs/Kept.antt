@@ -8,7 +8,7 @@ use Rattle.mv_catalog.specs.Statements.{size}
 use Rattle.mv_catalog.specs.declared.resolved.ProcInfo.{ProcInfo}
 use Rattle.mv_catalog.specs.declared.resolved.RStmt.{RStmt, out-RStmt}
 use Rattle.mv_catalog.specs.declared.resolved.RStmt.TheOpen.{RStmt-F}
-use Rattle.mv_alone.specs.declared.state.State.{State}
+use Rattle.mv_eval.specs.declared.state.State.{State}
 use Rattle.mv_record.specs.declared.record.Record.{Record}
 use Rattle.mv_record.specs.Runs.{writes_in}
 use Rattle.mv_record.specs.Writes.{AreRising}
@@ -19,11 +19,11 @@ use Rattle.mv_recorded.specs.Effect.{TellsEffect, HasColumns}
 use Rattle.mv_recorded.specs.Recorded.{Site, own_record, outside}
 use Rattle.mv_recorded.proofs.Effects.{effect_known}
 use Rattle.mv_recorded.proofs.Standing.{itself_stands}
-use Rattle.mv_exec.specs.declared.places.Place.{Place}
+use Rattle.mv_exec.specs.declared.frames.Frame.{Frame}
 use Rattle.mv_exec.specs.declared.task.Task.{Task}
 use Rattle.mv_exec.specs.Left.{run, left, inside}
-use Rattle.mv_exec.specs.Places.{block_of, holder_of, site_in, site_of, turns_of, jobs_left, HoldsPlace}
-use Rattle.mv_exec.specs.Tasks.{places_of, state_of, left_of}
+use Rattle.mv_exec.specs.Frames.{block_of, holder_of, site_in, site_of, turns_of, jobs_left, HoldsFrame}
+use Rattle.mv_exec.specs.Tasks.{frames_of, state_of, left_of}
 use Rattle.mv_exec.proofs.Adding.{left_next, first_same, applied_both, writes_more}
 
 -- a record that tells the effect of its statement does
@@ -33,8 +33,8 @@ keys_told tables y r st (Ok next) is keys tells = subst (KeysStand tables) (ap (
 keys_told tables y r st (Err e) is keys tells = subst (λ ws. KeysStand tables (applied ws st.tables)) (sym tells.writes) keys
 
 -- so does the record that is left next
-pub keys_after : (proc : ProcInfo) (tables : List TableInfo) (task : Task) (db : Tables) (r : Record) (tail : List Record) (outer : List Place) (p : Place) (s : RStmt)
-    → HoldsPlace proc (places_of task) outer p s → HasColumns (out-RStmt s) → AreRising db → left_of proc tables task db ≡ r ∷ tail
+pub keys_after : (proc : ProcInfo) (tables : List TableInfo) (task : Task) (db : Tables) (r : Record) (tail : List Record) (outer : List Frame) (p : Frame) (s : RStmt)
+    → HoldsFrame proc (frames_of task) outer p s → HasColumns (out-RStmt s) → AreRising db → left_of proc tables task db ≡ r ∷ tail
     → KeysStand tables (applied (writes_in task.log.records) db) → KeysStand tables (applied (writes_in (task.log.records ++ r ∷ [])) db)
 keys_after proc tables task db r tail outer p s at has rise leaves keys =
     let st : State = state_of task db in

@@ -10,14 +10,14 @@ use Rattle.mv_values.specs.Tables.{Tables}
 use Rattle.mv_catalog.specs.declared.resolved.ProcInfo.{ProcInfo}
 use Rattle.mv_catalog.specs.declared.resolved.RStmt.{RStmt, roll-RStmt, map-RStmt}
 use Rattle.mv_catalog.specs.declared.resolved.RStmt.TheOpen.{RStmt-F, Assign, Select, Total, ForSelect, ForRows, Branch, Insert, Update, Delete, Print, Rollback}
-use Rattle.mv_alone.specs.declared.state.State.{State}
-use Rattle.mv_alone.specs.declared.state.Content.TheVariants.{Turn}
-use Rattle.mv_alone.specs.Outcome.{then_do}
-use Rattle.mv_alone.specs.Env.{with_found, with_held, turns_at}
-use Rattle.mv_alone.specs.Value.{value_of, is_so}
-use Rattle.mv_alone.specs.Rows.{tests_of}
-use Rattle.mv_alone.specs.Alone.{Does, alone, does, stmt_step, each_turn, loop_over, fixed, matching_in, is_turn}
-use Rattle.mv_alone.specs.TableAfter.{begun}
+use Rattle.mv_eval.specs.declared.state.State.{State}
+use Rattle.mv_eval.specs.declared.state.Content.TheVariants.{Turn}
+use Rattle.mv_eval.specs.Results.{then_do}
+use Rattle.mv_eval.specs.Env.{with_found, with_held, turns_at}
+use Rattle.mv_eval.specs.Value.{value_of, is_so}
+use Rattle.mv_eval.specs.Rows.{tests_of}
+use Rattle.mv_eval.specs.Alone.{Does, alone, does, stmt_step, each_turn, loop_over, fixed, matching_in, is_turn}
+use Rattle.mv_eval.specs.TableAfter.{begun}
 use Rattle.mv_record.specs.declared.record.Record.{Record}
 use Rattle.mv_recorded.specs.Asking.{on}
 use Rattle.mv_recorded.specs.Doing.{fixed_rows, itself, before_turns}

@@ -1,12 +1,12 @@
 pub mod Leaving
-pub mod Placing
+pub mod Framing
 pub mod Going
 pub mod Turning
 pub mod Inside
 pub mod Adding
 pub mod Changing
 pub mod Beginning
-pub mod Foreseeing
+pub mod Peeking
 pub mod Defining
 pub mod Trimming
 pub mod Walking

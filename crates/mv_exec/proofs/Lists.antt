@@ -30,7 +30,7 @@ fewer_left block zero = omega arith
 fewer_left [] (suc at) = omega arith
 fewer_left (s ∷ block) (suc at) = omega (arith, fewer_left block at)
 
--- the numbers of a place and of the first statement of its list tell whether some are left
+-- the numbers of a frame and of the first statement of its list tell whether some are left
 pub left_by_number : (block : List RStmt) (at first number : ℕ) → number + size_of (drop at block) ≡ first + size_of block → nat_lt (number - first) (size_of block) ≡ nat_lt at (length block)
 left_by_number block at first number e = by (nat_lt 0 (size_of (drop at block))) refl ∙ left_by_size block at
   where

@@ -4,7 +4,7 @@ use Rattle.std.specs.Prelude.{slice_index_or}
 use Rattle.std.proofs.lemmas.List.{take_all}
 use Rattle.mv_values.specs.Patching.{applied}
 use Rattle.mv_catalog.specs.declared.resolved.ProcInfo.{ProcInfo}
-use Rattle.mv_alone.specs.declared.state.State.{State}
+use Rattle.mv_eval.specs.declared.state.State.{State}
 use Rattle.mv_record.specs.declared.record.Record.{Record}
 use Rattle.mv_record.specs.Effects.{record_of}
 use Rattle.mv_record.specs.Runs.{lines_in, writes_in}
@@ -12,18 +12,18 @@ use Rattle.mv_recorded.specs.Reading.{last_place, sets_variable}
 use Rattle.mv_recorded.specs.Recorded.{Site, outside}
 use Rattle.mv_log.specs.Logged.{Logged, empty as no_records}
 use Rattle.mv_effect.specs.Logging.{IsBlank}
-use Rattle.mv_exec.specs.declared.places.Place.{Place}
+use Rattle.mv_exec.specs.declared.frames.Frame.{Frame}
 use Rattle.mv_exec.specs.declared.recording.OpenStatement.{OpenStatement}
 use Rattle.mv_exec.specs.declared.recording.Origin.{Origin}
 use Rattle.mv_exec.specs.declared.recording.Origin.TheVariants.{Executed, Kept}
 use Rattle.mv_exec.specs.declared.task.Task.{Task}
 use Rattle.mv_undo.specs.Owning.{undo_of_all}
 use Rattle.mv_exec.specs.Left.{left}
-use Rattle.mv_exec.specs.Places.{EndsLeft, jobs_left, site_in, site_of}
+use Rattle.mv_exec.specs.Frames.{EndsLeft, jobs_left, site_in, site_of}
 use Rattle.mv_exec.specs.Recording.{IsAtRest, MayCome, IsRecordOf, opened, kept_after, closed, cut}
 use Rattle.mv_exec.specs.Steps.{with_log}
-use Rattle.mv_exec.specs.Tasks.{places_of, IsTask, AreHeldBefore, StandsAsBefore, task_at}
-use Rattle.mv_exec.proofs.Placing.{site_step}
+use Rattle.mv_exec.specs.Tasks.{frames_of, IsTask, AreHeldBefore, StandsAsBefore, task_at}
+use Rattle.mv_exec.proofs.Framing.{site_step}
 
 -- a call stands as before where it does so twice
 pub before_both : (proc : ProcInfo) (old mid new : Task) → StandsAsBefore proc old mid → StandsAsBefore proc mid new → StandsAsBefore proc old new
@@ -43,8 +43,8 @@ pub logged_task : (proc : ProcInfo) (task : Task) (log : Logged) → log.records
 logged_task proc task log same t = record {
   filled = t.filled;
   numbers = t.numbers;
-  ends = subst (λ rs. EndsLeft proc rs (places_of task)) (sym same) t.ends;
-  holders = subst (λ (rs : List Record). AreHeldBefore (length rs) (places_of task)) (sym same) t.holders;
+  ends = subst (λ rs. EndsLeft proc rs (frames_of task)) (sym same) t.ends;
+  holders = subst (λ (rs : List Record). AreHeldBefore (length rs) (frames_of task)) (sym same) t.holders;
   some = t.some;
   empty = t.empty;
   undo = t.undo ∙ ap (undo_of_all 0) (sym same);
@@ -59,7 +59,7 @@ logged_before proc task log same = record {
   executed = refl;
   undo = refl;
   beginning = refl;
-  left = λ tables db. ap (λ (rs : List Record). left tables task.parameters (jobs_left proc rs (places_of task)) rs (let st : State = record { env = task.variables.env; tables = applied (writes_in rs) db; lines = lines_in rs } in st)) same;
+  left = λ tables db. ap (λ (rs : List Record). left tables task.parameters (jobs_left proc rs (frames_of task)) rs (let st : State = record { env = task.variables.env; tables = applied (writes_in rs) db; lines = lines_in rs } in st)) same;
 }
 
 -- the first items of two lists are those of the first one
@@ -83,9 +83,9 @@ pub cut_rests : (n : ℕ) (log new : Logged) → new ≡ cut n log → IsAtRest 
 cut_rests n log new is = subst IsAtRest (sym is) (record { turns = refl; reads = refl; blank = record { effect = refl; tests = refl; columns = refl } })
 
 -- a turn changes no log
-pub turned_log : (task : Task) (outer : List Place) (last place : Place) (turn : Bool) → (task_at task outer last place turn).log ≡ task.log
-turned_log task outer last place true = refl
-turned_log task outer last place false = refl
+pub turned_log : (task : Task) (outer : List Frame) (last frame : Frame) (turn : Bool) → (task_at task outer last frame turn).log ≡ task.log
+turned_log task outer last frame true = refl
+turned_log task outer last frame false = refl
 
 -- a call that fell, once its log is cut to the records that it had
 pub record IsCleaned (proc : ProcInfo) (old new : Task) : Type 0 where
@@ -105,7 +105,7 @@ cleaned proc old mid log n t before is num =
 -- The record of the open statement
 
 -- with one turn more
-pub turns_step : (first log new : Logged) (ps : List Place) (i : ℕ) (d : Place) → i < length ps → log ≡ opened first (site_of outside (take i ps)).turns first.reads
+pub turns_step : (first log new : Logged) (ps : List Frame) (i : ℕ) (d : Frame) → i < length ps → log ≡ opened first (site_of outside (take i ps)).turns first.reads
     → new ≡ opened log (site_in (slice_index_or ps i d).holder (site_of outside (take i ps))).turns log.reads → new ≡ opened first (site_of outside (take (i + 1) ps)).turns first.reads
 turns_step first log new ps i d lt h is =
     is

@@ -1,8 +1,8 @@
 -- What variables held at the beginning, and what is kept of it.
 use Rattle.std.proofs.Common.{◌≡◌, ℕ, zero, suc, ◌+◌, ◌≤◌, true, false, List, [], ◌∷◌, ◌++◌, Option, Some, None, length, take, slice_get, slice_set, refl, sym, ap, subst, ◌∙◌, arith, add-one}
-use Rattle.mv_alone.specs.declared.state.Content.{Content}
-use Rattle.mv_alone.specs.Env.{padded}
-use Rattle.mv_alone.specs.declared.state.Env.{Env}
+use Rattle.mv_eval.specs.declared.state.Content.{Content}
+use Rattle.mv_eval.specs.Env.{padded}
+use Rattle.mv_eval.specs.declared.state.Env.{Env}
 use Rattle.mv_exec.specs.Env.{CallVariables, at_beginning, restored, is_unset, set_back, AreNone}
 
 -- Lists

@@ -5,20 +5,20 @@ use Rattle.mv_values.specs.declared.value.Value.{Value}
 use Rattle.mv_values.specs.declared.schema.TableInfo.{TableInfo}
 use Rattle.mv_catalog.specs.declared.resolved.ProcInfo.{ProcInfo}
 use Rattle.mv_catalog.specs.declared.resolved.RStmt.{RStmt}
-use Rattle.mv_alone.specs.declared.state.Content.TheVariants.{Turn}
-use Rattle.mv_alone.specs.declared.state.State.{State}
-use Rattle.mv_alone.specs.Env.{with_held}
+use Rattle.mv_eval.specs.declared.state.Content.TheVariants.{Turn}
+use Rattle.mv_eval.specs.declared.state.State.{State}
+use Rattle.mv_eval.specs.Env.{with_held}
 use Rattle.mv_record.specs.declared.record.Record.{Record}
 use Rattle.mv_recorded.specs.Recorded.{Site, outside, within_loop, in_turn}
-use Rattle.mv_exec.specs.declared.places.Holder.{Holder}
-use Rattle.mv_exec.specs.declared.places.Holder.TheVariants as by
-use Rattle.mv_exec.specs.declared.places.Place.{Place}
+use Rattle.mv_exec.specs.declared.frames.Holder.{Holder}
+use Rattle.mv_exec.specs.declared.frames.Holder.TheVariants as by
+use Rattle.mv_exec.specs.declared.frames.Frame.{Frame}
 use Rattle.mv_exec.specs.declared.task.Task.{Task}
 use Rattle.mv_exec.specs.Left.{Job, run, turns, left}
-use Rattle.mv_exec.specs.Places.{block_in, block_of, statement_before, holder_of, site_in, site_of, some_run, some_turns, turns_of, loop_rows, jobs_left, has_turn, is_left, EndsLeft, Every, IsFilled, AreFilled, IsNumbered, AreNumbered, in_next_turn, next_turn, with_turn, with_next_row}
-use Rattle.mv_exec.specs.Tasks.{standing, places_of, state_of, IsTask, StandsAsBefore, IsHeldBefore, AreHeldBefore}
+use Rattle.mv_exec.specs.Frames.{block_in, block_of, statement_before, holder_of, site_in, site_of, some_run, some_turns, turns_of, loop_rows, jobs_left, has_turn, is_left, EndsLeft, Every, IsFilled, AreFilled, IsNumbered, AreNumbered, in_next_turn, next_turn, with_turn, with_next_row}
+use Rattle.mv_exec.specs.Tasks.{standing, frames_of, state_of, IsTask, StandsAsBefore, IsHeldBefore, AreHeldBefore}
 use Rattle.mv_exec.proofs.Leaving.{turn_begins}
-use Rattle.mv_exec.proofs.Placing.{same_last, none_past, jobs_more}
+use Rattle.mv_exec.proofs.Framing.{same_last, none_past, jobs_more}
 use Rattle.mv_exec.proofs.Going.{same_behind, same_turns}
 
 -- Lists
@@ -48,43 +48,43 @@ set_last xs x y = subst (λ n. slice_set (xs ++ x ∷ []) n y ≡ xs ++ y ∷ []
     at [] = refl
     at (z ∷ zs) = ap (λ l. z ∷ l) (at zs)
 
--- Places
+-- Frames
 
-pub every_last : (P : List RStmt → Place → Type 0) (proc : ProcInfo) (s : Option RStmt) (outer : List Place) (p : Place) → Every P proc s (outer ++ p ∷ []) → P (block_of proc (holder_of proc s outer) p) p
+pub every_last : (P : List RStmt → Frame → Type 0) (proc : ProcInfo) (s : Option RStmt) (outer : List Frame) (p : Frame) → Every P proc s (outer ++ p ∷ []) → P (block_of proc (holder_of proc s outer) p) p
 every_last P proc s [] p h = h.0
 every_last P proc s (q ∷ outer) p h = every_last P proc (statement_before proc s q) outer p h.1
 
-pub every_outer : (P : List RStmt → Place → Type 0) (proc : ProcInfo) (s : Option RStmt) (outer : List Place) (p : Place) → Every P proc s (outer ++ p ∷ []) → Every P proc s outer
+pub every_outer : (P : List RStmt → Frame → Type 0) (proc : ProcInfo) (s : Option RStmt) (outer : List Frame) (p : Frame) → Every P proc s (outer ++ p ∷ []) → Every P proc s outer
 every_outer P proc s [] p h = tt
 every_outer P proc s (q ∷ outer) p h = (h.0, every_outer P proc (statement_before proc s q) outer p h.1)
 
-pub every_more : (P : List RStmt → Place → Type 0) (proc : ProcInfo) (s : Option RStmt) (outer : List Place) (p : Place) → Every P proc s outer → P (block_of proc (holder_of proc s outer) p) p
+pub every_more : (P : List RStmt → Frame → Type 0) (proc : ProcInfo) (s : Option RStmt) (outer : List Frame) (p : Frame) → Every P proc s outer → P (block_of proc (holder_of proc s outer) p) p
     → Every P proc s (outer ++ p ∷ [])
 every_more P proc s [] p h k = (k, tt)
 every_more P proc s (q ∷ outer) p h k = (h.0, every_more P proc (statement_before proc s q) outer p h.1 k)
 
-pub filled_last : (proc : ProcInfo) (s : Option RStmt) (outer : List Place) (p : Place) → AreFilled proc s (outer ++ p ∷ []) → 0 < length (block_of proc (holder_of proc s outer) p)
+pub filled_last : (proc : ProcInfo) (s : Option RStmt) (outer : List Frame) (p : Frame) → AreFilled proc s (outer ++ p ∷ []) → 0 < length (block_of proc (holder_of proc s outer) p)
 filled_last = every_last IsFilled
 
-pub filled_outer : (proc : ProcInfo) (s : Option RStmt) (outer : List Place) (p : Place) → AreFilled proc s (outer ++ p ∷ []) → AreFilled proc s outer
+pub filled_outer : (proc : ProcInfo) (s : Option RStmt) (outer : List Frame) (p : Frame) → AreFilled proc s (outer ++ p ∷ []) → AreFilled proc s outer
 filled_outer = every_outer IsFilled
 
-pub filled_more : (proc : ProcInfo) (s : Option RStmt) (outer : List Place) (p : Place) → AreFilled proc s outer → 0 < length (block_of proc (holder_of proc s outer) p) → AreFilled proc s (outer ++ p ∷ [])
+pub filled_more : (proc : ProcInfo) (s : Option RStmt) (outer : List Frame) (p : Frame) → AreFilled proc s outer → 0 < length (block_of proc (holder_of proc s outer) p) → AreFilled proc s (outer ++ p ∷ [])
 filled_more = every_more IsFilled
 
-pub held_last : (n : ℕ) (outer : List Place) (p : Place) → AreHeldBefore n (outer ++ p ∷ []) → IsHeldBefore n p.holder
+pub held_last : (n : ℕ) (outer : List Frame) (p : Frame) → AreHeldBefore n (outer ++ p ∷ []) → IsHeldBefore n p.holder
 held_last n [] p h = h.0
 held_last n (q ∷ outer) p h = held_last n outer p h.1
 
-pub held_outer : (n : ℕ) (outer : List Place) (p : Place) → AreHeldBefore n (outer ++ p ∷ []) → AreHeldBefore n outer
+pub held_outer : (n : ℕ) (outer : List Frame) (p : Frame) → AreHeldBefore n (outer ++ p ∷ []) → AreHeldBefore n outer
 held_outer n [] p h = tt
 held_outer n (q ∷ outer) p h = (h.0, held_outer n outer p h.1)
 
-pub held_more : (n : ℕ) (outer : List Place) (p : Place) → AreHeldBefore n outer → IsHeldBefore n p.holder → AreHeldBefore n (outer ++ p ∷ [])
+pub held_more : (n : ℕ) (outer : List Frame) (p : Frame) → AreHeldBefore n outer → IsHeldBefore n p.holder → AreHeldBefore n (outer ++ p ∷ [])
 held_more n [] p h k = (k, tt)
 held_more n (q ∷ outer) p h k = (h.0, held_more n outer p h.1 k)
 
--- the innermost place may have nothing left but a turn
+-- the innermost frame may have nothing left but a turn
 either_left : (a b : Bool) → a || b ≡ true → a ≡ false → b ≡ true
 either_left true b h e = cc
 either_left false b h e = h
@@ -131,32 +131,32 @@ turn_by tables params rs block site (by.Loop n x k) start at number js some none
 
 -- Tasks
 
--- where a turn is due at the innermost place
-pub record IsDue (proc : ProcInfo) (ps : List Place) (outer : List Place) (p : Place) : Type 0 where
+-- where a turn is due at the innermost frame
+pub record IsDue (proc : ProcInfo) (ps : List Frame) (outer : List Frame) (p : Frame) : Type 0 where
   pub are : ps ≡ outer ++ p ∷ []
   pub none : nat_lt p.at (length (block_of proc (holder_of proc None outer) p)) ≡ false
 
-pub turn_due : (proc : ProcInfo) (rs : List Record) (ps outer : List Place) (p : Place) → IsDue proc ps outer p → EndsLeft proc rs ps → has_turn rs p.holder ≡ true
+pub turn_due : (proc : ProcInfo) (rs : List Record) (ps outer : List Frame) (p : Frame) → IsDue proc ps outer p → EndsLeft proc rs ps → has_turn rs p.holder ≡ true
 turn_due proc rs ps outer p due ends =
     either_left (nat_lt p.at (length (block_of proc (holder_of proc None outer) p))) (has_turn rs p.holder) (ends outer p due.are) due.none
 
 -- the task in the next turn
-abbrev pub after_turn : Task → List Place → Place → Task
+abbrev pub after_turn : Task → List Frame → Frame → Task
 after_turn old outer p =
     let was = old.variables in
-    record old { variables = record was { env = with_next_row old.log.records p.holder was.env }; places = outer ++ next_turn p ∷ []; ended = false }
+    record old { variables = record was { env = with_next_row old.log.records p.holder was.env }; frames = outer ++ next_turn p ∷ []; ended = false }
 
-next_filled : (proc : ProcInfo) (old : Task) (outer : List Place) (p : Place) → IsTask proc old → IsDue proc (places_of old) outer p → 0 < length (block_of proc (holder_of proc None outer) (next_turn p))
+next_filled : (proc : ProcInfo) (old : Task) (outer : List Frame) (p : Frame) → IsTask proc old → IsDue proc (frames_of old) outer p → 0 < length (block_of proc (holder_of proc None outer) (next_turn p))
 next_filled proc old outer p t due =
     subst (λ (bl : List RStmt). 0 < length bl) (sym (same_block proc (holder_of proc None outer) p.holder)) (filled_last proc None outer p (subst (AreFilled proc None) due.are t.filled))
 
-next_numbered : (proc : ProcInfo) (outer : List Place) (p : Place) → AreNumbered proc None (outer ++ p ∷ []) → AreNumbered proc None (outer ++ next_turn p ∷ [])
+next_numbered : (proc : ProcInfo) (outer : List Frame) (p : Frame) → AreNumbered proc None (outer ++ p ∷ []) → AreNumbered proc None (outer ++ next_turn p ∷ [])
 next_numbered proc outer p h =
     let last : IsNumbered proc (block_of proc (holder_of proc None outer) p) p = every_last (IsNumbered proc) proc None outer p h in
     every_more (IsNumbered proc) proc None outer (next_turn p) (every_outer (IsNumbered proc) proc None outer p h)
     (subst (λ bl. IsNumbered proc bl (next_turn p)) (sym (same_block proc (holder_of proc None outer) p.holder)) (last.0, refl))
 
-pub turned_task : (proc : ProcInfo) (old : Task) (outer : List Place) (p : Place) → IsTask proc old → IsDue proc (places_of old) outer p → IsTask proc (after_turn old outer p)
+pub turned_task : (proc : ProcInfo) (old : Task) (outer : List Frame) (p : Frame) → IsTask proc old → IsDue proc (frames_of old) outer p → IsTask proc (after_turn old outer p)
 turned_task proc old outer p t due =
     let filled : 0 < length (block_of proc (holder_of proc None outer) (next_turn p)) = next_filled proc old outer p t due in
     record {
@@ -177,11 +177,11 @@ turned_task proc old outer p t due =
     }
 
 -- a statement is there
-pub turned_first : (proc : ProcInfo) (old : Task) (outer : List Place) (p : Place) → IsTask proc old → IsDue proc (places_of old) outer p
+pub turned_first : (proc : ProcInfo) (old : Task) (outer : List Frame) (p : Frame) → IsTask proc old → IsDue proc (frames_of old) outer p
     → nat_lt 0 (length (block_of proc (holder_of proc None outer) (next_turn p))) ≡ true
 turned_first proc old outer p t due = lt-ltb 0 _ (next_filled proc old outer p t due)
 
-pub turned_before : (proc : ProcInfo) (old : Task) (outer : List Place) (p : Place) → IsTask proc old → IsDue proc (places_of old) outer p → StandsAsBefore proc old (after_turn old outer p)
+pub turned_before : (proc : ProcInfo) (old : Task) (outer : List Frame) (p : Frame) → IsTask proc old → IsDue proc (frames_of old) outer p → StandsAsBefore proc old (after_turn old outer p)
 turned_before proc old outer p t due = record {
   parameters = refl;
   records = refl;
@@ -199,18 +199,18 @@ turned_before proc old outer p t due = record {
       (ap (λ ps. left tables old.parameters (jobs_left proc old.log.records ps) old.log.records st) due.are
       ∙ (ap (λ is. left tables old.parameters is old.log.records st) (jobs_more proc old.log.records None outside outer p)
       ∙ (turn_by tables old.parameters old.log.records block site p.holder p.first p.at p.number js (filled_last proc None outer p (subst (AreFilled proc None) due.are t.filled))
-      (none_past block p.at due.none) (turn_due proc old.log.records (places_of old) outer p due t.ends) old.log.records st
+      (none_past block p.at due.none) (turn_due proc old.log.records (frames_of old) outer p due t.ends) old.log.records st
       ∙ (ap (λ (bl : List RStmt). left tables old.parameters ((some_run (site_in (in_next_turn p.holder) site) p.first bl ++ turns_of old.log.records site bl p.first (in_next_turn p.holder)) ++ js) old.log.records next)
       (sym (same_block proc s p.holder))
       ∙ ap (λ is. left tables old.parameters is old.log.records next) (sym (jobs_more proc old.log.records None outside outer (next_turn p)))))));
 }
 
-pub standing_live : (b : Bool) (ps : List Place) → b ≡ false → standing b ps ≡ ps
+pub standing_live : (b : Bool) (ps : List Frame) → b ≡ false → standing b ps ≡ ps
 standing_live b ps e = ap (λ c. standing c ps) e
 
--- where no statement is left at the innermost place a turn is
-pub turn_owed : (proc : ProcInfo) (task : Task) (rs : List Record) (ps outer : List Place) (p : Place) → IsTask proc task → task.ended ≡ false → ps ≡ task.places → rs ≡ task.log.records
+-- where no statement is left at the innermost frame a turn is
+pub turn_owed : (proc : ProcInfo) (task : Task) (rs : List Record) (ps outer : List Frame) (p : Frame) → IsTask proc task → task.ended ≡ false → ps ≡ task.frames → rs ≡ task.log.records
     → ps ≡ outer ++ p ∷ [] → nat_lt p.at (length (block_of proc (holder_of proc None outer) p)) ≡ false → has_turn rs p.holder ≡ true
 turn_owed proc task rs ps outer p t live same records are none =
     subst (λ qs. has_turn qs p.holder ≡ true) (sym records)
-    (turn_due proc task.log.records (places_of task) outer p (record { are = standing_live task.ended task.places live ∙ (sym same ∙ are); none = none }) t.ends)
+    (turn_due proc task.log.records (frames_of task) outer p (record { are = standing_live task.ended task.frames live ∙ (sym same ∙ are); none = none }) t.ends)

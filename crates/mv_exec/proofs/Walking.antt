@@ -1,9 +1,9 @@
 -- Variables behind the turns of a loop whose body is empty.
 use Rattle.std.proofs.Common.{◌≡◌, ℕ, List, [], ◌∷◌, ◌++◌, refl, sym, ap, ◌∙◌}
 use Rattle.mv_values.specs.declared.value.Value.{Value}
-use Rattle.mv_alone.specs.declared.state.Content.TheVariants.{Turn}
-use Rattle.mv_alone.specs.declared.state.Env.{Env}
-use Rattle.mv_alone.specs.Env.{with_held}
+use Rattle.mv_eval.specs.declared.state.Content.TheVariants.{Turn}
+use Rattle.mv_eval.specs.declared.state.Env.{Env}
+use Rattle.mv_eval.specs.Env.{with_held}
 use Rattle.mv_recorded.proofs.Slots.{put_same}
 use Rattle.mv_exec.specs.declared.changes.VariableChange.{VariableChange}
 use Rattle.mv_exec.specs.Env.{with_changes}

@@ -1,4 +1,4 @@
--- The statements at places of a procedure of a program are well formed.
+-- The statements at frames of a procedure of a program are well formed.
 use Rattle.std.specs.Prelude.{⊤}
 use Rattle.std.proofs.Common.{◌≡◌, ℕ, zero, suc, ◌-◌, Bool, true, false, List, [], ◌∷◌, Option, Some, None, slice_get, subst}
 use Rattle.mv_values.specs.declared.schema.TableInfo.{TableInfo}
@@ -11,10 +11,10 @@ use Rattle.mv_catalog.specs.declared.resolved.RStmt.TheOpen.{RStmt-F, ForSelect,
 use Rattle.mv_catalog.proofs.Typed.{well_by}
 use Rattle.mv_recorded.specs.Effect.{HasColumns}
 use Rattle.mv_recorded.proofs.Effects.{columns_there}
-use Rattle.mv_exec.specs.declared.places.Holder.{Holder}
-use Rattle.mv_exec.specs.declared.places.Holder.TheVariants as by
-use Rattle.mv_exec.specs.declared.places.Place.{Place}
-use Rattle.mv_exec.specs.Places.{body_in, branch_in, block_in, block_of, statement_before, holder_of, IsPlacedAt}
+use Rattle.mv_exec.specs.declared.frames.Holder.{Holder}
+use Rattle.mv_exec.specs.declared.frames.Holder.TheVariants as by
+use Rattle.mv_exec.specs.declared.frames.Frame.{Frame}
+use Rattle.mv_exec.specs.Frames.{body_in, branch_in, block_in, block_of, statement_before, holder_of, IsFrameAt}
 
 -- for some variables
 abbrev AllWell : List TableInfo → List RStmt → Type 0
@@ -48,14 +48,14 @@ get_well tables [] n vars h = tt
 get_well tables (s ∷ ss) zero vars h = (vars, h.0)
 get_well tables (s ∷ ss) (suc n) vars h = get_well tables ss n vars h.1
 
-holding_well : (tables : List TableInfo) (proc : ProcInfo) (o : Option RStmt) (ps : List Place) → AllWell tables proc.body → SomeWell tables o → SomeWell tables (holder_of proc o ps)
+holding_well : (tables : List TableInfo) (proc : ProcInfo) (o : Option RStmt) (ps : List Frame) → AllWell tables proc.body → SomeWell tables o → SomeWell tables (holder_of proc o ps)
 holding_well tables proc o [] w k = k
 holding_well tables proc o (p ∷ ps) w k =
     let block : AllWell tables (block_of proc o p) = held_well tables proc p.holder o w k in
     holding_well tables proc (statement_before proc o p) ps w (get_well tables (block_of proc o p) (p.at - 1) block.0 block.1)
 
--- the statement at a place
-pub well_at : (tables : List TableInfo) (proc : ProcInfo) (outer : List Place) (p : Place) (s : RStmt) → IsProcedure tables proc
+-- the statement at a frame
+pub well_at : (tables : List TableInfo) (proc : ProcInfo) (outer : List Frame) (p : Frame) (s : RStmt) → IsProcedure tables proc
     → slice_get (block_of proc (holder_of proc None outer) p) p.at ≡ Some s → (vars : Vars) × IsWell tables s vars
 well_at tables proc outer p s is stands =
     let w : AllWell tables proc.body = (vars_of proc, is.body) in
@@ -63,7 +63,7 @@ well_at tables proc outer p s is stands =
     subst (SomeWell tables) stands (get_well tables (block_of proc (holder_of proc None outer) p) p.at block.0 block.1)
 
 -- it has a column for each target
-pub columns_at : (tables : List TableInfo) (proc : ProcInfo) (ps : List Place) (p : Place) (s : RStmt) → IsProcedure tables proc → IsPlacedAt proc ps p s → HasColumns (out-RStmt s)
+pub columns_at : (tables : List TableInfo) (proc : ProcInfo) (ps : List Frame) (p : Frame) (s : RStmt) → IsProcedure tables proc → IsFrameAt proc ps p s → HasColumns (out-RStmt s)
 columns_at tables proc ps p s is at =
     let well : (vars : Vars) × IsWell tables s vars = well_at tables proc at.0 p s is at.1.stands in
     columns_there tables (λ s. s) (IsWell tables) (out-RStmt s) well.0 (well_by tables (out-RStmt s) s well.0 (roll-out-RStmt s) well.1)

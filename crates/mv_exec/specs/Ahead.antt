@@ -10,26 +10,26 @@ use Rattle.mv_recorded.specs.Reading.{loop_of}
 use Rattle.mv_recorded.specs.Recorded.{Site}
 use Rattle.mv_graph.specs.declared.graph.Step.{Step}
 use Rattle.mv_graph.specs.Steps.{TellsOf}
-use Rattle.mv_exec.specs.declared.places.Place.{Place}
-use Rattle.mv_exec.specs.Foreseen.{Ahead}
+use Rattle.mv_exec.specs.declared.frames.Frame.{Frame}
+use Rattle.mv_exec.specs.Peeked.{Ahead}
 use Rattle.mv_exec.specs.declared.task.Task.{Task}
-use Rattle.mv_exec.specs.Places.{block_of, holder_of, place_due}
+use Rattle.mv_exec.specs.Frames.{block_of, holder_of, frame_due}
 use Rattle.mv_exec.specs.Tasks.{left_of, definer_in}
-use Rattle.mv_exec.specs.Running.{Foresees}
+use Rattle.mv_exec.specs.Running.{Peeks}
 
--- a call continues at this place, before this statement. If a turn is due, it is the place in that turn.
-pub record IsNextPlace (proc : ProcInfo) (task : Task) (place : Place) (s : RStmt) (turn : Bool) : Type 0 where
-  pub outer : List Place
-  pub last : Place
-  pub are : task.places ≡ outer ++ last ∷ []
+-- a call continues at this frame, before this statement. If a turn is due, it is the frame in that turn.
+pub record IsNextFrame (proc : ProcInfo) (task : Task) (frame : Frame) (s : RStmt) (turn : Bool) : Type 0 where
+  pub outer : List Frame
+  pub last : Frame
+  pub are : task.frames ≡ outer ++ last ∷ []
   pub due : nat_lt last.at (length (block_of proc (holder_of proc None outer) last)) ≡ not turn
-  pub is : place ≡ place_due turn last
-  pub stands : slice_get (block_of proc (holder_of proc None outer) place) place.at ≡ Some s
+  pub is : frame ≡ frame_due turn last
+  pub stands : slice_get (block_of proc (holder_of proc None outer) frame) frame.at ≡ Some s
 
--- a call continues at this place, before the statement of this step
-pub record IsNextStep (proc : ProcInfo) (task : Task) (place : Place) (step : Step) (turn : Bool) : Type 0 where
+-- a call continues at this frame, before the statement of this step
+pub record IsNextStep (proc : ProcInfo) (task : Task) (frame : Frame) (step : Step) (turn : Bool) : Type 0 where
   pub s : RStmt
-  pub is : IsNextPlace proc task place s turn
+  pub is : IsNextFrame proc task frame s turn
   pub tells : TellsOf proc s step
 
 -- what the record of a statement has before it is executed: the statement is at a site, has a number, and reads these
@@ -42,8 +42,8 @@ ahead_at definers site n xs = record {
 }
 
 -- this is ahead of the task, on any database
-abbrev pub ForeseesLeft : ProcInfo → Task → Option Ahead → Type 0
-ForeseesLeft proc task ahead = (tables : List TableInfo) (db : Tables) → Foresees ahead (left_of proc tables task db)
+abbrev pub PeeksLeft : ProcInfo → Task → Option Ahead → Type 0
+PeeksLeft proc task ahead = (tables : List TableInfo) (db : Tables) → Peeks ahead (left_of proc tables task db)
 
 -- the place, controller and definers of a record
 abbrev pub ahead_in : Record → Ahead

@@ -1,9 +1,9 @@
 -- Defines the variables of a running call, and its initial ones.
 use Rattle.std.specs.Prelude.{◌≡◌, Bool, true, false, ℕ, zero, suc, ◌+◌, max, List, [], ◌∷◌, Option, Some, None, slice_set}
-use Rattle.mv_alone.specs.declared.state.Content.{Content}
-use Rattle.mv_alone.specs.declared.state.Env.{Env}
-use Rattle.mv_alone.specs.declared.state.Content.TheVariants.{Scalar}
-use Rattle.mv_alone.specs.Env.{with_held}
+use Rattle.mv_eval.specs.declared.state.Content.{Content}
+use Rattle.mv_eval.specs.declared.state.Env.{Env}
+use Rattle.mv_eval.specs.declared.state.Content.TheVariants.{Scalar}
+use Rattle.mv_eval.specs.Env.{with_held}
 use Rattle.mv_record.specs.declared.record.Slot.{Slot}
 use Rattle.mv_exec.specs.declared.changes.VariableChange.{VariableChange}
 

@@ -1,13 +1,13 @@
--- Defines what is left of a run from a place on: the records that it will still add. This project's own.
+-- Defines what is left of a run from a frame on: the records that it will still add. This project's own.
 use Rattle.std.specs.Prelude.{ℕ, ◌+◌, List, [], ◌∷◌, ◌++◌, if◌then◌else◌}
 use Rattle.mv_catalog.specs.Statements.{size_of}
 use Rattle.mv_values.specs.declared.value.Value.{Value}
 use Rattle.mv_values.specs.declared.schema.TableInfo.{TableInfo}
 use Rattle.mv_catalog.specs.declared.resolved.RStmt.{RStmt}
 use Rattle.mv_catalog.specs.declared.resolved.RStmt.TheOpen.{RStmt-F, ForSelect, ForRows, Branch}
-use Rattle.mv_alone.specs.declared.state.State.{State}
-use Rattle.mv_alone.specs.Value.{value_of, is_so}
-use Rattle.mv_alone.specs.Alone.{Does, alone, each_turn}
+use Rattle.mv_eval.specs.declared.state.State.{State}
+use Rattle.mv_eval.specs.Value.{value_of, is_so}
+use Rattle.mv_eval.specs.Alone.{Does, alone, each_turn}
 use Rattle.mv_record.specs.declared.record.Record.{Record}
 use Rattle.mv_recorded.specs.Asking.{on}
 use Rattle.mv_recorded.specs.Doing.{fixed_rows}

@@ -1,8 +1,8 @@
 pub mod Left
-pub mod Places
+pub mod Frames
 pub mod Env
 pub mod Keeping
-pub mod Foreseen
+pub mod Peeked
 pub mod Recording
 pub mod Tasks
 pub mod Moves

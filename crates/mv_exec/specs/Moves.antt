@@ -4,33 +4,33 @@ use Rattle.mv_values.specs.declared.value.Value.{Value}
 use Rattle.mv_catalog.specs.Statements.{size_of}
 use Rattle.mv_catalog.specs.declared.resolved.RStmt.{RStmt}
 use Rattle.mv_catalog.specs.declared.resolved.RStmt.TheOpen.{RStmt-F, ForSelect, ForRows, Branch}
-use Rattle.mv_alone.specs.declared.state.Env.{Env}
-use Rattle.mv_alone.specs.declared.state.Content.TheVariants.{Turn}
-use Rattle.mv_alone.specs.Env.{with_held}
-use Rattle.mv_exec.specs.declared.places.Holder.{Holder}
-use Rattle.mv_exec.specs.declared.places.Holder.TheVariants as by
-use Rattle.mv_exec.specs.declared.places.Place.{Place}
+use Rattle.mv_eval.specs.declared.state.Env.{Env}
+use Rattle.mv_eval.specs.declared.state.Content.TheVariants.{Turn}
+use Rattle.mv_eval.specs.Env.{with_held}
+use Rattle.mv_exec.specs.declared.frames.Holder.{Holder}
+use Rattle.mv_exec.specs.declared.frames.Holder.TheVariants as by
+use Rattle.mv_exec.specs.declared.frames.Frame.{Frame}
 
 -- before the first statement of a list that isn't empty
-abbrev pub branch_place : Holder → ℕ → List RStmt → List Place
-branch_place h first [] = []
-branch_place h first (s ∷ ss) = record { holder = h; first = first; at = 0; number = first } ∷ []
+abbrev pub branch_frame : Holder → ℕ → List RStmt → List Frame
+branch_frame h first [] = []
+branch_frame h first (s ∷ ss) = record { holder = h; first = first; at = 0; number = first } ∷ []
 
 -- before the first turn of a loop whose body isn't empty: past all its statements
-abbrev pub loop_place : ℕ → ℕ → ℕ → List RStmt → List Place
-loop_place number x first [] = []
-loop_place number x first (s ∷ ss) = record { holder = by.Loop number x 0; first = first; at = size_of (s ∷ ss); number = first + size_of (s ∷ ss) } ∷ []
+abbrev pub loop_frame : ℕ → ℕ → ℕ → List RStmt → List Frame
+loop_frame number x first [] = []
+loop_frame number x first (s ∷ ss) = record { holder = by.Loop number x 0; first = first; at = size_of (s ∷ ss); number = first + size_of (s ∷ ss) } ∷ []
 
--- the place inside a statement; the numbers are those of its record and of the statement, and an IF takes this branch
-abbrev pub inner_places : ℕ → ℕ → Bool → RStmt-F RStmt → List Place
-inner_places number n b (Branch e ys ns) = if b then branch_place (by.Branch number b) (n + 1) ys else branch_place (by.Branch number b) (n + 1 + size_of ys) ns
-inner_places number n b (ForSelect x once cs t conds sorts body) = loop_place number x (n + 1) body
-inner_places number n b (ForRows x y body) = loop_place number x (n + 1) body
-inner_places number n b s = []
+-- the frame inside a statement; the numbers are those of its record and of the statement, and an IF takes this branch
+abbrev pub inner_frames : ℕ → ℕ → Bool → RStmt-F RStmt → List Frame
+inner_frames number n b (Branch e ys ns) = if b then branch_frame (by.Branch number b) (n + 1) ys else branch_frame (by.Branch number b) (n + 1 + size_of ys) ns
+inner_frames number n b (ForSelect x once cs t conds sorts body) = loop_frame number x (n + 1) body
+inner_frames number n b (ForRows x y body) = loop_frame number x (n + 1) body
+inner_frames number n b s = []
 
--- the place after a statement of this size
-abbrev pub place_after : ℕ → Place → Place
-place_after size p = record p { at = p.at + 1; number = p.number + size }
+-- the frame after a statement of this size
+abbrev pub frame_after : ℕ → Frame → Frame
+frame_after size p = record p { at = p.at + 1; number = p.number + size }
 
 -- the variables after turns of an empty body, which only set the loop's row
 abbrev pub after_turns : ℕ → List (List Value) → Env → Env

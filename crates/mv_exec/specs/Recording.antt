@@ -8,7 +8,7 @@ use Rattle.mv_effect.specs.Logging.{IsBlank}
 use Rattle.mv_exec.specs.declared.recording.OpenStatement.{OpenStatement}
 use Rattle.mv_exec.specs.declared.recording.Origin.{Origin}
 use Rattle.mv_exec.specs.declared.recording.Origin.TheVariants.{Executed, Kept}
-use Rattle.mv_exec.specs.Foreseen.{Ahead}
+use Rattle.mv_exec.specs.Peeked.{Ahead}
 
 -- The open statement
 
@@ -17,8 +17,8 @@ abbrev pub opened : Logged → List ℕ → List Read → Logged
 opened log turns reads = record log { turns = turns; reads = reads }
 
 -- what is known of the record of the open statement before it is executed
-abbrev pub foreseen : Logged → OpenStatement → Ahead
-foreseen log at = record { spot = record { statement = at.statement; turns = log.turns }; parent = at.parent; reads = log.reads }
+abbrev pub peeked : Logged → OpenStatement → Ahead
+peeked log at = record { spot = record { statement = at.statement; turns = log.turns }; parent = at.parent; reads = log.reads }
 
 -- the log with its first records, so many, and with no statement open
 abbrev pub cut : ℕ → Logged → Logged

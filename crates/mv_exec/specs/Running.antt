@@ -5,7 +5,7 @@ use Rattle.mv_values.specs.declared.calls.Call.{Call}
 use Rattle.mv_values.specs.declared.pred.Pred.{Pred}
 use Rattle.mv_values.specs.Patching.{applied}
 use Rattle.mv_values.specs.Tables.{KeysStand, Tables}
-use Rattle.mv_alone.specs.TableAfter.{entered}
+use Rattle.mv_eval.specs.TableAfter.{entered}
 use Rattle.mv_record.specs.declared.record.Record.{Record}
 use Rattle.mv_record.specs.Runs.{writes_in}
 use Rattle.mv_record.specs.Writes.{AreRising}
@@ -17,7 +17,7 @@ use Rattle.mv_graph.specs.declared.graph.Graph.{Graph}
 use Rattle.mv_graph.specs.Nodes.{meaning_of}
 use Rattle.mv_exec.specs.declared.step.Stepped.{Stepped}
 use Rattle.mv_exec.specs.declared.step.Stepped.TheVariants.{Ran, Ended}
-use Rattle.mv_exec.specs.Foreseen.{Ahead}
+use Rattle.mv_exec.specs.Peeked.{Ahead}
 use Rattle.mv_exec.specs.declared.task.Task.{Task}
 use Rattle.mv_exec.specs.Recording.{IsAtRest}
 use Rattle.mv_exec.specs.Tasks.{IsTask, BeginsCall, left_of}
@@ -81,14 +81,14 @@ count_left g db task = length (left_of g.procedure g.tables task db)
 -- The next record
 
 -- the first of these records has this place, controller and definers; if nothing is ahead, there are no records
-abbrev pub Foresees : Option Ahead → List Record → Type 0
-Foresees None rs = rs ≡ []
-Foresees (Some ahead) [] = ⊥
-Foresees (Some ahead) (r ∷ rs) = (r.spot ≡ ahead.spot) × (r.parent ≡ ahead.parent) × (r.reads ≡ ahead.reads)
+abbrev pub Peeks : Option Ahead → List Record → Type 0
+Peeks None rs = rs ≡ []
+Peeks (Some ahead) [] = ⊥
+Peeks (Some ahead) (r ∷ rs) = (r.spot ≡ ahead.spot) × (r.parent ≡ ahead.parent) × (r.reads ≡ ahead.reads)
 
 -- this is ahead of the call, on each database where its records are the first ones of its full run
 abbrev pub IsAhead : Graph → Task → Option Ahead → Type 0
-IsAhead g task ahead = (call : Call) (db : Tables) (rest : List Record) → IsTaskOf g call task → AreRising db → HasLeft g call db task rest → Foresees ahead rest
+IsAhead g task ahead = (call : Call) (db : Tables) (rest : List Record) → IsTaskOf g call task → AreRising db → HasLeft g call db task rest → Peeks ahead rest
 
 -- a record has the content of another one: all but its place, its controller and its definers
 abbrev pub HasContent : Record → Record → Type 0

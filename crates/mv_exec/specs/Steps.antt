@@ -12,11 +12,11 @@ use Rattle.mv_recorded.specs.Effect.{with_slots}
 use Rattle.mv_log.specs.Logged.{Logged}
 use Rattle.mv_view.specs.Viewing.{Sight}
 use Rattle.mv_effect.specs.Looking.{AskedFor}
-use Rattle.mv_exec.specs.declared.places.Place.{Place}
+use Rattle.mv_exec.specs.declared.frames.Frame.{Frame}
 use Rattle.mv_exec.specs.declared.task.Task.{Task}
 use Rattle.mv_exec.specs.declared.recording.Origin.{Origin}
 use Rattle.mv_exec.specs.declared.recording.Origin.TheVariants.{Executed}
-use Rattle.mv_exec.specs.Ahead.{ForeseesLeft, ahead_in}
+use Rattle.mv_exec.specs.Ahead.{PeeksLeft, ahead_in}
 use Rattle.mv_undo.specs.Owning.{undo_of}
 use Rattle.mv_exec.specs.Keeping.{HasMore, with_room, define, slot_room}
 use Rattle.mv_exec.specs.Moves.{after_empty_loop}
@@ -30,27 +30,27 @@ use Rattle.mv_exec.specs.Tasks.{beginning, left_of, definer_in}
 abbrev pub with_log : Task → Logged → Task
 with_log task log = record task { log = log }
 
--- the call with the changes of a record of this statement, which has this number, and with places inside it
-abbrev pub changed_by : Task → ℕ → RStmt → Record → List Place → Task
+-- the call with the changes of a record of this statement, which has this number, and with frames inside it
+abbrev pub changed_by : Task → ℕ → RStmt → Record → List Frame → Task
 changed_by task number s r inner = let was = task.variables in record task {
   variables = record was { env = after_empty_loop (out-RStmt s) r.rows (with_slots r.sets was.env) };
   undo = task.undo ++ undo_of number r.writes;
   definers = define (with_room (slot_room r.sets) task.definers) r.sets number;
-  places = task.places ++ inner;
+  frames = task.frames ++ inner;
 }
 
--- the call with the record of its open statement and that record's changes, at these places
-abbrev pub with_record : Task → Origin → RStmt → Record → List Place → Task
-with_record task origin s r places =
+-- the call with the record of its open statement and that record's changes, at these frames
+abbrev pub with_record : Task → Origin → RStmt → Record → List Frame → Task
+with_record task origin s r frames =
     let changed : Task = changed_by (with_log task (closed task.log origin r)) (length task.log.records) s r [] in
-    record changed { places = places }
+    record changed { frames = frames }
 
--- own writes of this number and some places were added, and nothing else changed but the room for definers
+-- own writes of this number and some frames were added, and nothing else changed but the room for definers
 pub record HasFronts (number : ℕ) (old new : Task) : Type 0 where
-  pub rest : new ≡ record old { undo = new.undo; definers = new.definers; places = new.places }
+  pub rest : new ≡ record old { undo = new.undo; definers = new.definers; frames = new.frames }
   pub undo : HasMore number old.undo new.undo
   pub definers : (x : ℕ) → definer_in new.definers x ≡ definer_in old.definers x
-  pub places : take (length old.places) new.places ≡ old.places
+  pub frames : take (length old.frames) new.frames ≡ old.frames
 
 -- nothing changed but the room for definers and the open statement; from which number on past records may be kept is
 -- unchanged too if none should have been
@@ -76,7 +76,7 @@ pub record HasAddedRecord (proc : ProcInfo) (old : Task) (r : Record) (new : Tas
 pub record HasAddedNext (proc : ProcInfo) (old : Task) (given : Record) (new : Task) : Type 0 where
   pub next : Record
   pub content : HasContent given next
-  pub ahead : ForeseesLeft proc old (Some (ahead_in next))
+  pub ahead : PeeksLeft proc old (Some (ahead_in next))
   pub added : HasAddedRecord proc old next new
 
 -- the next record of the run on a view's database was added; the view was queried for its predicates, over the writes

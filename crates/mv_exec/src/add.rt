@@ -7,18 +7,18 @@ ghost use Rattle.mv_record.specs.declared.record.Record.{Record};
 ghost use Rattle.mv_graph.specs.Nodes.{IsGraph, IsSound};
 ghost use Rattle.mv_graph.specs.Steps.{TellsOf};
 ghost use Rattle.mv_effect.specs.Choosing.{Chooses};
-ghost use Rattle.mv_exec.specs.declared.places.Place.{Place};
+ghost use Rattle.mv_exec.specs.declared.frames.Frame.{Frame};
 ghost use Rattle.mv_exec.specs.declared.recording.Origin.TheVariants.{Executed};
 ghost use Rattle.mv_exec.specs.Keeping.{slot_room};
-ghost use Rattle.mv_exec.specs.Places.{AreFilled, AreNumbered, IsAtStep};
+ghost use Rattle.mv_exec.specs.Frames.{AreFilled, AreNumbered, IsAtStep};
 ghost use Rattle.mv_exec.specs.Recording.{closed, IsRecordOf, MayCome};
 ghost use Rattle.mv_exec.specs.Steps.{HasAddedRecord, HasFronts, IsWidened, changed_by, with_log};
 ghost use Rattle.mv_exec.specs.Running.{stepped};
-ghost use Rattle.mv_exec.specs.Tasks.{places_of, IsTask, StandsAsBefore, IsTrimmed};
+ghost use Rattle.mv_exec.specs.Tasks.{frames_of, IsTask, StandsAsBefore, IsTrimmed};
 
+use crate::frames::Frame;
 use crate::keeping::{add_writes, set_definers, widen};
-use crate::moves::{inner_place, place_after};
-use crate::places::Place;
+use crate::moves::{frame_after, inner_frame};
 use crate::position::Position;
 use crate::recording::{OpenStatement, Origin, add_record, ends_call};
 use crate::step::{Stepped, answer, change_variables};
@@ -50,25 +50,25 @@ fn room_for(slots: &[Slot]) -> usize
     most
 }
 
-/// Adds a place, if there is one.
-fn push_place(places: &mut List<Place>, inner: Option<Place>) -> Result<(), NoMemory>
-    ensures ok { OnOk result (places.new ≡ places.old ++ option_to_list inner) }
-    ensures err { OnErr result (places.new ≡ places.old) }
+/// Adds a frame, if there is one.
+fn push_frame(frames: &mut List<Frame>, inner: Option<Frame>) -> Result<(), NoMemory>
+    ensures ok { OnOk result (frames.new ≡ frames.old ++ option_to_list inner) }
+    ensures err { OnErr result (frames.new ≡ frames.old) }
 {
     match inner {
-        Some(place) => places.push(place),
+        Some(frame) => frames.push(frame),
         None => Ok(()),
     }
 }
 
 /// Makes the changes of the record with this number, which has just been added to the log: to the variables, the
-/// definers and the own writes, and by the place inside its statement. On `NoMemory` some of this may be done.
+/// definers and the own writes, and by the frame inside its statement. On `NoMemory` some of this may be done.
 fn make_changes_of(
     alloc: Global,
     task: &mut Task,
     number: u32,
     step: &Step,
-    inner: Option<Place>,
+    inner: Option<Frame>,
 ) -> Result<(), NoMemory>
     requires there { number < length task.old.log.records }
     requires earlier { All (λ o. o.number < number) task.old.undo }
@@ -78,7 +78,7 @@ fn make_changes_of(
     let given = task.log.records().get(number as usize);
     widen(&mut task.definers, room_for(given.sets()))?;
     add_writes(alloc, &mut task.undo, number, given.writes())?;
-    push_place(&mut task.places, inner)?;
+    push_frame(&mut task.frames, inner)?;
     change_variables(alloc, &mut task.variables, step, &given)?;
     set_definers(&mut task.definers, given.sets(), number);
     Ok(())
@@ -92,7 +92,7 @@ fn push_record(
     at: OpenStatement,
     origin: Origin,
     step: &Step,
-    inner: Option<Place>,
+    inner: Option<Frame>,
 ) -> Result<(), NoMemory>
     requires origin { MayCome task.old.log origin }
     requires earlier { All (λ o. o.number < length task.old.log.records) task.old.undo }
@@ -100,34 +100,34 @@ fn push_record(
     ensures err { OnErr result (IsWidened origin task.old task.new) }
 {
     let number = task.log.len();
-    let depth = task.places.len();
+    let depth = task.frames.len();
     add_record(&mut task.log, at, origin)?;
     match make_changes_of(alloc, task, number, step, inner) {
         Ok(()) => Ok(()),
         Err(error) => {
             task.log.truncate(number);
-            task.places.truncate(depth);
+            task.frames.truncate(depth);
             task.undo.drop_from(number as usize);
             Err(error)
         }
     }
 }
 
-/// Replaces the place at this index.
-fn put_place(places: &mut List<Place>, at: usize, place: Place)
-    ensures { (outer inner : List Place) (p : Place) → places.old ≡ (outer ++ p ∷ []) ++ inner → at ≡ length outer → places.new ≡ (outer ++ place ∷ []) ++ inner }
+/// Replaces the frame at this index.
+fn put_frame(frames: &mut List<Frame>, at: usize, frame: Frame)
+    ensures { (outer inner : List Frame) (p : Frame) → frames.old ≡ (outer ++ p ∷ []) ++ inner → at ≡ length outer → frames.new ≡ (outer ++ frame ∷ []) ++ inner }
 {
-    if at < places.len() {
-        places.set(at, place);
+    if at < frames.len() {
+        frames.set(at, frame);
     }
 }
 
-/// Ends a call, or drops the places at which nothing is left.
+/// Ends a call, or drops the frames at which nothing is left.
 fn end_or_trim(graph: &Graph, task: &mut Task, ends: bool) -> Stepped
     requires graph { IsGraph graph.now }
     requires live { task.old.ended ≡ false }
-    requires filled { AreFilled graph.now.procedure None task.old.places }
-    requires numbers { AreNumbered graph.now.procedure None task.old.places }
+    requires filled { AreFilled graph.now.procedure None task.old.frames }
+    requires numbers { AreNumbered graph.now.procedure None task.old.frames }
     ensures ends { ends ≡ true → task.new ≡ record task.old { ended = true } }
     ensures trims { ends ≡ false → IsTrimmed graph.now.procedure task.old task.new }
     ensures stepped { result ≡ stepped task.new.ended }
@@ -155,7 +155,7 @@ pub(crate) fn add(
     requires task { IsTask graph.now.procedure task.old }
     requires live { task.old.ended ≡ false }
     requires origin { MayCome task.old.log origin }
-    requires at { IsAtStep graph.now.procedure (places_of task.old) position.place position.step.now }
+    requires at { IsAtStep graph.now.procedure (frames_of task.old) position.frame position.step.now }
     requires branch { Chooses task.old.variables.env yes (out-RStmt position.step.now.statement) }
     ensures task { IsTask graph.now.procedure task.new }
     ensures added { OnOk result ((r : Record) → IsRecordOf task.old.log at origin r → HasAddedRecord graph.now.procedure task.old r task.new) }
@@ -168,13 +168,13 @@ pub(crate) fn add(
     ensures err { OnErr result (StandsAsBefore graph.now.procedure task.old task.new) }
 {
     let number = task.log.len();
-    let depth = task.places.len();
-    let inner = inner_place(position, number, yes);
+    let depth = task.frames.len();
+    let inner = inner_frame(position, number, yes);
     push_record(alloc, task, at, origin, position.step, inner)?;
-    put_place(
-        &mut task.places,
+    put_frame(
+        &mut task.frames,
         depth.saturating_sub(1),
-        place_after(position),
+        frame_after(position),
     );
     let ends = ends_call(&task.log.records(), number);
     Ok(end_or_trim(graph, task, ends))

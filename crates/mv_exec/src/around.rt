@@ -1,14 +1,14 @@
-//! What is around the statement at a place: the record that holds it, the loops with their turns, and the records that
+//! What is around the statement at a frame: the record that holds it, the loops with their turns, and the records that
 //! last set its variables.
 
 ghost use Rattle.std.specs.Prelude.{◌≡◌, ◌↔◌, [], true, count_by, IfOk, OnOk, MatchOption};
 ghost use Rattle.std.specs.Option.{option_or};
 ghost use Rattle.mv_recorded.specs.Reading.{loop_of};
 ghost use Rattle.mv_recorded.specs.Recorded.{Site, outside};
-ghost use Rattle.mv_exec.specs.Places.{is_loop, site_in, site_of};
+ghost use Rattle.mv_exec.specs.Frames.{is_loop, site_in, site_of};
 ghost use Rattle.mv_exec.specs.Tasks.{definer_in};
 
-use crate::places::{Holder, Place, innermost};
+use crate::frames::{Frame, Holder, innermost};
 use mv_values::list::List;
 use mv_values::memory::NoMemory;
 use std::alloc::Global;
@@ -24,23 +24,23 @@ fn parent_in(holder: Holder, parent: Option<u32>) -> Option<u32>
     }
 }
 
-/// Returns the number of the record that holds the statements of the innermost place.
-fn parent_of(places: &[Place]) -> Option<u32>
-    ensures { result ≡ (site_of outside places.now).parent }
+/// Returns the number of the record that holds the statements of the innermost frame.
+fn parent_of(frames: &[Frame]) -> Option<u32>
+    ensures { result ≡ (site_of outside frames.now).parent }
 {
     let mut parent = None;
-    for place in places {
-        parent = parent_in(place.holder, parent);
+    for frame in frames {
+        parent = parent_in(frame.holder, parent);
     }
     parent
 }
 
-/// Returns the number of the record that holds the statements of a place with this holder, inside these places.
-pub(crate) fn parent_at(places: &[Place], holder: Holder) -> Option<u32>
-    ensures { result ≡ (site_in holder (site_of outside places.now)).parent }
+/// Returns the number of the record that holds the statements of a frame with this holder, inside these frames.
+pub(crate) fn parent_at(frames: &[Frame], holder: Holder) -> Option<u32>
+    ensures { result ≡ (site_in holder (site_of outside frames.now)).parent }
 {
     match holder {
-        Holder::Procedure => parent_of(places),
+        Holder::Procedure => parent_of(frames),
         Holder::Branch { record, .. } => Some(record),
         Holder::Loop { record, .. } => Some(record),
     }
@@ -61,22 +61,22 @@ fn loop_in(holder: Holder, variable: u16, found: Option<u32>) -> Option<u32>
     }
 }
 
-/// Returns the record of the FOR around the innermost place whose row a variable is.
-fn loop_around(places: &[Place], variable: u16) -> Option<u32>
-    ensures { result ≡ loop_of variable (site_of outside places.now).loops }
+/// Returns the record of the FOR around the innermost frame whose row a variable is.
+fn loop_around(frames: &[Frame], variable: u16) -> Option<u32>
+    ensures { result ≡ loop_of variable (site_of outside frames.now).loops }
 {
     let mut found = None;
-    for place in places {
-        found = loop_in(place.holder, variable, found);
+    for frame in frames {
+        found = loop_in(frame.holder, variable, found);
     }
     found
 }
 
-/// Returns the record of the FOR whose row a variable is, around a place with this holder inside these places.
-fn loop_at(places: &[Place], holder: Holder, variable: u16) -> Option<u32>
-    ensures { result ≡ loop_of variable (site_in holder (site_of outside places.now)).loops }
+/// Returns the record of the FOR whose row a variable is, around a frame with this holder inside these frames.
+fn loop_at(frames: &[Frame], holder: Holder, variable: u16) -> Option<u32>
+    ensures { result ≡ loop_of variable (site_in holder (site_of outside frames.now)).loops }
 {
-    loop_in(holder, variable, loop_around(places, variable))
+    loop_in(holder, variable, loop_around(frames, variable))
 }
 
 /// Returns the number of the record that last set a variable, other than the row of a loop.
@@ -89,17 +89,17 @@ fn last_definer(definers: &[Option<u32>], variable: u16) -> Option<u32>
     }
 }
 
-/// Returns the number of the record that last set a variable, for a statement at a place with this holder inside these
-/// places. For a loop's row it is the record of the FOR.
+/// Returns the number of the record that last set a variable, for a statement at a frame with this holder inside these
+/// frames. For a loop's row it is the record of the FOR.
 pub(crate) fn definer_of(
-    places: &[Place],
+    frames: &[Frame],
     holder: Holder,
     definers: &[Option<u32>],
     variable: u16,
 ) -> Option<u32>
-    ensures { result ≡ option_or (loop_of variable (site_in holder (site_of outside places.now)).loops) (definer_in definers.now variable) }
+    ensures { result ≡ option_or (loop_of variable (site_in holder (site_of outside frames.now)).loops) (definer_in definers.now variable) }
 {
-    match loop_at(places, holder, variable) {
+    match loop_at(frames, holder, variable) {
         Some(record) => Some(record),
         None => last_definer(definers, variable),
     }
@@ -115,16 +115,16 @@ fn is_loop(holder: Holder) -> bool
     }
 }
 
-/// Returns the number of loops around the innermost place.
-fn loops_around(places: &[Place]) -> usize
-    ensures { result ≡ count_by (λ place. is_loop place.holder) places.now }
+/// Returns the number of loops around the innermost frame.
+fn loops_around(frames: &[Frame]) -> usize
+    ensures { result ≡ count_by (λ frame. is_loop frame.holder) frames.now }
 {
-    places.iter().filter(|place| is_loop(place.holder)).count()
+    frames.iter().filter(|frame| is_loop(frame.holder)).count()
 }
 
-/// Returns the number of loops around a place with this holder inside these places.
-fn loops_at(places: &[Place], holder: Holder) -> usize {
-    let around = loops_around(places);
+/// Returns the number of loops around a frame with this holder inside these frames.
+fn loops_at(frames: &[Frame], holder: Holder) -> usize {
+    let around = loops_around(frames);
     if is_loop(holder) {
         around.saturating_add(1)
     } else {
@@ -171,11 +171,11 @@ fn is_empty(turns: &[u32]) -> bool
     }
 }
 
-/// Whether these are the turns of the loops around the innermost place, from the outside in.
-fn are_turns(places: &[Place], turns: &[u32]) -> bool
-    ensures { (result ≡ true) ↔ ((site_of outside places.now).turns ≡ turns.now) }
+/// Whether these are the turns of the loops around the innermost frame, from the outside in.
+fn are_turns(frames: &[Frame], turns: &[u32]) -> bool
+    ensures { (result ≡ true) ↔ ((site_of outside frames.now).turns ≡ turns.now) }
 {
-    let Some((outer, last)) = innermost(places) else {
+    let Some((outer, last)) = innermost(frames) else {
         return is_empty(turns);
     };
     match turns_outside(last.holder, turns) {
@@ -184,13 +184,13 @@ fn are_turns(places: &[Place], turns: &[u32]) -> bool
     }
 }
 
-/// Whether these are the turns of the loops around a place with this holder inside these places, from the outside in.
-#[tactic(auto, using(crate::proofs::Placing::turns_here, crate::proofs::Placing::turns_apart))]
-pub(crate) fn are_turns_at(places: &[Place], holder: Holder, turns: &[u32]) -> bool
-    ensures { (result ≡ true) ↔ ((site_in holder (site_of outside places.now)).turns ≡ turns.now) }
+/// Whether these are the turns of the loops around a frame with this holder inside these frames, from the outside in.
+#[tactic(auto, using(crate::proofs::Framing::turns_here, crate::proofs::Framing::turns_apart))]
+pub(crate) fn are_turns_at(frames: &[Frame], holder: Holder, turns: &[u32]) -> bool
+    ensures { (result ≡ true) ↔ ((site_in holder (site_of outside frames.now)).turns ≡ turns.now) }
 {
     match turns_outside(holder, turns) {
-        Some(left) => are_turns(places, left),
+        Some(left) => are_turns(frames, left),
         None => false,
     }
 }
@@ -205,26 +205,26 @@ fn add_turn(turns: &mut List<u32>, holder: Holder) -> Result<(), NoMemory>
     }
 }
 
-/// Returns the turns of the loops around a place with this holder inside these places, from the outside in.
+/// Returns the turns of the loops around a frame with this holder inside these frames, from the outside in.
 pub(crate) fn turns_at(
     alloc: Global,
-    places: &[Place],
+    frames: &[Frame],
     holder: Holder,
 ) -> Result<List<u32>, NoMemory>
-    ensures { IfOk result (λ turns. turns ≡ (site_in holder (site_of outside places.now)).turns) }
+    ensures { IfOk result (λ turns. turns ≡ (site_in holder (site_of outside frames.now)).turns) }
 {
-    let mut turns = turns_around(alloc, places, loops_at(places, holder))?;
+    let mut turns = turns_around(alloc, frames, loops_at(frames, holder))?;
     add_turn(&mut turns, holder)?;
     Ok(turns)
 }
 
-/// Returns the turns of the loops around the innermost place, from the outside in, with room for so many.
-fn turns_around(alloc: Global, places: &[Place], room: usize) -> Result<List<u32>, NoMemory>
-    ensures { IfOk result (λ turns. turns ≡ (site_of outside places.now).turns) }
+/// Returns the turns of the loops around the innermost frame, from the outside in, with room for so many.
+fn turns_around(alloc: Global, frames: &[Frame], room: usize) -> Result<List<u32>, NoMemory>
+    ensures { IfOk result (λ turns. turns ≡ (site_of outside frames.now).turns) }
 {
     let mut turns = List::with_room(alloc, room)?;
-    for place in places {
-        add_turn(&mut turns, place.holder)?;
+    for frame in frames {
+        add_turn(&mut turns, frame.holder)?;
     }
     Ok(turns)
 }

@@ -5,14 +5,14 @@ ghost use Rattle.mv_values.specs.declared.value.Value.{Value};
 ghost use Rattle.mv_catalog.specs.declared.resolved.ProcInfo.{ProcInfo};
 ghost use Rattle.mv_catalog.specs.declared.resolved.RStmt.{RStmt, out-RStmt};
 ghost use Rattle.mv_graph.specs.Steps.{TellsOf};
-ghost use Rattle.mv_alone.specs.declared.state.Env.{Env};
+ghost use Rattle.mv_eval.specs.declared.state.Env.{Env};
 ghost use Rattle.mv_recorded.specs.Effect.{with_slots};
 ghost use Rattle.mv_exec.specs.Env.{with_changed, room, of_slot};
 ghost use Rattle.mv_exec.specs.Moves.{after_empty_loop, after_turns};
 
 use crate::moves::{Holds, holds_in};
 use crate::variables::Variables;
-use mv_alone::state::Content;
+use mv_eval::state::Content;
 use mv_graph::graph::Step;
 use mv_record::record::Slot;
 use mv_values::copied::Copied;
@@ -54,7 +54,7 @@ fn set_all(variables: &mut Variables, changes: Vec<VariableChange>)
 }
 
 /// Makes changes, in order. On `NoMemory` the variables are unchanged.
-#[tactic(auto, using(crate::proofs::Changing::padded_changes, mv_alone::proofs::Putting::padded_long))]
+#[tactic(auto, using(crate::proofs::Changing::padded_changes, mv_eval::proofs::Putting::padded_long))]
 pub(crate) fn make_changes(
     variables: &mut Variables,
     changes: Vec<VariableChange>,

@@ -8,15 +8,15 @@ ghost use Rattle.mv_record.specs.Runs.{writes_in};
 ghost use Rattle.mv_graph.specs.Nodes.{IsSound};
 ghost use Rattle.mv_effect.specs.Logging.{IsBlank};
 ghost use Rattle.mv_effect.specs.Looking.{AskedFor, OnlyAsks};
-ghost use Rattle.mv_exec.specs.Ahead.{ForeseesLeft};
-ghost use Rattle.mv_exec.specs.Places.{IsAtStep};
-ghost use Rattle.mv_exec.specs.Recording.{IsAtRest, foreseen};
+ghost use Rattle.mv_exec.specs.Ahead.{PeeksLeft};
+ghost use Rattle.mv_exec.specs.Frames.{IsAtStep};
+ghost use Rattle.mv_exec.specs.Recording.{IsAtRest, peeked};
 ghost use Rattle.mv_exec.specs.Running.{preds_ahead, stepped};
 ghost use Rattle.mv_exec.specs.Steps.{HasExecuted};
-ghost use Rattle.mv_exec.specs.Tasks.{places_of, IsTask, StandsAsBefore};
+ghost use Rattle.mv_exec.specs.Tasks.{frames_of, IsTask, StandsAsBefore};
 
 use crate::add::add;
-use crate::ahead::come_to;
+use crate::ahead::advance;
 use crate::position::Position;
 use crate::recording::{OpenStatement, Origin};
 use crate::step::Stepped;
@@ -40,8 +40,8 @@ fn execute<'s, V: View<'s>>(
     requires task { IsTask graph.now.procedure task.old }
     requires live { task.old.ended ≡ false }
     requires blank { IsBlank task.old.log }
-    requires at { IsAtStep graph.now.procedure (places_of task.old) position.place position.step.now }
-    requires next { ForeseesLeft graph.now.procedure task.old (Some (foreseen task.old.log at)) }
+    requires at { IsAtStep graph.now.procedure (frames_of task.old) position.frame position.step.now }
+    requires next { PeeksLeft graph.now.procedure task.old (Some (peeked task.old.log at)) }
     requires found { task.old.variables.env.found < 2 ^ 16 }
     requires database { IsDatabaseOf graph.now.tables (V.sight view.old).database }
     requires keys { KeysStand graph.now.tables (applied (writes_in task.old.log.records) (V.sight view.old).database) }
@@ -101,6 +101,6 @@ pub(crate) fn execute_next<'s, V: View<'s>>(
     ensures view { OnlyAsks (V.sight view.old) (V.sight view.new) result }
     ensures bounded { AskedFor (preds_ahead graph.now (V.sight view.old).database task.old) (writes_in task.old.log.records) (V.sight view.old) (V.sight view.new) }
 {
-    let (at, position) = come_to(alloc, graph, task)?;
+    let (at, position) = advance(alloc, graph, task)?;
     execute(alloc, graph, task, at, position, view)
 }

@@ -6,13 +6,13 @@ ghost use Rattle.mv_catalog.specs.declared.resolved.RStmt.{RStmt, out-RStmt};
 ghost use Rattle.mv_graph.specs.Steps.{TellsOf};
 ghost use Rattle.mv_effect.specs.Choosing.{Chooses};
 ghost use Rattle.mv_exec.specs.Holding.{holds_in, some_branch, some_loop};
-ghost use Rattle.mv_exec.specs.Moves.{inner_places, place_after};
+ghost use Rattle.mv_exec.specs.Moves.{inner_frames, frame_after};
 
-use crate::places::{Holder, Place};
+use crate::frames::{Frame, Holder};
 use crate::position::Position;
-use mv_alone::expr::holds;
-use mv_alone::state::{Env, Stop};
 use mv_catalog::resolved::RStmt;
+use mv_eval::expr::holds;
+use mv_eval::state::{Env, Stop};
 use mv_values::memory::NoMemory;
 use std::alloc::Global;
 
@@ -50,12 +50,12 @@ pub(crate) fn holds_in(statement: &RStmt) -> Holds
     }
 }
 
-/// Returns the place before the first statement of a branch, or none if it has no statements.
-fn branch_place(record: u32, yes: bool, first: usize, some: bool) -> Option<Place>
+/// Returns the frame before the first statement of a branch, or none if it has no statements.
+fn branch_frame(record: u32, yes: bool, first: usize, some: bool) -> Option<Frame>
     ensures { option_to_list result ≡ some_branch «record» yes first some }
 {
     if some {
-        return Some(Place {
+        return Some(Frame {
             holder: Holder::Branch { record, yes },
             first,
             at: 0,
@@ -65,16 +65,16 @@ fn branch_place(record: u32, yes: bool, first: usize, some: bool) -> Option<Plac
     None
 }
 
-/// Returns the place before the first turn of a loop, or none if its body has no statements. `size` counts those with
+/// Returns the frame before the first turn of a loop, or none if its body has no statements. `size` counts those with
 /// what they hold.
-fn loop_place(record: u32, row: u16, first: usize, size: u16) -> Option<Place>
+fn loop_frame(record: u32, row: u16, first: usize, size: u16) -> Option<Frame>
     requires { first < 2 ^ 17 }
     ensures { option_to_list result ≡ some_loop «record» row first size }
 {
     if size == 0 {
         return None;
     }
-    Some(Place {
+    Some(Frame {
         holder: Holder::Loop {
             record,
             row,
@@ -86,21 +86,21 @@ fn loop_place(record: u32, row: u16, first: usize, size: u16) -> Option<Place>
     })
 }
 
-/// Returns the place inside a statement whose record has this number. An IF takes the given branch.
-pub(crate) fn inner_place(position: Position<'_>, record: u32, yes: bool) -> Option<Place>
-    requires { position.place.number < 2 ^ 16 }
-    ensures { (proc : ProcInfo) (s : RStmt) → TellsOf proc s position.entry.step.now → option_to_list result ≡ inner_places «record» position.entry.place.number yes (out-RStmt s) }
+/// Returns the frame inside a statement whose record has this number. An IF takes the given branch.
+pub(crate) fn inner_frame(position: Position<'_>, record: u32, yes: bool) -> Option<Frame>
+    requires { position.frame.number < 2 ^ 16 }
+    ensures { (proc : ProcInfo) (s : RStmt) → TellsOf proc s position.entry.step.now → option_to_list result ≡ inner_frames «record» position.entry.frame.number yes (out-RStmt s) }
 {
-    let number = position.place.number;
+    let number = position.frame.number;
     let step = position.step;
     match holds_in(&step.statement) {
         Holds::Nothing => None,
-        Holds::Body { row } => loop_place(record, row, number + 1, step.size.saturating_sub(1)),
+        Holds::Body { row } => loop_frame(record, row, number + 1, step.size.saturating_sub(1)),
         Holds::Branches => {
             if yes {
-                branch_place(record, true, number + 1, 1 < step.skip)
+                branch_frame(record, true, number + 1, 1 < step.skip)
             } else {
-                branch_place(
+                branch_frame(
                     record,
                     false,
                     number + step.skip as usize,
@@ -111,17 +111,17 @@ pub(crate) fn inner_place(position: Position<'_>, record: u32, yes: bool) -> Opt
     }
 }
 
-/// Returns the place after a statement.
-pub(crate) fn place_after(position: Position<'_>) -> Place
-    requires number { position.place.number < 2 ^ 16 }
-    requires at { position.place.at < 2 ^ 16 }
-    ensures { result ≡ place_after position.entry.step.now.size position.entry.place }
+/// Returns the frame after a statement.
+pub(crate) fn frame_after(position: Position<'_>) -> Frame
+    requires number { position.frame.number < 2 ^ 16 }
+    requires at { position.frame.at < 2 ^ 16 }
+    ensures { result ≡ frame_after position.entry.step.now.size position.entry.frame }
 {
-    let place = position.place;
-    Place {
-        holder: place.holder,
-        first: place.first,
-        at: place.at + 1,
-        number: place.number + position.step.size as usize,
+    let frame = position.frame;
+    Frame {
+        holder: frame.holder,
+        first: frame.first,
+        at: frame.at + 1,
+        number: frame.number + position.step.size as usize,
     }
 }

@@ -3,55 +3,55 @@
 ghost use Rattle.std.specs.Prelude.{◌≡◌, true, false};
 ghost use Rattle.mv_graph.specs.Nodes.{IsGraph};
 ghost use Rattle.mv_exec.specs.Ahead.{IsNextStep};
-ghost use Rattle.mv_exec.specs.Places.{has_turn, next_turn, place_due};
+ghost use Rattle.mv_exec.specs.Frames.{has_turn, next_turn, frame_due};
 ghost use Rattle.mv_exec.specs.Tasks.{IsTask};
 
-use crate::places::{Holder, Place, innermost, is_before_end, rows_of, step_at};
+use crate::frames::{Frame, Holder, innermost, is_before_end, rows_of, step_at};
 use crate::task::Task;
 use mv_graph::graph::{Graph, Step};
 use mv_log::records::Records;
 
-/// The step of the next statement of a call, and its place. `turn` tells whether a loop's turn begins with it.
+/// The step of the next statement of a call, and its frame. `turn` tells whether a loop's turn begins with it.
 #[derive(Clone, Copy)]
 pub(crate) struct Position<'g> {
-    pub(crate) place: Place,
+    pub(crate) frame: Frame,
     pub(crate) turn: bool,
     pub(crate) step: &'g Step,
 }
 
-/// Returns the place before the first statement of the next turn.
-fn place_in_next_turn(records: &Records<'_>, place: Place) -> Place
-    requires { has_turn records.now place.holder ≡ true }
-    ensures { result ≡ next_turn place }
+/// Returns the frame before the first statement of the next turn.
+fn frame_in_next_turn(records: &Records<'_>, frame: Frame) -> Frame
+    requires { has_turn records.now frame.holder ≡ true }
+    ensures { result ≡ next_turn frame }
 {
-    let Holder::Loop { record, row, turn } = place.holder else {
-        return place;
+    let Holder::Loop { record, row, turn } = frame.holder else {
+        return frame;
     };
     if rows_of(records, record).len() <= turn {
-        return place;
+        return frame;
     }
     let holder = Holder::Loop {
         record,
         row,
         turn: turn + 1,
     };
-    Place {
+    Frame {
         holder,
-        first: place.first,
+        first: frame.first,
         at: 0,
-        number: place.first,
+        number: frame.first,
     }
 }
 
-/// Returns the place itself, or the one in the next turn if a turn is due.
-fn place_due(records: &Records<'_>, place: Place, turn: bool) -> Place
-    requires { turn ≡ true → has_turn records.now place.holder ≡ true }
-    ensures { result ≡ place_due turn place }
+/// Returns the frame itself, or the one in the next turn if a turn is due.
+fn frame_due(records: &Records<'_>, frame: Frame, turn: bool) -> Frame
+    requires { turn ≡ true → has_turn records.now frame.holder ≡ true }
+    ensures { result ≡ frame_due turn frame }
 {
     if turn {
-        place_in_next_turn(records, place)
+        frame_in_next_turn(records, frame)
     } else {
-        place
+        frame
     }
 }
 
@@ -60,15 +60,15 @@ pub(crate) fn next_position<'g>(graph: &'g Graph, task: &Task) -> Position<'g>
     requires nodes { IsGraph graph.now }
     requires task { IsTask graph.now.procedure task.now }
     requires live { task.now.ended ≡ false }
-    ensures { IsNextStep graph.now.procedure task.now result.place result.step.now result.turn }
+    ensures { IsNextStep graph.now.procedure task.now result.frame result.step.now result.turn }
 {
-    let Some((_, last)) = innermost(task.places.as_slice()) else {
+    let Some((_, last)) = innermost(task.frames.as_slice()) else {
         unreachable!();
     };
     let turn = !is_before_end(graph, last);
-    let place = place_due(&task.log.records(), last, turn);
-    let Some(step) = step_at(graph, place.number) else {
+    let frame = frame_due(&task.log.records(), last, turn);
+    let Some(step) = step_at(graph, frame.number) else {
         unreachable!();
     };
-    Position { place, turn, step }
+    Position { frame, turn, step }
 }

@@ -5,13 +5,13 @@ ghost use Rattle.std.specs.Option.{is_some, option_or};
 ghost use Rattle.mv_record.specs.declared.record.Record.{Record};
 ghost use Rattle.mv_recorded.specs.Reading.{loop_of};
 ghost use Rattle.mv_recorded.specs.Recorded.{Site, outside};
-ghost use Rattle.mv_exec.specs.Places.{site_in, site_of};
-ghost use Rattle.mv_exec.specs.Recording.{opened, foreseen, closed, IsRecordOf, MayCome};
+ghost use Rattle.mv_exec.specs.Frames.{site_in, site_of};
+ghost use Rattle.mv_exec.specs.Recording.{opened, peeked, closed, IsRecordOf, MayCome};
 ghost use Rattle.mv_exec.specs.Ahead.{ahead_at};
 ghost use Rattle.mv_exec.specs.Tasks.{definer_in};
 
 use crate::around::{definer_of, parent_at, turn_number};
-use crate::places::{Holder, Place};
+use crate::frames::{Frame, Holder};
 use mv_log::log::Log;
 use mv_log::records::Records;
 use mv_log::var_read::VarRead;
@@ -44,14 +44,14 @@ fn push_turn(log: &mut Log, holder: Holder) -> Result<(), NoMemory>
     }
 }
 
-/// Adds the turns of the loops around the innermost place to those of the open statement, from the outside in.
-fn push_turns(log: &mut Log, places: &[Place]) -> Result<(), NoMemory>
+/// Adds the turns of the loops around the innermost frame to those of the open statement, from the outside in.
+fn push_turns(log: &mut Log, frames: &[Frame]) -> Result<(), NoMemory>
     requires { log.old.turns ≡ [] }
-    ensures ok { OnOk result (log.new ≡ opened log.old (site_of outside places.now).turns log.old.reads) }
+    ensures ok { OnOk result (log.new ≡ opened log.old (site_of outside frames.now).turns log.old.reads) }
     ensures rest { log.new ≡ opened log.old log.new.turns log.old.reads }
 {
-    for place in places {
-        push_turn(log, place.holder)?;
+    for frame in frames {
+        push_turn(log, frame.holder)?;
     }
     Ok(())
 }
@@ -59,43 +59,43 @@ fn push_turns(log: &mut Log, places: &[Place]) -> Result<(), NoMemory>
 /// Adds variables with their definers to what the open statement reads.
 fn push_reads(
     log: &mut Log,
-    places: &[Place],
+    frames: &[Frame],
     holder: Holder,
     definers: &[Option<u32>],
     variables: &[u16],
 ) -> Result<(), NoMemory>
     requires { log.old.reads ≡ [] }
-    ensures ok { OnOk result (log.new ≡ opened log.old log.old.turns (map (λ x. record { slot = x; definer = option_or (loop_of x (site_in holder (site_of outside places.now)).loops) (definer_in definers.now x) }) variables.now)) }
+    ensures ok { OnOk result (log.new ≡ opened log.old log.old.turns (map (λ x. record { slot = x; definer = option_or (loop_of x (site_in holder (site_of outside frames.now)).loops) (definer_in definers.now x) }) variables.now)) }
     ensures rest { log.new ≡ opened log.old log.old.turns log.new.reads }
 {
     for slot in variables {
-        let definer = definer_of(places, holder, definers, *slot);
+        let definer = definer_of(frames, holder, definers, *slot);
         log.push_read(VarRead::of(*slot, definer))?;
     }
     Ok(())
 }
 
-/// Begins the record of the statement at a place inside these, which reads these variables: the turns of the loops
+/// Begins the record of the statement at a frame inside these, which reads these variables: the turns of the loops
 /// around it and its reads are then those of the open statement.
 pub(crate) fn begin_record(
     log: &mut Log,
-    places: &[Place],
-    place: Place,
+    frames: &[Frame],
+    frame: Frame,
     definers: &[Option<u32>],
     variables: &[u16],
 ) -> Result<OpenStatement, NoMemory>
     requires turns { log.old.turns ≡ [] }
     requires reads { log.old.reads ≡ [] }
-    requires small { place.number < 2 ^ 16 }
-    ensures ok { IfOk result (λ at. foreseen log.new at ≡ ahead_at definers.now (site_in place.holder (site_of outside places.now)) place.number variables.now) }
+    requires small { frame.number < 2 ^ 16 }
+    ensures ok { IfOk result (λ at. peeked log.new at ≡ ahead_at definers.now (site_in frame.holder (site_of outside frames.now)) frame.number variables.now) }
     ensures rest { log.new ≡ opened log.old log.new.turns log.new.reads }
 {
-    push_turns(log, places)?;
-    push_turn(log, place.holder)?;
-    push_reads(log, places, place.holder, definers, variables)?;
+    push_turns(log, frames)?;
+    push_turn(log, frame.holder)?;
+    push_reads(log, frames, frame.holder, definers, variables)?;
     Ok(OpenStatement {
-        statement: place.number as u16,
-        parent: parent_at(places, place.holder),
+        statement: frame.number as u16,
+        parent: parent_at(frames, frame.holder),
     })
 }
 

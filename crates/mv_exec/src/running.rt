@@ -15,7 +15,7 @@ ghost use Rattle.mv_exec.specs.Steps.{HasAddedNext};
 ghost use Rattle.mv_exec.specs.Tasks.{IsTask, StandsAsBefore};
 
 use crate::add::add;
-use crate::ahead::{Ahead, come_to, foresee};
+use crate::ahead::{Ahead, advance, peek_next};
 use crate::execute::execute_next;
 use crate::moves::branch;
 use crate::recording::Origin;
@@ -53,7 +53,7 @@ pub fn peek<'a>(graph: &'a Graph, task: &'a Task) -> Option<Ahead<'a>>
     ensures next { IsAhead graph.now task.now result }
     ensures ended { (task.now.ended ≡ true) ↔ (result ≡ None) }
 {
-    foresee(graph, task)
+    peek_next(graph, task)
 }
 
 /// Adds a record of the run before the repair as the record of the next statement. On `NoMemory` only the open statement
@@ -76,7 +76,7 @@ fn adopt_next(alloc: Global, graph: &Graph, task: &mut Task, old: u32) -> Result
     ensures kept { OnOk result (task.new.log.kept ≡ old + 1) }
     ensures err { OnErr result (StandsAsBefore graph.now.procedure task.old task.new) }
 {
-    let (at, position) = come_to(alloc, graph, task)?;
+    let (at, position) = advance(alloc, graph, task)?;
     let yes = branch(alloc, &position.step.statement, task.variables.env())?;
     add(alloc, graph, task, at, Origin::Kept(old), position, yes)
 }

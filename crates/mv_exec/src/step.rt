@@ -2,7 +2,7 @@
 
 ghost use Rattle.std.specs.Prelude.{◌≡◌, List, [], ◌∷◌, ◌++◌, IfOk, OnOk, OnErr, MatchOption};
 ghost use Rattle.mv_values.specs.declared.value.Value.{Value};
-ghost use Rattle.mv_alone.specs.declared.state.Env.{Env};
+ghost use Rattle.mv_eval.specs.declared.state.Env.{Env};
 ghost use Rattle.mv_catalog.specs.declared.resolved.ProcInfo.{ProcInfo};
 ghost use Rattle.mv_catalog.specs.declared.resolved.RStmt.{RStmt, out-RStmt};
 ghost use Rattle.mv_graph.specs.Steps.{TellsOf};
@@ -13,7 +13,7 @@ ghost use Rattle.mv_exec.specs.Running.{stepped};
 
 use crate::changes::{VariableChange, changes_of, make_changes, row_of_empty, set_slots};
 use crate::variables::Variables;
-use mv_alone::state::Content;
+use mv_eval::state::Content;
 use mv_graph::graph::Step;
 use mv_log::record_ref::RecordRef;
 use mv_values::copied::Copied;

@@ -6,19 +6,19 @@ ghost use Rattle.mv_values.specs.declared.calls.Call.{Call};
 ghost use Rattle.mv_values.specs.Tables.{Tables};
 ghost use Rattle.mv_catalog.specs.declared.resolved.ProcInfo.{ProcInfo};
 ghost use Rattle.mv_catalog.specs.declared.resolved.RStmt.{RStmt};
-ghost use Rattle.mv_alone.specs.TableAfter.{entered};
-ghost use Rattle.mv_alone.specs.declared.state.Env.{Env};
+ghost use Rattle.mv_eval.specs.TableAfter.{entered};
+ghost use Rattle.mv_eval.specs.declared.state.Env.{Env};
 ghost use Rattle.mv_recorded.specs.Recorded.{recorded};
 ghost use Rattle.mv_log.specs.Logged.{empty as no_records};
 ghost use Rattle.mv_graph.specs.declared.graph.Graph.{Graph};
 ghost use Rattle.mv_exec.specs.Env.{at_beginning};
 ghost use Rattle.mv_exec.specs.Running.{IsRunning, IsRunningOn, IsTaskOf, IsTaskOn};
-ghost use Rattle.mv_exec.specs.Tasks.{first_place, none_in, run_of, IsTask, BeginsCall, fresh_task as fresh};
+ghost use Rattle.mv_exec.specs.Tasks.{first_frame, none_in, run_of, IsTask, BeginsCall, fresh_task as fresh};
 
-use crate::places::{Holder, Place};
+use crate::frames::{Frame, Holder};
 use crate::variables::Variables;
-use mv_alone::enter::variables_for;
 use mv_catalog::resolved::{ProcInfo, RStmt};
+use mv_eval::enter::variables_for;
 use mv_log::log::Log;
 use mv_log::records::Records;
 use mv_undo::undo::Undo;
@@ -38,9 +38,9 @@ pub struct Task {
     pub(crate) undo: Undo,
     /// For each variable the number of the record that last set it.
     pub(crate) definers: List<Option<u32>>,
-    /// The position of the call, from the outside in. Each place but the first lies in the statement just before the
-    /// place around it.
-    pub(crate) places: List<Place>,
+    /// The position of the call, from the outside in. Each frame but the first lies in the statement just before the
+    /// frame around it.
+    pub(crate) frames: List<Frame>,
     /// Whether no statement is left.
     pub(crate) ended: bool,
     /// Whether the procedure has no statements.
@@ -57,18 +57,18 @@ impl Drop for Task {
             executed: _,
             undo: _,
             definers: _,
-            places: _,
+            frames: _,
             ended: _,
             empty: _,
         } = self;
     }
 }
 
-/// Returns the place before the first statement of a procedure.
-fn before_all() -> Place
-    ensures { result ≡ first_place }
+/// Returns the frame before the first statement of a procedure.
+fn before_all() -> Frame
+    ensures { result ≡ first_frame }
 {
-    Place {
+    Frame {
         holder: Holder::Procedure,
         first: 1,
         at: 0,
@@ -92,11 +92,11 @@ fn fresh_task(
     parameters: usize,
     variables: Variables,
     log: Log,
-    places: List<Place>,
+    frames: List<Frame>,
     empty: bool,
 ) -> Task
     requires log { log ≡ no_records }
-    requires places { places ≡ first_place ∷ [] }
+    requires frames { frames ≡ first_frame ∷ [] }
     requires beginning { variables ≡ at_beginning variables.initial }
     ensures { result ≡ fresh parameters variables.initial no_records empty }
 {
@@ -107,20 +107,20 @@ fn fresh_task(
         executed: 0,
         undo: Undo::new(alloc),
         definers: List::new(alloc),
-        places,
+        frames,
         ended: empty,
         empty,
     }
 }
 
-/// Drops all places except the one before the first statement of the procedure.
+/// Drops all frames except the one before the first statement of the procedure.
 #[tactic(auto, using(crate::proofs::Beginning::only_first))]
-fn go_back(places: &mut List<Place>)
-    ensures { 0 < length places.old → places.new ≡ first_place ∷ [] }
+fn go_back(frames: &mut List<Frame>)
+    ensures { 0 < length frames.old → frames.new ≡ first_frame ∷ [] }
 {
-    if places.len() > 0 {
-        places.truncate(1);
-        places.set(0, before_all());
+    if frames.len() > 0 {
+        frames.truncate(1);
+        frames.set(0, before_all());
     }
 }
 
@@ -144,10 +144,10 @@ impl Task {
         let env = variables_for(alloc, procedure, call)?;
         let variables = Variables::new(alloc, env)?;
         let empty = is_empty(procedure.body.as_slice());
-        let mut places = List::new(alloc);
-        places.push(before_all())?;
+        let mut frames = List::new(alloc);
+        frames.push(before_all())?;
         let parameters = call.arguments.len();
-        let task = fresh_task(alloc, parameters, variables, log, places, empty);
+        let task = fresh_task(alloc, parameters, variables, log, frames, empty);
         Ok(task)
     }
 
@@ -197,7 +197,7 @@ impl Task {
             executed: _,
             undo: _,
             definers: _,
-            places: _,
+            frames: _,
             ended: _,
             empty: _,
         } = self;
@@ -209,13 +209,13 @@ impl Task {
     fn begin_again(&mut self)
         ensures log { self.new.log ≡ self.old.log }
         ensures executed { self.new.executed ≡ 0 }
-        ensures back { 0 < length self.old.places → self.new ≡ fresh self.old.parameters self.old.variables.initial self.old.log self.old.empty }
+        ensures back { 0 < length self.old.frames → self.new ≡ fresh self.old.parameters self.old.variables.initial self.old.log self.old.empty }
     {
         self.variables.begin_again();
         self.executed = 0;
         self.undo.drop_from(0);
         self.definers.truncate(0);
-        go_back(&mut self.places);
+        go_back(&mut self.frames);
         self.ended = self.empty;
     }
 

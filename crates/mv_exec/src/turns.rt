@@ -1,14 +1,14 @@
 //! The turns of loops.
 
 ghost use Rattle.std.specs.Prelude.{◌≡◌, ◌++◌, ◌∷◌, [], List, OnOk, OnErr};
-ghost use Rattle.mv_exec.specs.Places.{with_next_row};
+ghost use Rattle.mv_exec.specs.Frames.{with_next_row};
 ghost use Rattle.mv_exec.specs.Tasks.{in_turn_at, task_at};
-ghost use Rattle.mv_exec.specs.declared.places.Place.{Place};
+ghost use Rattle.mv_exec.specs.declared.frames.Frame.{Frame};
 
-use crate::places::{Holder, Place, innermost, rows_of};
+use crate::frames::{Frame, Holder, innermost, rows_of};
 use crate::task::Task;
 use crate::variables::Variables;
-use mv_alone::state::Content;
+use mv_eval::state::Content;
 use mv_log::records::Records;
 use mv_values::copied::Copied;
 use mv_values::list::List;
@@ -34,42 +34,42 @@ fn set_row(
     variables.set(row, Content::Turn(values.copy(alloc)?))
 }
 
-/// Replaces the innermost place.
-fn set_innermost(places: &mut List<Place>, place: Place)
-    ensures { (outer : List Place) (p : Place) → places.old ≡ outer ++ p ∷ [] → places.new ≡ outer ++ place ∷ [] }
+/// Replaces the innermost frame.
+fn set_innermost(frames: &mut List<Frame>, frame: Frame)
+    ensures { (outer : List Frame) (p : Frame) → frames.old ≡ outer ++ p ∷ [] → frames.new ≡ outer ++ frame ∷ [] }
 {
-    if let Some(last) = places.len().checked_sub(1) {
-        places.set(last, place);
+    if let Some(last) = frames.len().checked_sub(1) {
+        frames.set(last, frame);
     }
 }
 
-/// Begins the next turn of the loop at the innermost place. It sets the loop's row, and moves the call to the place in
+/// Begins the next turn of the loop at the innermost frame. It sets the loop's row, and moves the call to the frame in
 /// that turn. On `NoMemory` the call is unchanged.
-fn begin_turn(alloc: Global, task: &mut Task, place: Place) -> Result<(), NoMemory>
-    ensures ok { OnOk result ((outer : List Place) (p : Place) → task.old.places ≡ outer ++ p ∷ [] → task.new ≡ in_turn_at task.old outer p place) }
+fn begin_turn(alloc: Global, task: &mut Task, frame: Frame) -> Result<(), NoMemory>
+    ensures ok { OnOk result ((outer : List Frame) (p : Frame) → task.old.frames ≡ outer ++ p ∷ [] → task.new ≡ in_turn_at task.old outer p frame) }
     ensures err { OnErr result (task.new ≡ task.old) }
 {
-    let Some((_, last)) = innermost(task.places.as_slice()) else {
+    let Some((_, last)) = innermost(task.frames.as_slice()) else {
         return Ok(());
     };
     set_row(alloc, &mut task.variables, &task.log.records(), last.holder)?;
-    set_innermost(&mut task.places, place);
+    set_innermost(&mut task.frames, frame);
     Ok(())
 }
 
-/// Moves a call to the place at which it continues. If a turn begins there, the loop's row is set. On `NoMemory` the
+/// Moves a call to the frame at which it continues. If a turn begins there, the loop's row is set. On `NoMemory` the
 /// call is unchanged.
-pub(crate) fn settle(
+pub(crate) fn enter_frame(
     alloc: Global,
     task: &mut Task,
-    place: Place,
+    frame: Frame,
     turn: bool,
 ) -> Result<(), NoMemory>
-    ensures ok { OnOk result ((outer : List Place) (p : Place) → task.old.places ≡ outer ++ p ∷ [] → task.new ≡ task_at task.old outer p place turn) }
+    ensures ok { OnOk result ((outer : List Frame) (p : Frame) → task.old.frames ≡ outer ++ p ∷ [] → task.new ≡ task_at task.old outer p frame turn) }
     ensures err { OnErr result (task.new ≡ task.old) }
 {
     if turn {
-        begin_turn(alloc, task, place)
+        begin_turn(alloc, task, frame)
     } else {
         Ok(())
     }

@@ -1,12 +1,12 @@
 //! The variables of a running call. What they held at the beginning can be restored.
 
 ghost use Rattle.std.specs.Prelude.{◌≡◌, ◌<◌, ◌≤◌, List, Some, None, length, slice_get, slice_set, take, IfOk, OnOk, OnErr};
-ghost use Rattle.mv_alone.specs.declared.state.Content.{Content};
-ghost use Rattle.mv_alone.specs.Env.{padded, with_held};
+ghost use Rattle.mv_eval.specs.declared.state.Content.{Content};
+ghost use Rattle.mv_eval.specs.Env.{padded, with_held};
 ghost use Rattle.mv_exec.specs.Env.{at_beginning, restored, is_unset, set_back, AreNone};
 
-use mv_alone::env::pad;
-use mv_alone::state::{Content, Env};
+use mv_eval::env::pad;
+use mv_eval::state::{Content, Env};
 use mv_values::list::List;
 use mv_values::memory::NoMemory;
 use std::alloc::Global;
@@ -137,7 +137,7 @@ impl Variables {
 
     /// Sets what a variable holds. It allocates memory only if there is no such variable yet. On `NoMemory` the
     /// variables are unchanged.
-    #[tactic(auto, using(mv_alone::proofs::Putting::put_padded, mv_alone::proofs::Putting::padded_long))]
+    #[tactic(auto, using(mv_eval::proofs::Putting::put_padded, mv_eval::proofs::Putting::padded_long))]
     pub(crate) fn set(&mut self, variable: u16, what: Content) -> Result<(), NoMemory>
         ensures ok { OnOk result (self.new ≡ (let was = self.old in record was { env = with_held was.env variable what })) }
         ensures err { OnErr result (self.new ≡ self.old) }

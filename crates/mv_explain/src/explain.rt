@@ -1,9 +1,9 @@
 //! Why the repairs of a journal executed the records that they did.
 
 ghost use Rattle.std.specs.Prelude.{◌≡◌, ◌<◌, ◌^◌, ◌++◌, length, OnOk};
-ghost use Rattle.mv_lawful.specs.Work.{records_at};
-ghost use Rattle.mv_script.specs.Scripts.{IsScript, work_of};
-ghost use Rattle.mv_core.specs.Books.{Booked, work_in, Made};
+ghost use Rattle.mv_lawful.specs.Batch.{records_at};
+ghost use Rattle.mv_script.specs.Scripts.{IsCompiledScript, batch_of};
+ghost use Rattle.mv_core.specs.Books.{Booked, batch_in, Made};
 ghost use Rattle.mv_core.specs.Cores.{HasRunWhole};
 ghost use Rattle.mv_why.specs.Causes.{changes_since};
 ghost use Rattle.mv_why.specs.Laws.{AreFullRuns};
@@ -15,7 +15,7 @@ use mv_core::drive::DriveFault;
 use mv_core::engine::Core;
 use mv_journal::event::Event;
 use mv_log::records::Records;
-use mv_script::script::Script;
+use mv_script::script::CompiledScript;
 use mv_values::list::List;
 use mv_values::memory::NoMemory;
 use mv_values::schema::TableInfo;
@@ -27,7 +27,7 @@ fn records_after<'c>(core: &'c Core, event: &Event, call: u32) -> Records<'c>
     requires made { (old : Booked) × Made event.now old core.now.book }
     requires repair { IsRepair event.now call }
     requires whole { HasRunWhole event.now core.now }
-    ensures { (old : Booked) → Made event.now old core.now.book → result ≡ records_at (work_in old) old.course.order (length old.course.order) call }
+    ensures { (old : Booked) → Made event.now old core.now.book → result ≡ records_at (batch_in old) old.schedule.order (length old.schedule.order) call }
 {
     match event {
         Event::X(_) => core.last_records(),
@@ -70,7 +70,7 @@ fn write_repair_event(
     n: u32,
     text: &mut List<u8>,
 ) -> Result<(), DriveFault>
-    requires script { IsScript core.old.book.script }
+    requires script { IsCompiledScript core.old.book.script }
     requires repair { IsRepair event.now call }
     ensures { TellsEvent tables.now event.now n core.old.book core.new.book text.old text.new result }
 {
@@ -93,7 +93,7 @@ fn write_event(
     n: u32,
     text: &mut List<u8>,
 ) -> Result<(), DriveFault>
-    requires { IsScript core.old.book.script }
+    requires { IsCompiledScript core.old.book.script }
     ensures { TellsEvent tables.now event.now n core.old.book core.new.book text.old text.new result }
 {
     match event {
@@ -112,7 +112,7 @@ fn write_events(
     events: &[Event],
     text: &mut List<u8>,
 ) -> Result<(), DriveFault>
-    requires script { IsScript core.old.book.script }
+    requires script { IsCompiledScript core.old.book.script }
     requires few { length events.now < 2 ^ 32 }
     ensures { TellsEvents tables.now events.now core.old.book core.new.book text.old text.new result }
 {
@@ -129,13 +129,13 @@ fn write_events(
 /// out. Costs what `replay` does, and for each repair a whole run of the call and what `causes` costs.
 pub fn explain(
     alloc: Global,
-    script: Script,
+    script: CompiledScript,
     tables: &[TableInfo],
     events: &[Event],
 ) -> Result<List<u8>, DriveFault>
-    requires script { IsScript script }
+    requires script { IsCompiledScript script }
     requires few { length events.now < 2 ^ 32 }
-    ensures { HasExplained tables.now (work_of script) events.now result }
+    ensures { HasExplained tables.now (batch_of script) events.now result }
 {
     let mut core = Core::new(alloc, script)?;
     let mut text = List::new(alloc);

@@ -14,28 +14,28 @@ use Rattle.mv_grace.proofs.grace.Grace.TheSendSync as grace
 use Rattle.mv_shards.proofs.ledger.Ledger.TheSendSync as ledger
 use Rattle.mv_shards.proofs.shards.Shards.TheSendSync as shards
 use Rattle.mv_core.proofs.Crossing.{book_send, shared_sync}
-use Rattle.mv_gate.specs.contracts.desk.Desk as Desk
-use Rattle.mv_gate.specs.contracts.desk.Desk.TheInside as Inside
-use Rattle.mv_gate.proofs.crowd.Crowd.TheSendSync as crowd
-use Rattle.mv_gate.specs.contracts.guarded.Guarded as Guarded
+use Rattle.mv_gate.specs.contracts.scheduler.Scheduler as Scheduler
+use Rattle.mv_gate.specs.contracts.scheduler.Scheduler.TheInside as Inside
+use Rattle.mv_gate.proofs.reader_pins.ReaderPins.TheSendSync as reader_pins
+use Rattle.mv_gate.specs.contracts.state.GateState as GateState
 use Rattle.mv_gate.specs.contracts.gate.Gate as Gate
 
 -- what the lock guards
-desk_send : (N : RattleType) (m : Ghosts N.Denot) (w : Words N.Denot) → IsSend (Desk.the_row N m w)
-desk_send N m w =
+scheduler_send : (N : RattleType) (m : Ghosts N.Denot) (w : Words N.Denot) → IsSend (Scheduler.the_row N m w)
+scheduler_send N m w =
     view_send (Inside.the_row N m w) _ _ _ _
     (recorded_send (Inside.the_field N m w).row _ _ (Inside.the_type N m w).to_one
     (struct_send (shape (Inside.the_type N m w)) (book_send, (ledger.the_send N m w, (search (list.the_send, std.crosses, sendable) depth 40, tt)))))
 
-guarded_send : (N : RattleType) (m : Ghosts N.Denot) (w : Words N.Denot) → IsSend (Guarded.the_row N m w)
-guarded_send N m w =
-    recorded_send (Guarded.the_field N m w).row _ _ (Guarded.the_type N m w).to_one
-    (struct_send (shape (Guarded.the_type N m w)) (desk_send N m w, (crowd.the_field_send N m w, (search (std.crosses, sendable) depth 40, tt))))
+state_send : (N : RattleType) (m : Ghosts N.Denot) (w : Words N.Denot) → IsSend (GateState.the_row N m w)
+state_send N m w =
+    recorded_send (GateState.the_field N m w).row _ _ (GateState.the_type N m w).to_one
+    (struct_send (shape (GateState.the_type N m w)) (scheduler_send N m w, (reader_pins.the_field_send N m w, (search (std.crosses, sendable) depth 40, tt))))
 
 gate_field_sync : (N : RattleType) (m : Ghosts N.Denot) (w : Words N.Denot) → IsSync (Gate.the_field N m w).row
 gate_field_sync N m w =
     struct_sync (shape (Gate.the_type N m w))
-    (board.the_field_sync N m, (shards.the_field_sync N m w, (grace.the_field_sync N w, (shared_sync, (mutex.the_sync (Guarded.the_row N m w) (guarded_send N m w), tt)))))
+    (board.the_field_sync N m, (shards.the_field_sync N m w, (grace.the_field_sync N w, (shared_sync, (mutex.the_sync (GateState.the_row N m w) (state_send N m w), tt)))))
 
 -- threads may share a gate
 pub gate_sync : (N : RattleType) (m : Ghosts N.Denot) (w : Words N.Denot) → IsSync (Gate.the_row N m w)

@@ -1,10 +1,10 @@
 mod Beginning
 mod Prefixes
 mod Numbers
-mod Turns
+mod RoundStarts
 mod Used
 mod Starts
-mod Desks
+mod Schedulers
 mod Running
 mod Seeing
 mod Holding

@@ -8,53 +8,53 @@ use lib.Dec.{eqb}
 use Rattle.mv_journal.specs.declared.outcome.Mark.{Mark}
 use Rattle.mv_journal.specs.declared.outcome.Mark.TheVariants.{Plain, Exclusive, Moved}
 use Rattle.mv_journal.specs.declared.outcome.Round.{Round}
-use Rattle.mv_lawful.specs.Work.{Work}
-use Rattle.mv_lawful.specs.Lawful.{Turn, Live, used}
-use Rattle.mv_lawful.specs.Rounds.{later_run, later_rounds, rounds_of, turns_in, last_number, last_turn}
-use Rattle.mv_core.specs.Cores.{HasTurns}
+use Rattle.mv_lawful.specs.Batch.{Batch}
+use Rattle.mv_lawful.specs.Lawful.{RoundStart, Live, used}
+use Rattle.mv_lawful.specs.Rounds.{later_run, later_rounds, rounds_of, round_starts_in, last_number, last_round_start}
+use Rattle.mv_core.specs.Cores.{HasRoundStarts}
 use Rattle.mv_gate.specs.Gates.{repaired_by, repaired_from}
 use Rattle.mv_gate.proofs.Prefixes.{number_by}
 
 -- The number of the last round
 
-number_of : (w : Work) (order : List ℕ) (c old start : ℕ) (m : Mark) → later_run w order c old start m ≡ number_by w order c (repaired_by m old) start
+number_of : (w : Batch) (order : List ℕ) (c old start : ℕ) (m : Mark) → later_run w order c old start m ≡ number_by w order c (repaired_by m old) start
 number_of w order c old start Plain = refl
 number_of w order c old start Exclusive = refl
 number_of w order c old start Moved = refl
 
-later_number : (w : Work) (order : List ℕ) (c : ℕ) (t u : Turn) (us : List Turn)
-    → last_number (later_rounds w order c t.start (u ∷ us)) ≡ Some (number_by w order c (repaired_from (t ∷ u ∷ us)) (last_turn (u ∷ us)))
+later_number : (w : Batch) (order : List ℕ) (c : ℕ) (t u : RoundStart) (us : List RoundStart)
+    → last_number (later_rounds w order c t.start (u ∷ us)) ≡ Some (number_by w order c (repaired_from (t ∷ u ∷ us)) (last_round_start (u ∷ us)))
 later_number w order c t u [] = ap Some (number_of w order c t.start u.start u.mark)
 later_number w order c t u (v ∷ vs) = later_number w order c u v vs
 
-first_number : (w : Work) (order : List ℕ) (c : ℕ) (t : Turn) (ts : List Turn) → last_number (rounds_of w order c (t ∷ ts)) ≡ Some (number_by w order c (repaired_from (t ∷ ts)) (last_turn (t ∷ ts)))
+first_number : (w : Batch) (order : List ℕ) (c : ℕ) (t : RoundStart) (ts : List RoundStart) → last_number (rounds_of w order c (t ∷ ts)) ≡ Some (number_by w order c (repaired_from (t ∷ ts)) (last_round_start (t ∷ ts)))
 first_number w order c t [] = refl
 first_number w order c t (u ∷ us) = later_number w order c t u us
 
-pub number_came : (w : Work) (order : List ℕ) (c n : ℕ) (l : Live) → HasTurns n l → last_number (rounds_of w order c l.turns) ≡ Some (number_by w order c (repaired_from l.turns) l.start)
+pub number_came : (w : Batch) (order : List ℕ) (c n : ℕ) (l : Live) → HasRoundStarts n l → last_number (rounds_of w order c l.round_starts) ≡ Some (number_by w order c (repaired_from l.round_starts) l.start)
 number_came w order c n l h =
-    ap (λ ts. last_number (rounds_of w order c ts)) h.turns
+    ap (λ ts. last_number (rounds_of w order c ts)) h.round_starts
     ∙ (first_number w order c h.first h.rest
-    ∙ (ap (λ ts. Some (number_by w order c (repaired_from ts) (last_turn ts))) (sym h.turns) ∙ ap (λ k. Some (number_by w order c (repaired_from l.turns) k)) h.last))
+    ∙ (ap (λ ts. Some (number_by w order c (repaired_from ts) (last_round_start ts))) (sym h.round_starts) ∙ ap (λ k. Some (number_by w order c (repaired_from l.round_starts) k)) h.last))
 
 -- a call in its first round wasn't repaired
-pub only_first : (n : ℕ) (l : Live) → HasTurns n l → used l ≡ 0 → repaired_from l.turns ≡ None
+pub only_first : (n : ℕ) (l : Live) → HasRoundStarts n l → used l ≡ 0 → repaired_from l.round_starts ≡ None
 only_first n l h first = by h.rest refl where
-  by : (ts : List Turn) → h.rest ≡ ts → repaired_from l.turns ≡ None
-  by [] none = ap repaired_from (h.turns ∙ ap (λ ts. h.first ∷ ts) none)
+  by : (ts : List RoundStart) → h.rest ≡ ts → repaired_from l.round_starts ≡ None
+  by [] none = ap repaired_from (h.round_starts ∙ ap (λ ts. h.first ∷ ts) none)
   by (t ∷ ts) some =
-      let a = ap length h.turns in
+      let a = ap length h.round_starts in
       let b = ap length some in
       absurd (omega (arith, first, a, b))
 
 -- Rounds as they are kept
 
-pub few_rounds : (rs : List Round) → length rs < 2 → repaired_from (turns_in rs) ≡ None
+pub few_rounds : (rs : List Round) → length rs < 2 → repaired_from (round_starts_in rs) ≡ None
 few_rounds [] h = refl
 few_rounds (r ∷ []) h = refl
 few_rounds (r ∷ s ∷ rs) h = absurd (omega (arith, h))
 
-repaired_at : (rs : List Round) (k : ℕ) (d e : Round) → length rs ≡ suc (suc k) → repaired_from (turns_in rs) ≡ repaired_by (slice_index_or rs (suc k) d).mark (slice_index_or rs k e).start
+repaired_at : (rs : List Round) (k : ℕ) (d e : Round) → length rs ≡ suc (suc k) → repaired_from (round_starts_in rs) ≡ repaired_by (slice_index_or rs (suc k) d).mark (slice_index_or rs k e).start
 repaired_at [] k d e h = absurd (omega (arith, h))
 repaired_at (r ∷ []) k d e h = absurd (omega (arith, h))
 repaired_at (r ∷ s ∷ []) zero d e h = refl
@@ -62,9 +62,9 @@ repaired_at (r ∷ s ∷ []) (suc k) d e h = absurd (omega (arith, h))
 repaired_at (r ∷ s ∷ t ∷ rs) zero d e h = absurd (omega (arith, h))
 repaired_at (r ∷ s ∷ t ∷ rs) (suc k) d e h = repaired_at (s ∷ t ∷ rs) k d e (omega (arith, h))
 
-pub repaired_later : (rs : List Round) (d e : Round) → 2 ≤ length rs → repaired_from (turns_in rs) ≡ repaired_by (slice_index_or rs (length rs - 1) d).mark (slice_index_or rs (length rs - 2) e).start
+pub repaired_later : (rs : List Round) (d e : Round) → 2 ≤ length rs → repaired_from (round_starts_in rs) ≡ repaired_by (slice_index_or rs (length rs - 1) d).mark (slice_index_or rs (length rs - 2) e).start
 repaired_later rs d e h = by (length rs - 2) refl (omega (arith, h)) where
-  by : (k : ℕ) → length rs - 2 ≡ k → length rs ≡ suc (suc k) → repaired_from (turns_in rs) ≡ repaired_by (slice_index_or rs (length rs - 1) d).mark (slice_index_or rs (length rs - 2) e).start
+  by : (k : ℕ) → length rs - 2 ≡ k → length rs ≡ suc (suc k) → repaired_from (round_starts_in rs) ≡ repaired_by (slice_index_or rs (length rs - 1) d).mark (slice_index_or rs (length rs - 2) e).start
   by k at long =
       repaired_at rs k d e long
       ∙ (ap (λ n. repaired_by (slice_index_or rs (suc k) d).mark (slice_index_or rs n e).start) (sym at)

@@ -7,9 +7,9 @@ use Rattle.mv_view.specs.Viewing.{Sight}
 use Rattle.mv_effect.specs.Looking.{OnlyAsks, IsSameView}
 use Rattle.mv_changes.specs.Drafting.{HasAsked}
 use Rattle.mv_lawful.specs.Rounds.{IsPast}
-use Rattle.mv_seats.specs.Scripts.{Script as BoardScript}
-use Rattle.mv_script.specs.declared.script.Script.{Script}
-use Rattle.mv_script.specs.Scripts.{IsScript}
+use Rattle.mv_seats.specs.Scripts.{BoardScript}
+use Rattle.mv_script.specs.declared.script.CompiledScript.{CompiledScript}
+use Rattle.mv_script.specs.Scripts.{IsCompiledScript}
 use Rattle.mv_script.proofs.Databases.{table_database}
 use Rattle.mv_shards.specs.Scripts.{script_in}
 use Rattle.mv_shards.specs.Histories.{tables_at}
@@ -23,7 +23,7 @@ IsTold n after why = (start low : ℕ) → why ≡ Stale start low → (n < low)
 
 -- the low of the last refusal lies below what the horizon keeps of what the view has seen
 pub told_low : (horizon : Option ℕ) (n seen : ℕ) (after : Sight) (why : Refused) → IsTold n after why → IsLow horizon after.last_low seen → (start low : ℕ) → why ≡ Stale start low → (n < low) × IsLow horizon low seen
-told_low horizon n seen after why told is start low e = let t = told start low e in (t.0, subst (λ l. IsLow horizon l seen) t.1 is)
+told_low horizon n seen after why output is start low e = let t = output start low e in (t.0, subst (λ l. IsLow horizon l seen) t.1 is)
 
 pub asked_late : {A : Type 0} (before after : Sight) (r : Result A Refused) (why : Refused) (n : ℕ) → OnlyAsks before after r → r ≡ Err why → before.start ≡ n → IsTold n after why
 asked_late before after (Ok x) why n asks e at start low is = absurd (search (rules, e))
@@ -65,16 +65,16 @@ not_past None n h = h
 not_past (Some k) n h = omega (arith, h)
 
 -- what it shows is a database of the script
-pub shown_in : (s : BoardScript) (seen : List ℕ) (c n : ℕ) (script : Script) (db : Tables) → IsScript (script_in s) → script ≡ script_in s → db ≡ tables_at s seen n → IsDatabaseIn script c db
-shown_in s seen c n script db sound is shows = subst (λ (x : Script). IsDatabaseIn x c db) (sym is) (database_in (script_in s) seen c n db sound shows)
+pub shown_in : (s : BoardScript) (seen : List ℕ) (c n : ℕ) (script : CompiledScript) (db : Tables) → IsCompiledScript (script_in s) → script ≡ script_in s → db ≡ tables_at s seen n → IsDatabaseIn script c db
+shown_in s seen c n script db sound is shows = subst (λ (x : CompiledScript). IsDatabaseIn x c db) (sym is) (database_in (script_in s) seen c n db sound shows)
 
 -- it has as many tables as the script's opening database
-pub size_shown : (s : BoardScript) (seen : List ℕ) (n : ℕ) (script : Script) (db : Tables) (count : ℕ) → IsScript (script_in s) → script ≡ script_in s → count ≡ length script.opening → db ≡ tables_at s seen n → count ≡ length db
+pub size_shown : (s : BoardScript) (seen : List ℕ) (n : ℕ) (script : CompiledScript) (db : Tables) (count : ℕ) → IsCompiledScript (script_in s) → script ≡ script_in s → count ≡ length script.opening → db ≡ tables_at s seen n → count ≡ length db
 size_shown s seen n script db count sound is many shows =
-    many ∙ (ap (λ (x : Script). length x.opening) is ∙ (sound.1.opening.size ∙ (sym (table_database sound.0 (script_in s) seen n sound.1).size ∙ sym (ap length shows))))
+    many ∙ (ap (λ (x : CompiledScript). length x.opening) is ∙ (sound.1.opening.size ∙ (sym (table_database sound.0 (script_in s) seen n sound.1).size ∙ sym (ap length shows))))
 
 -- they are at most 64, if the script has a call
-pub few_shown : (s : BoardScript) (seen : List ℕ) (n : ℕ) (db : Tables) → IsScript (script_in s) → (length s.calls ≡ 0 → ⊥) → db ≡ tables_at s seen n → length db ≤ 64
+pub few_shown : (s : BoardScript) (seen : List ℕ) (n : ℕ) (db : Tables) → IsCompiledScript (script_in s) → (length s.calls ≡ 0 → ⊥) → db ≡ tables_at s seen n → length db ≤ 64
 few_shown s seen n db sound some shows =
     let all = ap length shows in
     let size = (table_database sound.0 (script_in s) seen n sound.1).size in
@@ -85,8 +85,8 @@ few_shown s seen n db sound some shows =
     omega (arith, all, size, few, over)
 
 -- without commits it is the opening database
-pub opening_shown : (s : BoardScript) (seen : List ℕ) (n : ℕ) (script : Script) (db : Tables) → script ≡ script_in s → seen ≡ [] → db ≡ script.opening → db ≡ tables_at s seen n
-opening_shown s seen n script db is none same = same ∙ (ap (λ (x : Script). x.opening) is ∙ sym (ap (λ (xs : List ℕ). tables_at s xs n) none ∙ empty n)) where
+pub opening_shown : (s : BoardScript) (seen : List ℕ) (n : ℕ) (script : CompiledScript) (db : Tables) → script ≡ script_in s → seen ≡ [] → db ≡ script.opening → db ≡ tables_at s seen n
+opening_shown s seen n script db is none same = same ∙ (ap (λ (x : CompiledScript). x.opening) is ∙ sym (ap (λ (xs : List ℕ). tables_at s xs n) none ∙ empty n)) where
   empty : (k : ℕ) → tables_at s [] k ≡ s.opening
   empty zero = refl
   empty (suc k) = refl

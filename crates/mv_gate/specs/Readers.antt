@@ -4,8 +4,8 @@ use Rattle.atomic_table.specs.Seated.{TableId}
 use Rattle.mv_grace.specs.declared.books.Books.{Books}
 use Rattle.mv_grace.specs.Epochs.{out_of}
 use Rattle.mv_grace.specs.Rule.{Pin}
-use Rattle.mv_lawful.specs.Lawful.{Live, Course}
-use Rattle.mv_seats.specs.Scripts.{Script}
+use Rattle.mv_lawful.specs.Lawful.{Live, Schedule}
+use Rattle.mv_seats.specs.Scripts.{BoardScript}
 use Rattle.mv_shards.specs.Leaves.{IsLeave, start_shown}
 use Rattle.mv_core.specs.Calls.{IsLive}
 use Rattle.mv_gate.specs.declared.answers.Answer.{Answer}
@@ -23,12 +23,12 @@ pub record MayAdmit (b : Books) (start : ℕ) : Type 0 where
 
 -- no epoch's base is above the number of commits. Each call that has begun has two readers at most. Each live call has a
 -- second pin of its start, if readers need one
-pub record AreReaders (s : Script) (word : TableId) (b : Books) (pins : List (Option Pin)) (course : Course) : Type 0 where
-  pub base : b.current.base ≤ length course.order
-  pub out : out_of b ≤ 2 * length course.calls
-  pub few : length course.calls ≤ 1000000
-  pub count : length pins ≡ length course.calls
-  pub each : (c : ℕ) (l : Live) → IsLive course c l → IsLeave s word (start_shown (slice_index_or pins c None)) l.start
+pub record AreReaders (s : BoardScript) (word : TableId) (b : Books) (pins : List (Option Pin)) (schedule : Schedule) : Type 0 where
+  pub base : b.current.base ≤ length schedule.order
+  pub out : out_of b ≤ 2 * length schedule.calls
+  pub few : length schedule.calls ≤ 1000000
+  pub count : length pins ≡ length schedule.calls
+  pub each : (c : ℕ) (l : Live) → IsLive schedule c l → IsLeave s word (start_shown (slice_index_or pins c None)) l.start
 
 -- how many readers have the second pin of a call
 abbrev pub second_at : List (Option Pin) → ℕ → ℕ

@@ -7,7 +7,7 @@ ghost use Rattle.mv_shards.specs.Leaves.{IsLeave, start_shown};
 
 use mv_grace::grace::{Grace, Naming};
 use mv_grace::pin::Pin;
-use mv_script::script::Script;
+use mv_script::script::CompiledScript;
 use mv_seats::board::{Board, Making};
 use mv_shards::shards::Shards;
 use mv_shards::start::Start;
@@ -19,7 +19,7 @@ use std::sync::Wait;
 #[derive(Drop)]
 pub struct Beside<'a, N: Making + Naming, R: Wait> {
     pub(crate) rt: &'a R,
-    pub(crate) script: &'a Script,
+    pub(crate) script: &'a CompiledScript,
     pub(crate) shards: &'a Shards<N>,
     pub(crate) board: &'a Board<N>,
     pub(crate) grace: &'a Grace<N>,
@@ -30,7 +30,7 @@ impl<'a, N: Making + Naming, R: Wait> Beside<'a, N, R> {
     /// Returns what lies beside a lock. The script must be the one that `N` names.
     pub fn new(
         rt: &'a R,
-        script: &'a Script,
+        script: &'a CompiledScript,
         shards: &'a Shards<N>,
         board: &'a Board<N>,
         grace: &'a Grace<N>,

@@ -4,17 +4,17 @@ ghost use Rattle.std.specs.Prelude.{◌≡◌, ◌≢◌, ◌<◌, ◌≤◌, []
 ghost use mathlib.Core.List.{IsPrefix};
 ghost use Rattle.mv_seats.specs.Knowing.{Plain};
 ghost use Rattle.mv_lawful.specs.Serializable.{IsSerializable};
-ghost use Rattle.mv_script.specs.Scripts.{IsScript, work_of};
-ghost use Rattle.mv_shards.specs.Scripts.{script_in, work};
+ghost use Rattle.mv_script.specs.Scripts.{IsCompiledScript, batch_of};
+ghost use Rattle.mv_shards.specs.Scripts.{script_in, batch};
 ghost use Rattle.mv_gate.specs.Gates.{IsOutcome};
 
 use crate::answers::Answer;
 use crate::beside::Beside;
-use crate::crowd::Crowd;
-use crate::desk::Desk;
-use crate::guarded::Guarded;
 use crate::notes::note;
 use crate::pinned::{PinnedBegun, PinnedHeld, PinnedTried, Reached};
+use crate::reader_pins::ReaderPins;
+use crate::scheduler::Scheduler;
+use crate::state::GateState;
 use mv_core::shared::SharedScript;
 use mv_core::spare::Spare;
 use mv_edge::pace::{Moment, Pace, Point};
@@ -22,7 +22,7 @@ use mv_grace::grace::{Grace, GraceBlank, Naming};
 use mv_grace::note::FloorNote;
 use mv_journal::outcome::Outcome;
 use mv_script::columns::indexed_columns;
-use mv_script::script::Script;
+use mv_script::script::CompiledScript;
 use mv_seats::board::{Blank, Board, Making};
 use mv_seats::pass::Pass;
 use mv_shards::parts::SHARDS;
@@ -56,7 +56,7 @@ pub struct Gate<N: Making + Naming> {
     shards: Shards<N>,
     grace: Grace<N>,
     script: SharedScript,
-    guarded: Mutex<Guarded<N>>,
+    state: Mutex<GateState<N>>,
     ghost named: { script ≡ script_in N.script },
 }
 
@@ -75,14 +75,14 @@ impl<N: Making + Naming> Gate<N> {
         alloc: Global,
         blank: Blank,
         grace: GraceBlank,
-        script: Script,
+        script: CompiledScript,
     ) -> Result<(Gate<N>, Pass<N>), NoMemory>
         requires word { grace ≡ N.word }
         requires board { blank.board ≡ N.board }
         requires named { blank.script ≡ N.script }
         requires shards { N.script.shards ≡ 8 }
         requires script { script ≡ script_in N.script }
-        requires sound { IsScript script }
+        requires sound { IsCompiledScript script }
         ensures role { IfOk result (λ made. made.1.role ≡ Plain) }
         ensures seen { IfOk result (λ made. made.1.seen ≡ []) }
     {
@@ -92,17 +92,17 @@ impl<N: Making + Naming> Gate<N> {
         let shards = Shards::new(alloc, &script.opening, horizon, &board, &mut pass, &columns)?;
         let (grace, turner) = grace.open::<N>();
         let script = SharedScript::new(alloc, script)?;
-        let mut desk = Desk::new(alloc, script.share()?, pass)?;
-        let pass = desk.pass_for(&board);
-        let crowd = Crowd::new(alloc, turner, horizon);
-        let guarded = Guarded::new(desk, crowd);
+        let mut scheduler = Scheduler::new(alloc, script.share()?, pass)?;
+        let pass = scheduler.pass_for(&board);
+        let reader_pins = ReaderPins::new(alloc, turner, horizon);
+        let state = GateState::new(scheduler, reader_pins);
         Ok((
             Gate {
                 board,
                 shards,
                 grace,
                 script,
-                guarded: Mutex::new(guarded),
+                state: Mutex::new(state),
             },
             pass,
         ))
@@ -140,8 +140,8 @@ impl<N: Making + Naming> Gate<N> {
         ensures seen { IfOk result (λ start. IsPrefix pass.old.seen start.knows.seen) }
         ensures past { IfOk result (λ start. length pass.old.seen ≤ start.number) }
     {
-        let mut guarded = self.enter(rt);
-        guarded.snapshot(alloc, &self.board, pass)
+        let mut state = self.enter(rt);
+        state.snapshot(alloc, &self.board, pass)
     }
 
     /// Returns what lies beside the lock.
@@ -156,14 +156,14 @@ impl<N: Making + Naming> Gate<N> {
     }
 
     /// Takes the lock. It tries for a while before it sleeps, since most holds are shorter than it takes to wake a thread.
-    fn enter<'a, R: Wait>(&'a self, rt: &R) -> MutexGuard<'a, Guarded<N>> {
+    fn enter<'a, R: Wait>(&'a self, rt: &R) -> MutexGuard<'a, GateState<N>> {
         for _ in 0..TRIES {
-            if let Some(guarded) = self.guarded.try_lock() {
-                return guarded;
+            if let Some(state) = self.state.try_lock() {
+                return state;
             }
             stay();
         }
-        self.guarded.lock(rt)
+        self.state.lock(rt)
     }
 
     /// Event B, as one hold. Returns `None` too once a worker has found no memory.
@@ -176,8 +176,8 @@ impl<N: Making + Naming> Gate<N> {
         requires { pass.old.role ≡ Plain }
         ensures { pass.new ≡ pass.old }
     {
-        let mut guarded = self.enter(rt);
-        guarded.begin(alloc, &self.board, &self.grace, pass)
+        let mut state = self.enter(rt);
+        state.begin(alloc, &self.board, &self.grace, pass)
     }
 
     /// Event C, A, X, R or M, or M and C, or M and R, as one hold.
@@ -189,10 +189,10 @@ impl<N: Making + Naming> Gate<N> {
         spare: &mut Spare,
     ) -> Result<PinnedTried<N>, NoMemory> {
         let beside = self.beside(rt);
-        let mut guarded = self.enter(rt);
+        let mut state = self.enter(rt);
         match reached {
-            Reached::Ready(ready) => guarded.attempt(alloc, &beside, ready, spare),
-            Reached::Late(late) => guarded.move_late(alloc, &beside, late, spare),
+            Reached::Ready(ready) => state.attempt(alloc, &beside, ready, spare),
+            Reached::Late(late) => state.move_late(alloc, &beside, late, spare),
         }
     }
 
@@ -227,8 +227,8 @@ impl<N: Making + Naming> Gate<N> {
 
     /// Event G, as one hold, if a horizon is given and no worker has found no memory. Returns the new low.
     fn raise_low<R: Wait>(&self, rt: &R) -> Option<u32> {
-        let mut guarded = self.enter(rt);
-        match guarded.collect() {
+        let mut state = self.enter(rt);
+        match state.collect() {
             Ok(low) => low,
             Err(_) => None,
         }
@@ -239,8 +239,8 @@ impl<N: Making + Naming> Gate<N> {
     fn sweep<R: Wait>(&self, rt: &R) -> Option<FloorNote<N>>
         ensures { IfSome result (λ _. N.script.options.horizon ≡ None) }
     {
-        let mut guarded = self.enter(rt);
-        guarded.sweep(&self.grace)
+        let mut state = self.enter(rt);
+        state.sweep(&self.grace)
     }
 
     /// Collects old versions after each commit whose number is a multiple of `COLLECTION_INTERVAL`: one hold says how far,
@@ -262,8 +262,8 @@ impl<N: Making + Naming> Gate<N> {
 
     /// Notes that a worker has found no memory, as one hold.
     fn give_up<R: Wait>(&self, rt: &R) {
-        let mut guarded = self.enter(rt);
-        guarded.give_up();
+        let mut state = self.enter(rt);
+        state.give_up();
     }
 }
 
@@ -422,8 +422,8 @@ pub fn run_all<N: Making + Naming + Send + Sync, R: Threads + Wait + Sync, P: Pa
 ) -> Result<Outcome, NoMemory>
     requires workers { (0 < workers) × (workers ≤ 64) }
     requires pass { pass.role ≡ Plain }
-    ensures outcome { IfOk result (IsOutcome (work N.script)) }
-    ensures serializable { IfOk result (IsSerializable (work N.script)) }
+    ensures outcome { IfOk result (IsOutcome (batch N.script)) }
+    ensures serializable { IfOk result (IsSerializable (batch N.script)) }
 {
     let mut posts = Vec::new(alloc);
     for number in 0..workers {
@@ -437,11 +437,11 @@ pub fn run_all<N: Making + Naming + Send + Sync, R: Threads + Wait + Sync, P: Pa
         shards,
         grace,
         script,
-        guarded,
+        state,
     } = gate;
-    let guarded = guarded.into_inner();
+    let state = state.into_inner();
     let beside = Beside::new(rt, script.get(), &shards, &board, &grace);
-    guarded.finish(alloc, &beside)
+    state.finish(alloc, &beside)
 }
 
 /// Runs the calls of a script by 1 to 64 workers. Returns the outcome of a lawful and bounded journal, in which each call
@@ -449,14 +449,14 @@ pub fn run_all<N: Making + Naming + Send + Sync, R: Threads + Wait + Sync, P: Pa
 pub fn run<R: Threads + Wait + Sync, P: Pace>(
     rt: &R,
     alloc: Global,
-    script: Script,
+    script: CompiledScript,
     workers: u32,
     pace: &P,
 ) -> Result<Outcome, NoMemory>
-    requires sound { IsScript script }
+    requires sound { IsCompiledScript script }
     requires calls { length script.calls ≤ 1000000 }
     requires workers { (0 < workers) × (workers ≤ 64) }
-    ensures { IfOk result (IsOutcome (work_of script)) }
+    ensures { IfOk result (IsOutcome (batch_of script)) }
 {
     let blank = Blank::new(
         alloc,
@@ -476,7 +476,7 @@ fn run_named<N: Making + Naming + Send + Sync, R: Threads + Wait + Sync, P: Pace
     alloc: Global,
     blank: Blank,
     grace: GraceBlank,
-    script: Script,
+    script: CompiledScript,
     workers: u32,
     pace: &P,
 ) -> Result<Outcome, NoMemory>
@@ -485,9 +485,9 @@ fn run_named<N: Making + Naming + Send + Sync, R: Threads + Wait + Sync, P: Pace
     requires named { blank.script ≡ N.script }
     requires shards { N.script.shards ≡ 8 }
     requires script { script ≡ script_in N.script }
-    requires sound { IsScript script }
+    requires sound { IsCompiledScript script }
     requires workers { (0 < workers) × (workers ≤ 64) }
-    ensures { IfOk result (IsOutcome (work_of script)) }
+    ensures { IfOk result (IsOutcome (batch_of script)) }
 {
     let (gate, pass) = Gate::<N>::new(alloc, blank, grace, script)?;
     run_all(rt, alloc, gate, pass, workers, pace)

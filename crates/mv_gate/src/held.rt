@@ -10,7 +10,7 @@ ghost use Rattle.mv_core.specs.Cores.{HasRunOne};
 ghost use Rattle.mv_gate.specs.Gates.{Tells};
 
 use crate::beside::Beside;
-use crate::told::Told;
+use crate::output::CallOutput;
 use mv_changes::recent::Committed;
 use mv_core::running::run_next;
 use mv_core::spare::Spare;
@@ -110,13 +110,13 @@ impl<N: Making> Model for Repair<N> {
     ghost invariant = { λ r. IsRepairing N.script (record { call = r.call; start = r.start; from = r.from; task = r.task; since = r.since }) };
 }
 
-/// A call that has run whole at its start, and what it tells.
+/// A call that has run whole at its start, and its output.
 #[derive(Drop)]
 pub struct Ready<N: Making> {
     pub(crate) held: Held<N>,
-    pub(crate) told: Told,
+    pub(crate) output: CallOutput,
     ghost ended: { held.task.ended ≡ true },
-    ghost tells: { Tells held.task.log.records told },
+    ghost tells: { Tells held.task.log.records output },
 }
 
 impl<N: Making> Begun<N> {
@@ -152,8 +152,8 @@ impl<N: Making> Ready<N> {
         requires { held.task.ended ≡ true }
         ensures { IfOk result (λ ready. ready.held ≡ held) }
     {
-        let told = Told::new(alloc, &held.task)?;
-        Ok(Ready { held, told })
+        let output = CallOutput::new(alloc, &held.task)?;
+        Ok(Ready { held, output })
     }
 }
 

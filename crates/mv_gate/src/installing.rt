@@ -6,15 +6,15 @@ ghost use lib.Dec.{eqb};
 ghost use Rattle.mv_values.specs.Patching.{applied};
 ghost use Rattle.mv_record.specs.Runs.{writes_in};
 ghost use Rattle.mv_history.specs.Changes.{changes_between};
-ghost use Rattle.mv_lawful.specs.Work.{records_at};
-ghost use Rattle.mv_shards.specs.Scripts.{work};
+ghost use Rattle.mv_lawful.specs.Batch.{records_at};
+ghost use Rattle.mv_shards.specs.Scripts.{batch};
 ghost use Rattle.mv_shards.specs.Histories.{tables_at};
 ghost use Rattle.mv_shards.specs.Leaves.{IsLeave, start_shown};
-ghost use Rattle.mv_core.specs.Told.{reply_told, writes_told};
+ghost use Rattle.mv_core.specs.Output.{reply_told, writes_told};
 
 use crate::beside::Beside;
 use crate::latest::last_error;
-use crate::told::{Told, counted};
+use crate::output::{CallOutput, counted};
 use mv_changes::changes::Changes;
 use mv_changes::commit::changes_of_commit;
 use mv_exec::task::Task;
@@ -91,13 +91,13 @@ pub(crate) fn install<N: Making + Naming, R: Wait>(
 ) -> Result<Installed, NoMemory>
     requires there { call < length N.script.calls }
     requires fresh { list_any (eqb call) ledger.old.knows.seen ≡ false }
-    requires whole { task.now.log.records ≡ records_at (work N.script) ledger.old.knows.seen ledger.old.commits call }
+    requires whole { task.now.log.records ≡ records_at (batch N.script) ledger.old.knows.seen ledger.old.commits call }
     requires reply { reply ≡ reply_told task.now.log.records }
     requires writes { writes.now ≡ writes_told task.now.log.records }
     requires last { IsLeave N.script N.word (start_shown last.old) ledger.old.commits }
     ensures commit { IfOk result (λ installed. installed.commit ≡ ledger.old.commits + 1) }
-    ensures reply { IfOk result (λ installed. installed.reply ≡ ((work N.script).run call (tables_at N.script ledger.old.knows.seen ledger.old.commits)).reply) }
-    ensures changes { IfOk result (λ installed. installed.changes ≡ changes_between (tables_at N.script ledger.old.knows.seen ledger.old.commits) ((work N.script).run call (tables_at N.script ledger.old.knows.seen ledger.old.commits)).tables) }
+    ensures reply { IfOk result (λ installed. installed.reply ≡ ((batch N.script).run call (tables_at N.script ledger.old.knows.seen ledger.old.commits)).reply) }
+    ensures changes { IfOk result (λ installed. installed.changes ≡ changes_between (tables_at N.script ledger.old.knows.seen ledger.old.commits) ((batch N.script).run call (tables_at N.script ledger.old.knows.seen ledger.old.commits)).tables) }
     ensures counted { OnOk result (ledger.new.commits ≡ ledger.old.commits + 1) }
     ensures appended { OnOk result (ledger.new.knows.seen ≡ ledger.old.knows.seen ++ call ∷ []) }
     ensures stays { OnErr result (ledger.new.commits ≡ ledger.old.commits) }
@@ -134,18 +134,18 @@ pub(crate) fn install_task<N: Making + Naming, R: Wait>(
 ) -> Result<Installed, NoMemory>
     requires there { call < length N.script.calls }
     requires fresh { list_any (eqb call) ledger.old.knows.seen ≡ false }
-    requires whole { task.now.log.records ≡ records_at (work N.script) ledger.old.knows.seen ledger.old.commits call }
+    requires whole { task.now.log.records ≡ records_at (batch N.script) ledger.old.knows.seen ledger.old.commits call }
     requires last { IsLeave N.script N.word (start_shown last.old) ledger.old.commits }
     ensures commit { IfOk result (λ installed. installed.commit ≡ ledger.old.commits + 1) }
-    ensures reply { IfOk result (λ installed. installed.reply ≡ ((work N.script).run call (tables_at N.script ledger.old.knows.seen ledger.old.commits)).reply) }
-    ensures changes { IfOk result (λ installed. installed.changes ≡ changes_between (tables_at N.script ledger.old.knows.seen ledger.old.commits) ((work N.script).run call (tables_at N.script ledger.old.knows.seen ledger.old.commits)).tables) }
+    ensures reply { IfOk result (λ installed. installed.reply ≡ ((batch N.script).run call (tables_at N.script ledger.old.knows.seen ledger.old.commits)).reply) }
+    ensures changes { IfOk result (λ installed. installed.changes ≡ changes_between (tables_at N.script ledger.old.knows.seen ledger.old.commits) ((batch N.script).run call (tables_at N.script ledger.old.knows.seen ledger.old.commits)).tables) }
     ensures counted { OnOk result (ledger.new.commits ≡ ledger.old.commits + 1) }
     ensures appended { OnOk result (ledger.new.knows.seen ≡ ledger.old.knows.seen ++ call ∷ []) }
     ensures stays { OnErr result (ledger.new.commits ≡ ledger.old.commits) }
     ensures err { OnErr result (ledger.new.knows.seen ≡ ledger.old.knows.seen) }
     ensures last { IsLeave N.script N.word (start_shown last.new) ledger.old.commits }
 {
-    let told = Told::new(alloc, task)?;
-    let Told { reply, writes } = told;
+    let output = CallOutput::new(alloc, task)?;
+    let CallOutput { reply, writes } = output;
     install(alloc, beside, ledger, last, call, task, reply, &writes)
 }

@@ -2,8 +2,8 @@
 
 ghost use Rattle.std.specs.Prelude.{◌≡◌, ◌<◌, ℕ, true, [], length, IfOk, OnOk};
 ghost use Rattle.mv_view.specs.declared.view.Refused.TheVariants.{Stale};
-ghost use Rattle.mv_lawful.specs.Work.{records_at};
-ghost use Rattle.mv_shards.specs.Scripts.{script_in, work};
+ghost use Rattle.mv_lawful.specs.Batch.{records_at};
+ghost use Rattle.mv_shards.specs.Scripts.{script_in, batch};
 ghost use Rattle.mv_seats.specs.Knowing.{Plain};
 ghost use Rattle.mv_shards.specs.Histories.{tables_at};
 ghost use Rattle.mv_shards.specs.Kept.{IsLow};
@@ -67,7 +67,7 @@ pub(crate) fn run_last<N: Making + Naming, R: Wait>(
     ensures commits { ledger.new.commits ≡ ledger.old.commits }
     ensures seen { ledger.new.knows.seen ≡ ledger.old.knows.seen }
     ensures runs { IfOk result (RunsOn (script_in N.script) call (tables_at N.script ledger.old.knows.seen ledger.old.commits)) }
-    ensures records { IfOk result (λ task. task.log.records ≡ records_at (work N.script) ledger.old.knows.seen ledger.old.commits call) }
+    ensures records { IfOk result (λ task. task.log.records ≡ records_at (batch N.script) ledger.old.knows.seen ledger.old.commits call) }
     ensures ended { IfOk result (λ task. task.ended ≡ true) }
     ensures executed { IfOk result (λ task. task.executed ≡ length task.log.records) }
     ensures last { IsLeave N.script N.word (start_shown last.new) ledger.old.commits }
@@ -107,7 +107,7 @@ pub(crate) fn repair_last<N: Making + Naming, R: Wait>(
     task: &mut Task,
 ) -> Result<(), NoMemory>
     requires script { book.now.script ≡ script_in N.script }
-    requires seen { ledger.old.knows.seen ≡ book.now.course.order }
+    requires seen { ledger.old.knows.seen ≡ book.now.schedule.order }
     requires whole { IsWhole book.now call task.old }
     requires fresh { IsNotStale book.now call }
     requires last { IsLeave N.script N.word (start_shown last.old) ledger.old.commits }

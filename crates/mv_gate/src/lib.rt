@@ -3,17 +3,17 @@
 
 pub mod answers;
 pub mod beside;
-mod crowd;
-pub mod desk;
 pub mod gate;
-mod guarded;
 pub mod held;
 mod installing;
 mod latest;
 mod notes;
+pub mod output;
 pub mod pinned;
+mod reader_pins;
 mod readers;
 mod rounds;
+pub mod scheduler;
+mod state;
 mod tables;
-pub mod told;
 pub mod tried;

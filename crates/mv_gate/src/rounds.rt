@@ -2,7 +2,7 @@
 
 ghost use Rattle.std.specs.Prelude.{◌≡◌, ◌<◌, length};
 ghost use Rattle.std.specs.Option.{is_some};
-ghost use Rattle.mv_lawful.specs.Rounds.{turns_in, last_number};
+ghost use Rattle.mv_lawful.specs.Rounds.{round_starts_in, last_number};
 ghost use Rattle.mv_gate.specs.Gates.{repaired_by, repaired_from};
 
 use mv_journal::outcome::{Mark, Round};
@@ -19,7 +19,7 @@ fn repaired_by(mark: Mark, start: u32) -> Option<u32>
 
 /// Returns the start that the last of these rounds was repaired from. The first round and a move have none.
 pub(crate) fn repaired_from(rounds: &[Round]) -> Option<u32>
-    ensures { result ≡ repaired_from (turns_in rounds.now) }
+    ensures { result ≡ repaired_from (round_starts_in rounds.now) }
 {
     let count = rounds.len();
     if count < 2 {

@@ -2,7 +2,7 @@
 
 ghost use Rattle.std.specs.Prelude.{◌≡◌};
 ghost use Rattle.mv_seats.specs.Knowing.{Plain};
-ghost use Rattle.mv_script.specs.Scripts.{IsScript};
+ghost use Rattle.mv_script.specs.Scripts.{IsCompiledScript};
 ghost use Rattle.mv_shards.specs.Scripts.{script_in};
 
 use crate::pins::{Holding, script_of};
@@ -12,10 +12,10 @@ use mv_cases::ensure::ensure;
 use mv_edge::pace::{Moment, Pace, Point};
 use mv_gate::gate::{Gate, worker};
 use mv_grace::grace::{GraceBlank, Naming};
-use mv_script::script::Script;
+use mv_script::script::CompiledScript;
 use mv_seats::board::{Blank, Making};
 use mv_seats::pass::Pass;
-use mv_top::script::Prepared;
+use mv_top::script::CompiledProgram;
 use mv_values::calls::Options;
 use std::alloc::Global;
 use std::marker::Brand;
@@ -98,14 +98,14 @@ fn counts<N: Making + Naming + Send + Sync, R: Threads + Wait + Sync>(
     alloc: Global,
     blank: Blank,
     grace: GraceBlank,
-    script: Script,
+    script: CompiledScript,
 ) -> Result<(u64, u64), Fail>
     requires board { blank.board ≡ N.board }
     requires word { grace ≡ N.word }
     requires named { blank.script ≡ N.script }
     requires shards { N.script.shards ≡ 8 }
     requires script { script ≡ script_in N.script }
-    requires sound { IsScript script }
+    requires sound { IsCompiledScript script }
 {
     let (gate, mut pass) = Gate::<N>::new(alloc, blank, grace, script)?;
     let mut posts = Vec::new(alloc);
@@ -131,7 +131,7 @@ fn a_reader_holds_versions_back_until_it_is_gone(rt: HostRuntime) -> Result<(), 
         rounds: 3,
         horizon: None,
     };
-    let Prepared { script, .. } = prepared(alloc, text.as_str(), options)?;
+    let CompiledProgram { script, .. } = prepared(alloc, text.as_str(), options)?;
     let blank = blank_of(alloc, &script)?;
     let grace = GraceBlank::new(alloc)?;
     let (kept, left) = counts::<Brand, _>(&rt, alloc, blank, grace, script)?;

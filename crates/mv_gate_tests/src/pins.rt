@@ -8,7 +8,7 @@ use mv_cases::ensure::ensure;
 use mv_edge::pace::{Moment, Pace, Point};
 use mv_gate::gate::run;
 use mv_journal::event::Event;
-use mv_top::script::Prepared;
+use mv_top::script::CompiledProgram;
 use mv_values::calls::Options;
 use mv_values::list::List;
 use std::alloc::Global;
@@ -110,7 +110,7 @@ fn events_of<R: Threads + Wait + Sync>(
 ) -> Result<List<Event>, Fail> {
     let text = script_of(alloc, "CALL transfer(1, 2, 10);", MEANWHILE)?;
     let options = Options { rounds: 3, horizon };
-    let Prepared { script, .. } = prepared(alloc, text.as_str(), options)?;
+    let CompiledProgram { script, .. } = prepared(alloc, text.as_str(), options)?;
     let outcome = run(rt, alloc, script, 2, &Holding::new(MEANWHILE))?;
     Ok(outcome.journal)
 }

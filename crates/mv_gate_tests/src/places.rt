@@ -10,7 +10,7 @@ use mv_gate::gate;
 use mv_journal::outcome::Outcome;
 use mv_report::render::render;
 use mv_shards::parts::{SHARDS, shard_of};
-use mv_top::script::Prepared;
+use mv_top::script::CompiledProgram;
 use mv_values::calls::Options;
 use mv_values::list::List;
 use mv_values::rows::{Database, Rows};
@@ -165,7 +165,7 @@ fn replayed(
     options: Options,
     outcome: &Outcome,
 ) -> Result<List<u8>, Fail> {
-    let Prepared { script, tables } = prepared(alloc, script, options)?;
+    let CompiledProgram { script, tables } = prepared(alloc, script, options)?;
     let events = outcome.journal.as_slice();
     if events.len() > 1_000_000 {
         return Err("many events".into());
@@ -188,7 +188,7 @@ fn replays<R: Threads + Wait + Sync>(
 {
     let (name, _, _, _, shards) = *case;
     let text = script_of(alloc, case)?;
-    let Prepared { script, tables } = prepared(alloc, text.as_str(), options)?;
+    let CompiledProgram { script, tables } = prepared(alloc, text.as_str(), options)?;
     let outcome = gate::run(rt, alloc, script, workers, &NoPace)?;
     ensure(alloc, shards_of(&outcome.tables) == shards, name)?;
     let left = render(alloc, &tables, &outcome)?;

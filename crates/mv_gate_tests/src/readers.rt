@@ -2,7 +2,7 @@
 //! keeps all of them.
 
 ghost use Rattle.std.specs.Prelude.{◌≡◌, ◌≢◌, None};
-ghost use Rattle.mv_script.specs.Scripts.{IsScript};
+ghost use Rattle.mv_script.specs.Scripts.{IsCompiledScript};
 ghost use Rattle.mv_shards.specs.Scripts.{script_in};
 
 use crate::scripts::prepared;
@@ -13,9 +13,9 @@ use mv_edge::pace::NoPace;
 use mv_gate::gate::{Gate, run_all};
 use mv_grace::grace::{GraceBlank, Naming};
 use mv_journal::outcome::HistoryLine;
-use mv_script::script::Script;
+use mv_script::script::CompiledScript;
 use mv_seats::board::{Blank, Making};
-use mv_top::script::Prepared;
+use mv_top::script::CompiledProgram;
 use mv_values::calls::Options;
 use mv_values::rows::Keyed;
 use mv_values::value::{Value, are_same};
@@ -159,7 +159,7 @@ fn starts_beside<N: Making + Naming + Send + Sync, R: Threads + Wait + Sync>(
     alloc: Global,
     blank: Blank,
     grace: GraceBlank,
-    script: Script,
+    script: CompiledScript,
 ) -> Result<u32, Fail>
     requires board { blank.board ≡ N.board }
     requires word { grace ≡ N.word }
@@ -167,7 +167,7 @@ fn starts_beside<N: Making + Naming + Send + Sync, R: Threads + Wait + Sync>(
     requires shards { N.script.shards ≡ 8 }
     requires script { script ≡ script_in N.script }
     requires horizon { N.script.options.horizon ≢ None }
-    requires sound { IsScript script }
+    requires sound { IsCompiledScript script }
 {
     let (gate, mut pass) = Gate::<N>::new(alloc, blank, grace, script)?;
     let mine = pass.note(gate.board())?;
@@ -188,7 +188,7 @@ fn a_reader_beside_workers_reads_prefixes(rt: HostRuntime) -> Result<(), Fail> {
         rounds: 3,
         horizon: Some(CALLS),
     };
-    let Prepared { script, .. } = prepared(alloc, text.as_str(), options)?;
+    let CompiledProgram { script, .. } = prepared(alloc, text.as_str(), options)?;
     let blank = blank_of(alloc, &script)?;
     let grace = GraceBlank::new(alloc)?;
     let count = starts_beside::<Brand, _>(&rt, alloc, blank, grace, script)?;

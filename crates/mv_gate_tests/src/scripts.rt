@@ -2,7 +2,7 @@
 
 ghost use Rattle.std.specs.Prelude.{◌≡◌, ◌<◌, ◌≤◌, length, IfOk};
 ghost use Rattle.mv_accept.specs.Accepting.{most_calls};
-ghost use Rattle.mv_script.specs.Scripts.{IsScript};
+ghost use Rattle.mv_script.specs.Scripts.{IsCompiledScript};
 
 use mv_accept::accept::accept;
 use mv_cases::accounts::{ADD, OTHERS, SEE};
@@ -11,7 +11,7 @@ use mv_edge::pace::Pace;
 use mv_gate::gate;
 use mv_journal::outcome::Outcome;
 use mv_report::render::render;
-use mv_top::script::{Prepared, prepare};
+use mv_top::script::{CompiledProgram, compile_program};
 use mv_values::calls::Options;
 use mv_values::list::List;
 use std::alloc::Global;
@@ -96,15 +96,19 @@ const OPTIONS: Options = Options {
 };
 
 /// Returns what a run needs of a script.
-pub(crate) fn prepared(alloc: Global, script: &str, options: Options) -> Result<Prepared, Fail>
-    ensures sound { IfOk result (λ p. IsScript p.script) }
+pub(crate) fn prepared(
+    alloc: Global,
+    script: &str,
+    options: Options,
+) -> Result<CompiledProgram, Fail>
+    ensures sound { IfOk result (λ p. IsCompiledScript p.script) }
     ensures few { IfOk result (λ p. length p.script.calls ≤ most_calls) }
     ensures options { IfOk result (λ p. p.script.options ≡ options) }
 {
     let Ok(program) = accept(alloc, script.as_bytes()) else {
         return Err("no program".into());
     };
-    Ok(prepare(alloc, program, options)?)
+    Ok(compile_program(alloc, program, options)?)
 }
 
 /// What a run leaves: its outcome, and the text of it.
@@ -116,7 +120,7 @@ pub(crate) struct Left {
 
 /// Runs the calls of a script one after another, without a gate.
 pub(crate) fn run_plainly(alloc: Global, script: &str) -> Result<Left, Fail> {
-    let Prepared { script, tables } = prepared(alloc, script, OPTIONS)?;
+    let CompiledProgram { script, tables } = prepared(alloc, script, OPTIONS)?;
     let outcome = run_in_turn(alloc, script)?;
     let text = render(alloc, &tables, &outcome)?;
     Ok(Left { outcome, text })
@@ -132,7 +136,7 @@ pub(crate) fn run_by<R: Threads + Wait + Sync, P: Pace>(
 ) -> Result<Left, Fail>
     requires { (0 < workers) × (workers ≤ 64) }
 {
-    let Prepared { script, tables } = prepared(alloc, script, OPTIONS)?;
+    let CompiledProgram { script, tables } = prepared(alloc, script, OPTIONS)?;
     let outcome = gate::run(rt, alloc, script, workers, pace)?;
     let text = render(alloc, &tables, &outcome)?;
     Ok(Left { outcome, text })

@@ -3,7 +3,7 @@
 ghost use Rattle.std.specs.Prelude.{◌≡◌, ◌≢◌, ◌≤◌, None, Some, length, IfOk};
 ghost use Rattle.mv_accept.specs.Accepting.{most_calls};
 ghost use Rattle.mv_seats.specs.Knowing.{Plain};
-ghost use Rattle.mv_script.specs.Scripts.{IsScript};
+ghost use Rattle.mv_script.specs.Scripts.{IsCompiledScript};
 ghost use Rattle.mv_shards.specs.Scripts.{script_in};
 
 use crate::scripts::prepared;
@@ -14,12 +14,12 @@ use mv_edge::pace::{Moment, NoPace, Pace, Point};
 use mv_gate::gate::{Gate, run_all, worker};
 use mv_grace::grace::{GraceBlank, Naming};
 use mv_journal::event::Event;
-use mv_script::script::Script;
+use mv_script::script::CompiledScript;
 use mv_seats::board::{Blank, Making};
 use mv_seats::pass::Pass;
 use mv_shards::start::Start;
 use mv_shards::view::ShardsView;
-use mv_top::script::Prepared;
+use mv_top::script::CompiledProgram;
 use mv_values::calls::Options;
 use mv_values::list::List;
 use mv_values::memory::NoMemory;
@@ -35,8 +35,8 @@ use std::thread;
 use std::thread::Threads;
 
 /// Returns a script of the accounts with these calls, and this horizon.
-fn script_of(alloc: Global, calls: &str, horizon: u32) -> Result<Script, Fail>
-    ensures sound { IfOk result IsScript }
+fn script_of(alloc: Global, calls: &str, horizon: u32) -> Result<CompiledScript, Fail>
+    ensures sound { IfOk result IsCompiledScript }
     ensures few { IfOk result (λ script. length script.calls ≤ most_calls) }
     ensures horizon { IfOk result (λ script. script.options.horizon ≡ Some horizon) }
 {
@@ -47,12 +47,12 @@ fn script_of(alloc: Global, calls: &str, horizon: u32) -> Result<Script, Fail>
         rounds: 3,
         horizon: Some(horizon),
     };
-    let Prepared { script, .. } = prepared(alloc, text.as_str(), options)?;
+    let CompiledProgram { script, .. } = prepared(alloc, text.as_str(), options)?;
     Ok(script)
 }
 
 /// Returns a blank of eight shards for a script.
-pub(crate) fn blank_of(alloc: Global, script: &Script) -> Result<Blank, NoMemory>
+pub(crate) fn blank_of(alloc: Global, script: &CompiledScript) -> Result<Blank, NoMemory>
     requires { length script.now.calls ≤ most_calls }
     ensures script { IfOk result (λ blank. script_in blank.script ≡ script.now) }
     ensures shards { IfOk result (λ blank. blank.script.shards ≡ 8) }
@@ -120,7 +120,7 @@ fn shown<N: Making + Naming + Send + Sync, R: Threads + Wait + Sync>(
     alloc: Global,
     blank: Blank,
     grace: GraceBlank,
-    script: Script,
+    script: CompiledScript,
 ) -> Result<String, Fail>
     requires board { blank.board ≡ N.board }
     requires word { grace ≡ N.word }
@@ -128,7 +128,7 @@ fn shown<N: Making + Naming + Send + Sync, R: Threads + Wait + Sync>(
     requires shards { N.script.shards ≡ 8 }
     requires script { script ≡ script_in N.script }
     requires horizon { N.script.options.horizon ≢ None }
-    requires sound { IsScript script }
+    requires sound { IsCompiledScript script }
 {
     let (gate, mut pass) = Gate::<N>::new(alloc, blank, grace, script)?;
     let mut first = gate.snapshot(rt, alloc, &mut pass)?;
@@ -275,7 +275,7 @@ fn dropped<N: Making + Naming + Send + Sync, R: Threads + Wait + Sync>(
     alloc: Global,
     blank: Blank,
     grace: GraceBlank,
-    script: Script,
+    script: CompiledScript,
 ) -> Result<List<Event>, Fail>
     requires board { blank.board ≡ N.board }
     requires word { grace ≡ N.word }
@@ -283,7 +283,7 @@ fn dropped<N: Making + Naming + Send + Sync, R: Threads + Wait + Sync>(
     requires shards { N.script.shards ≡ 8 }
     requires script { script ≡ script_in N.script }
     requires horizon { N.script.options.horizon ≢ None }
-    requires sound { IsScript script }
+    requires sound { IsCompiledScript script }
 {
     let (gate, mut pass) = Gate::<N>::new(alloc, blank, grace, script)?;
     let first = pass.note(gate.board())?;

@@ -5,7 +5,7 @@ use mv_accept::accept::accept;
 use mv_core::drive::DriveFault;
 use mv_core::engine::Core;
 use mv_journal::event::Event;
-use mv_top::script::prepare;
+use mv_top::script::compile_program;
 use mv_values::calls::Options;
 use mv_values::list::List;
 use mv_values::memory::NoMemory;
@@ -67,7 +67,7 @@ fn any_journal(
     options: Options,
 ) -> Result<List<Event>, Fail> {
     let program = accept(alloc, script).or(Err("refused"))?;
-    let prepared = prepare(alloc, program, options)?;
+    let prepared = compile_program(alloc, program, options)?;
     let mut core = Core::new(alloc, prepared.script)?;
     make_events(alloc, random, &mut core)?;
     let mut events = List::new(alloc);

@@ -6,7 +6,7 @@ ghost use Rattle.mv_core.specs.Cores.{HasStep, AreFirstOf, records_in};
 
 use mv_accept::accept::accept;
 use mv_core::engine::Core;
-use mv_top::script::prepare;
+use mv_top::script::compile_program;
 use mv_values::calls::Options;
 use mv_view::view::Refused;
 use std::alloc::Global;
@@ -15,7 +15,7 @@ use std::test::Fail;
 /// Executes the first statement of a live call. Returns the number of records that the call then has: the first one of
 /// its full run.
 fn first_step(alloc: Global, core: &mut Core, call: u32) -> Result<usize, Refused>
-    requires live { IsLiveCall core.old.book.course call }
+    requires live { IsLiveCall core.old.book.schedule call }
     requires left { HasStep core.old.book call }
     requires fresh { records_in core.old call ≡ [] }
     ensures count { IfOk result (λ n. n ≡ 1) }
@@ -54,7 +54,7 @@ fn a_statement_adds_one_record(rt: HostRuntime) -> Result<(), Fail> {
         rounds: 3,
         horizon: None,
     };
-    let prepared = prepare(alloc, program, options)?;
+    let prepared = compile_program(alloc, program, options)?;
     let mut core = Core::new(alloc, prepared.script)?;
     for _ in 0..2u32 {
         let count = begin_and_step(alloc, &mut core).or(Err("no statement ran"))?;

@@ -1,9 +1,9 @@
 //! The repairs of a journal, made by the core, with their causes.
 
 ghost use Rattle.std.specs.Prelude.{◌≡◌, length, IfOk, OnOk};
-ghost use Rattle.mv_lawful.specs.Work.{records_at};
-ghost use Rattle.mv_script.specs.Scripts.{IsScript};
-ghost use Rattle.mv_core.specs.Books.{Booked, work_in, Made};
+ghost use Rattle.mv_lawful.specs.Batch.{records_at};
+ghost use Rattle.mv_script.specs.Scripts.{IsCompiledScript};
+ghost use Rattle.mv_core.specs.Books.{Booked, batch_in, Made};
 ghost use Rattle.mv_core.specs.Cores.{HasRunWhole};
 ghost use Rattle.mv_explain.specs.Explained.{AreBefore, IsRepair};
 
@@ -13,7 +13,7 @@ use mv_exec::task::Task;
 use mv_journal::event::Event;
 use mv_journal::outcome::{HistoryLine, Round};
 use mv_log::records::Records;
-use mv_script::script::Script;
+use mv_script::script::CompiledScript;
 use mv_values::copied::Copied;
 use mv_values::list::List;
 use mv_values::memory::NoMemory;
@@ -78,7 +78,7 @@ fn records_after<'c>(core: &'c Core, event: &Event, call: u32) -> Records<'c>
     requires made { (old : Booked) × Made event.now old core.now.book }
     requires repair { IsRepair event.now call }
     requires whole { HasRunWhole event.now core.now }
-    ensures { (old : Booked) → Made event.now old core.now.book → result ≡ records_at (work_in old) old.course.order (length old.course.order) call }
+    ensures { (old : Booked) → Made event.now old core.now.book → result ≡ records_at (batch_in old) old.schedule.order (length old.schedule.order) call }
 {
     match event {
         Event::X(_) => core.last_records(),
@@ -88,9 +88,9 @@ fn records_after<'c>(core: &'c Core, event: &Event, call: u32) -> Records<'c>
 
 /// Makes an event that repairs a call, and returns the repair.
 fn make_repair(alloc: Global, core: &mut Core, event: &Event, call: u32) -> Result<Repair, Fail>
-    requires script { IsScript core.old.book.script }
+    requires script { IsCompiledScript core.old.book.script }
     requires repair { IsRepair event.now call }
-    ensures { OnOk result (IsScript core.new.book.script) }
+    ensures { OnOk result (IsCompiledScript core.new.book.script) }
 {
     let before = before_repair(alloc, core, call)?;
     let to = core.commits();
@@ -110,8 +110,8 @@ fn make_repair(alloc: Global, core: &mut Core, event: &Event, call: u32) -> Resu
 
 /// Makes another event.
 fn make_other(alloc: Global, core: &mut Core, event: &Event) -> Result<(), Fail>
-    requires { IsScript core.old.book.script }
-    ensures { OnOk result (IsScript core.new.book.script) }
+    requires { IsCompiledScript core.old.book.script }
+    ensures { OnOk result (IsCompiledScript core.new.book.script) }
 {
     let Ok(()) = core.event(alloc, event, 0) else {
         return Err("an event is refused".into());
@@ -126,8 +126,8 @@ fn note(
     event: &Event,
     repairs: &mut List<Repair>,
 ) -> Result<(), Fail>
-    requires { IsScript core.old.book.script }
-    ensures { OnOk result (IsScript core.new.book.script) }
+    requires { IsCompiledScript core.old.book.script }
+    ensures { OnOk result (IsCompiledScript core.new.book.script) }
 {
     match event {
         Event::A(call) | Event::X(call) => {
@@ -146,8 +146,12 @@ pub(crate) struct Repaired {
 }
 
 /// Makes the events of a lawful journal.
-pub(crate) fn make_events(alloc: Global, script: Script, events: &[Event]) -> Result<Repaired, Fail>
-    requires { IsScript script }
+pub(crate) fn make_events(
+    alloc: Global,
+    script: CompiledScript,
+    events: &[Event],
+) -> Result<Repaired, Fail>
+    requires { IsCompiledScript script }
 {
     let mut core = Core::new(alloc, script)?;
     let mut repairs = List::new(alloc);

@@ -8,7 +8,7 @@ use crate::reasons::are_causes;
 use crate::repairs::{Repair, Repaired, make_events};
 use mv_accept::accept::accept;
 use mv_journal::outcome::{HistoryLine, Mark, Round};
-use mv_top::script::prepare;
+use mv_top::script::compile_program;
 use mv_values::list::List;
 use mv_values::memory::NoMemory;
 use mv_why::cause::{Cause, Reason};
@@ -104,7 +104,7 @@ fn goes_right(alloc: Global, seed: u64, letters: &mut List<u8>) -> Result<(), Fa
     let mut program = accept(alloc, script).or(Err("refused"))?;
     let alone = run_commits(alloc, &mut program, events)?;
     let program = accept(alloc, script).or(Err("refused"))?;
-    let prepared = prepare(alloc, program, case.options)?;
+    let prepared = compile_program(alloc, program, case.options)?;
     let repaired = make_events(alloc, prepared.script, events)?;
     check(alloc, script, alone.points.as_slice(), &repaired, letters)
 }

@@ -7,8 +7,8 @@ use Rattle.std.proofs.lemmas.Option.{same_Some}
 use Rattle.mv_journal.specs.declared.event.Event.{Event}
 use Rattle.mv_journal.specs.declared.event.Event.TheVariants.{B, S, A, M, C, X, R, G}
 use Rattle.mv_journal.specs.declared.outcome.Mark.TheVariants.{Plain, Exclusive, Moved}
-use Rattle.mv_lawful.specs.Work.{Work}
-use Rattle.mv_lawful.specs.Lawful.{Live, Course, beginning, change_live, with_call, begin, again, finish, commit, oldest, floor, next_low, after, reach, course_of, is_stale}
+use Rattle.mv_lawful.specs.Batch.{Batch}
+use Rattle.mv_lawful.specs.Lawful.{Live, Schedule, beginning, change_live, with_call, begin, again, finish, commit, oldest, floor, next_low, after, reach, schedule_of, is_stale}
 use Rattle.mv_lawful.specs.Rounds.{IsPast}
 use Rattle.mv_lawful.specs.Laws.{LowNeverFalls, NoneIsStale, StaleIsPast}
 
@@ -102,16 +102,16 @@ floor_grows n m None le = omega arith
 floor_grows n m (Some h) le = omega (arith, le)
 
 -- low isn't past the commits, and no live call started below it but by the horizon
-record Fresh (w : Work) (s : Course) : Type 0 where
+record Fresh (w : Batch) (s : Schedule) : Type 0 where
   low : s.low ≤ length s.order
   all : AllHold (floor (length s.order) w.options.horizon) s.low s.calls
 
 -- a call that starts after all commits
-fresh_start : (w : Work) (s : Course) (l : Live) → Fresh w s → l.start ≡ length s.order → Holds (floor (length s.order) w.options.horizon) s.low l
+fresh_start : (w : Batch) (s : Schedule) (l : Live) → Fresh w s → l.start ≡ length s.order → Holds (floor (length s.order) w.options.horizon) s.low l
 fresh_start w s l f start d = let a = f.low in let b = le-max_left l.start (floor (length s.order) w.options.horizon) in omega (arith, a, b, start)
 
 -- one call commits
-fresh_commit : (w : Work) (s : Course) (c : ℕ) (f : Live → Live) → Fresh w s → ((l : Live) → (f l).done ≡ true) → Fresh w (with_call (commit s c) c f)
+fresh_commit : (w : Batch) (s : Schedule) (c : ℕ) (f : Live → Live) → Fresh w s → ((l : Live) → (f l).done ≡ true) → Fresh w (with_call (commit s c) c f)
 fresh_commit w s c f fresh done =
     let n : ℕ = length s.order in
     let m : ℕ = length (s.order ++ c ∷ []) in
@@ -124,7 +124,7 @@ fresh_commit w s c f fresh done =
           (λ l h d. absurd (both_ways (f l).done d (done l)));
     }
 
-fresh_low : (w : Work) (s : Course) → Fresh w s → Fresh w (record s { low = next_low w s })
+fresh_low : (w : Batch) (s : Schedule) → Fresh w s → Fresh w (record s { low = next_low w s })
 fresh_low w s f =
     let n : ℕ = length s.order in
     let most : ℕ = floor n w.options.horizon in
@@ -133,7 +133,7 @@ fresh_low w s f =
       all = join most s.low (max (oldest n s.calls) most) s.calls f.all (join most (oldest n s.calls) most s.calls (oldest_holds most n s.calls) (floor_holds most s.calls));
     }
 
-fresh_after : (w : Work) (s : Course) (e : Event) → Fresh w s → Fresh w (after w s e)
+fresh_after : (w : Batch) (s : Schedule) (e : Event) → Fresh w s → Fresh w (after w s e)
 fresh_after w s (B c) f = record { low = f.low; all = hold_more _ s.low s.calls (begin (length s.order)) f.all (fresh_start w s (begin (length s.order)) f refl) }
 fresh_after w s (S c) f = record { low = f.low; all = hold_changed _ s.low s.calls c (λ l. record l { steps = l.steps + 1 }) f.all (λ l h. h) }
 fresh_after w s (A c) f = record { low = f.low; all = hold_changed _ s.low s.calls c (again (length s.order) Plain) f.all (λ l h. fresh_start w s (again (length s.order) Plain l) f refl) }
@@ -143,7 +143,7 @@ fresh_after w s (X c) f = fresh_commit w s c (λ l. finish (again (length s.orde
 fresh_after w s (R c) f = record { low = f.low; all = hold_changed _ s.low s.calls c finish f.all (λ l h d. absurd (both_ways true d refl)) }
 fresh_after w s G f = fresh_low w s f
 
-fresh_reach : (w : Work) (s : Course) (es : List Event) → Fresh w s → Fresh w (reach w s es)
+fresh_reach : (w : Batch) (s : Schedule) (es : List Event) → Fresh w s → Fresh w (reach w s es)
 fresh_reach w s [] f = f
 fresh_reach w s (e ∷ es) f = fresh_reach w (after w s e) es (fresh_after w s e f)
 
@@ -154,13 +154,13 @@ past start low n (Some h) below holds = let less = ltb-true start low below in o
 
 pub stale_is_past : StaleIsPast
 stale_is_past w es c l is live stale =
-    let s : Course = course_of w es in
+    let s : Schedule = schedule_of w es in
     let f : Fresh w s = fresh_reach w beginning es (record { low = omega arith; all = tt }) in
     past l.start s.low (length s.order) w.options.horizon stale (hold_get (floor (length s.order) w.options.horizon) s.low s.calls c l f.all is live)
 
 pub none_is_stale : NoneIsStale
-none_is_stale w es none c l is live = by (is_stale (course_of w es) l) refl
+none_is_stale w es none c l is live = by (is_stale (schedule_of w es) l) refl
   where
-    by : (b : Bool) → is_stale (course_of w es) l ≡ b → is_stale (course_of w es) l ≡ false
-    by true e = absurd (subst (λ h. IsPast h l.start (length (course_of w es).order)) none (stale_is_past w es c l is live e))
+    by : (b : Bool) → is_stale (schedule_of w es) l ≡ b → is_stale (schedule_of w es) l ≡ false
+    by true e = absurd (subst (λ h. IsPast h l.start (length (schedule_of w es).order)) none (stale_is_past w es c l is live e))
     by false e = e

@@ -8,24 +8,24 @@ use Rattle.mv_journal.specs.declared.event.Event.{Event}
 use Rattle.mv_journal.specs.declared.event.Event.TheVariants.{B, S, A, M, C, X, R, G}
 use Rattle.mv_journal.specs.declared.outcome.Mark.{Mark}
 use Rattle.mv_journal.specs.declared.outcome.Mark.TheVariants.{Plain, Exclusive, Moved}
-use Rattle.mv_lawful.specs.declared.fault.Fault.{Fault}
-use Rattle.mv_lawful.specs.declared.fault.Fault.TheVariants.{Order, Kind, Stale, Idle, Rounds}
+use Rattle.mv_lawful.specs.declared.fault.EventFault.{EventFault}
+use Rattle.mv_lawful.specs.declared.fault.EventFault.TheVariants.{Order, Kind, Stale, Idle, Rounds}
 use Rattle.mv_lawful.specs.declared.fault.Wrong.{Wrong}
-use Rattle.mv_lawful.specs.Work.{Work}
-use Rattle.mv_lawful.specs.Lawful.{Live, Course, beginning, change_live, begin, again, finish, is_stale, is_hit, has_round, unless, of_live, refusal, after, or_refused, wrong_from, Lawful}
+use Rattle.mv_lawful.specs.Batch.{Batch}
+use Rattle.mv_lawful.specs.Lawful.{Live, Schedule, beginning, change_live, begin, again, finish, is_stale, is_hit, has_round, unless, of_live, refusal, after, or_refused, wrong_from, Lawful}
 use Rattle.mv_lawful.specs.Rounds.{is_repair}
 use Rattle.mv_lawful.proofs.Lists.{set_there}
 
 -- Journals without a fault
 
-pub first_allowed : (n : ℕ) (o : Option Fault) (later : Option Wrong) → or_refused n o later ≡ None → (o ≡ None) × (later ≡ None)
+pub first_allowed : (n : ℕ) (o : Option EventFault) (later : Option Wrong) → or_refused n o later ≡ None → (o ≡ None) × (later ≡ None)
 first_allowed n None later h = (refl, h)
 first_allowed n (Some f) later h = cc
 
 -- what is left to a call: all rounds before it begins
 abbrev left : ℕ → Option Live → ℕ
 left rounds None = rounds
-left rounds (Some l) = (rounds + 1) - length l.turns
+left rounds (Some l) = (rounds + 1) - length l.round_starts
 
 left_begun : (ls : List Live) (n c rounds : ℕ) → left rounds (slice_get (ls ++ begin n ∷ []) c) ≤ left rounds (slice_get ls c)
 left_begun [] n zero rounds = omega arith
@@ -35,11 +35,11 @@ left_begun (m ∷ ls) n (suc c) rounds = left_begun ls n c rounds
 
 -- a change of a call that adds rounds, or none
 abbrev Grows : (Live → Live) → Type 0
-Grows f = (l : Live) → length l.turns ≤ length (f l).turns
+Grows f = (l : Live) → length l.round_starts ≤ length (f l).round_starts
 
-left_set : (ls : List Live) (d c rounds : ℕ) (l m : Live) → slice_get ls d ≡ Some l → length l.turns ≤ length m.turns → left rounds (slice_get (slice_set ls d m) c) ≤ left rounds (slice_get ls c)
+left_set : (ls : List Live) (d c rounds : ℕ) (l m : Live) → slice_get ls d ≡ Some l → length l.round_starts ≤ length m.round_starts → left rounds (slice_get (slice_set ls d m) c) ≤ left rounds (slice_get ls c)
 left_set [] d c rounds l m is h = omega arith
-left_set (x ∷ ls) zero zero rounds l m is h = let same : x ≡ l = same_Some x l is in let n = ap (λ (y : Live). length y.turns) same in omega (arith, h, n)
+left_set (x ∷ ls) zero zero rounds l m is h = let same : x ≡ l = same_Some x l is in let n = ap (λ (y : Live). length y.round_starts) same in omega (arith, h, n)
 left_set (x ∷ ls) zero (suc c) rounds l m is h = omega arith
 left_set (x ∷ ls) (suc d) zero rounds l m is h = omega arith
 left_set (x ∷ ls) (suc d) (suc c) rounds l m is h = left_set ls d c rounds l m is h
@@ -51,14 +51,14 @@ left_changed ls d c rounds f h = by (slice_get ls d) refl
     by None e = omega arith
     by (Some l) e = left_set ls d c rounds l (f l) e (h l)
 
-pub more_turns : (n : ℕ) (mark : Mark) (l : Live) → length (again n mark l).turns ≡ length l.turns + 1
-more_turns n mark l = length-append l.turns (record { start = n; mark = mark } ∷ [])
+pub more_round_starts : (n : ℕ) (mark : Mark) (l : Live) → length (again n mark l).round_starts ≡ length l.round_starts + 1
+more_round_starts n mark l = length-append l.round_starts (record { start = n; mark = mark } ∷ [])
 
 again_grows : (n : ℕ) (mark : Mark) → Grows (again n mark)
-again_grows n mark l = let e = more_turns n mark l in omega (arith, e)
+again_grows n mark l = let e = more_round_starts n mark l in omega (arith, e)
 
 -- a repair that is allowed takes one of the rounds that are left
-one_taken : (w : Work) (s : Course) (c : ℕ) → refusal w s (A c) ≡ None → left w.options.rounds (slice_get (after w s (A c)).calls c) + 1 ≤ left w.options.rounds (slice_get s.calls c)
+one_taken : (w : Batch) (s : Schedule) (c : ℕ) → refusal w s (A c) ≡ None → left w.options.rounds (slice_get (after w s (A c)).calls c) + 1 ≤ left w.options.rounds (slice_get s.calls c)
 one_taken w s c h = by (slice_get s.calls c) refl h
   where
     allowed : (a k b d e : Bool) → unless a Order (unless k Kind (unless b Stale (unless d Idle (unless e Rounds None)))) ≡ None → e ≡ true
@@ -69,7 +69,7 @@ one_taken w s c h = by (slice_get s.calls c) refl h
     allowed true false b d e h = cc
     allowed false k b d e h = cc
 
-    less : (l : Live) → nat_lt (length l.turns - 1) w.options.rounds ≡ true → length l.turns - 1 < w.options.rounds
+    less : (l : Live) → nat_lt (length l.round_starts - 1) w.options.rounds ≡ true → length l.round_starts - 1 < w.options.rounds
     less l h = grind (arith, h)
 
     by : (o : Option Live) → slice_get s.calls c ≡ o → of_live o (λ l. unless (not (w.read_only c)) Kind (unless (not (is_stale s l)) Stale (unless (is_hit w s c l) Idle (unless (has_round w l) Rounds None)))) ≡ None
@@ -77,11 +77,11 @@ one_taken w s c h = by (slice_get s.calls c) refl h
     by None e g = cc
     by (Some l) e g =
         let room = less l (allowed (not l.done) (not (w.read_only c)) (not (is_stale s l)) (is_hit w s c l) (has_round w l) g) in
-        let more = more_turns (length s.order) Plain l in
+        let more = more_round_starts (length s.order) Plain l in
         let it = set_there s.calls c (again (length s.order) Plain l) l e in
-        subst (λ o. left w.options.rounds o + 1 ≤ (w.options.rounds + 1) - length l.turns) (sym it) (omega (arith, room, more))
+        subst (λ o. left w.options.rounds o + 1 ≤ (w.options.rounds + 1) - length l.round_starts) (sym it) (omega (arith, room, more))
 
-no_more : (w : Work) (s : Course) (e : Event) (c : ℕ) → left w.options.rounds (slice_get (after w s e).calls c) ≤ left w.options.rounds (slice_get s.calls c)
+no_more : (w : Batch) (s : Schedule) (e : Event) (c : ℕ) → left w.options.rounds (slice_get (after w s e).calls c) ≤ left w.options.rounds (slice_get s.calls c)
 no_more w s (B d) c = left_begun s.calls (length s.order) c w.options.rounds
 no_more w s (S d) c = left_changed s.calls d c w.options.rounds (λ l. record l { steps = l.steps + 1 }) (λ l. omega arith)
 no_more w s (A d) c = left_changed s.calls d c w.options.rounds (again (length s.order) Plain) (again_grows (length s.order) Plain)
@@ -92,7 +92,7 @@ no_more w s (X d) c =
 no_more w s (R d) c = left_changed s.calls d c w.options.rounds finish (λ l. omega arith)
 no_more w s G c = omega arith
 
-repairs_from : (w : Work) (n : ℕ) (s : Course) (es : List Event) (c : ℕ) → wrong_from w n s es ≡ None → length (filter (is_repair c) es) ≤ left w.options.rounds (slice_get s.calls c)
+repairs_from : (w : Batch) (n : ℕ) (s : Schedule) (es : List Event) (c : ℕ) → wrong_from w n s es ≡ None → length (filter (is_repair c) es) ≤ left w.options.rounds (slice_get s.calls c)
 repairs_from w n s [] c h = omega arith
 repairs_from w n s (e ∷ es) c h =
     let parts = first_allowed n (refusal w s e) (wrong_from w (n + 1) (after w s e) es) h in
@@ -126,5 +126,5 @@ repairs_from w n s (e ∷ es) c h =
     by (R d) free rest less = other (R d) refl rest less
     by G free rest less = other G refl rest less
 
-pub repairs_are_few : (w : Work) (es : List Event) → Lawful w es → (c : ℕ) → length (filter (is_repair c) es) ≤ w.options.rounds
+pub repairs_are_few : (w : Batch) (es : List Event) → Lawful w es → (c : ℕ) → length (filter (is_repair c) es) ≤ w.options.rounds
 repairs_are_few w es h c = repairs_from w 1 beginning es c h

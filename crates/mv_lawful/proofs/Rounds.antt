@@ -10,15 +10,15 @@ use Rattle.mv_journal.specs.declared.event.Event.{Event}
 use Rattle.mv_journal.specs.declared.event.Event.TheVariants.{B, S, A, M, C, X, R, G}
 use Rattle.mv_journal.specs.declared.outcome.Mark.{Mark}
 use Rattle.mv_journal.specs.declared.outcome.Mark.TheVariants.{Plain, Exclusive, Moved}
-use Rattle.mv_lawful.specs.declared.fault.Fault.{Fault}
-use Rattle.mv_lawful.specs.declared.fault.Fault.TheVariants.{Order, Kind, Stale, Idle, Rounds}
-use Rattle.mv_lawful.specs.Work.{Work}
-use Rattle.mv_lawful.specs.Lawful.{Live, Course, beginning, change_live, begin, again, finish, used, is_stale, is_hit, has_round, unless, of_live, refusal, after, reach, course_of, AllAllowed}
+use Rattle.mv_lawful.specs.declared.fault.EventFault.{EventFault}
+use Rattle.mv_lawful.specs.declared.fault.EventFault.TheVariants.{Order, Kind, Stale, Idle, Rounds}
+use Rattle.mv_lawful.specs.Batch.{Batch}
+use Rattle.mv_lawful.specs.Lawful.{Live, Schedule, beginning, change_live, begin, again, finish, used, is_stale, is_hit, has_round, unless, of_live, refusal, after, reach, schedule_of, AllAllowed}
 use Rattle.mv_lawful.specs.Rounds.{is_round, IsPast, MayMove, IsBounded}
 use Rattle.mv_lawful.specs.Laws.{RoundsAreCounted}
 use Rattle.mv_lawful.proofs.Lows.{stale_is_past}
 use Rattle.mv_lawful.proofs.Lists.{set_there}
-use Rattle.mv_lawful.proofs.Repairs.{more_turns}
+use Rattle.mv_lawful.proofs.Repairs.{more_round_starts}
 use Rattle.mv_lawful.proofs.Turns.{moves_join}
 
 -- The count
@@ -26,7 +26,7 @@ use Rattle.mv_lawful.proofs.Turns.{moves_join}
 -- a call that hasn't begun has no A and M events; a live one has one for each round after its first
 abbrev Counts : Option Live → ℕ → Type 0
 Counts None k = k ≡ 0
-Counts (Some l) k = l.done ≡ false → length l.turns ≡ k + 1
+Counts (Some l) k = l.done ≡ false → length l.round_starts ≡ k + 1
 
 counts_begun : (ls : List Live) (n c k : ℕ) → Counts (slice_get ls c) k → Counts (slice_get (ls ++ begin n ∷ []) c) k
 counts_begun [] n zero k h = λ d. omega (arith, h)
@@ -74,10 +74,10 @@ counts_again ls c n k mark there h = by (slice_get ls c) refl h
     by None e g = absurd (there e)
     by (Some l) e g =
         subst (λ o. Counts o (k + 1)) (sym (set_there ls c (again n mark l) l e))
-        (λ d. let many = g d in let more = more_turns n mark l in omega (arith, many, more))
+        (λ d. let many = g d in let more = more_round_starts n mark l in omega (arith, many, more))
 
 -- an event that is no round of the call
-counts_kept : (w : Work) (s : Course) (e : Event) (c k : ℕ) → is_round c e ≡ false → Counts (slice_get s.calls c) k → Counts (slice_get (after w s e).calls c) k
+counts_kept : (w : Batch) (s : Schedule) (e : Event) (c k : ℕ) → is_round c e ≡ false → Counts (slice_get s.calls c) k → Counts (slice_get (after w s e).calls c) k
 counts_kept w s (B d) c k other h = counts_begun s.calls (length s.order) c k h
 counts_kept w s (S d) c k other h = counts_changed s.calls d c k (λ l. record l { steps = l.steps + 1 }) (λ l g. g) h
 counts_kept w s (A d) c k other h = counts_apart s.calls d c k (again (length s.order) Plain) other h
@@ -88,12 +88,12 @@ counts_kept w s (R d) c k other h = counts_changed s.calls d c k finish (λ l g 
 counts_kept w s G c k other h = h
 
 -- an event of a call that is allowed is of a call that has begun
-begun : (o : Option Live) (f : Live → Option Fault) → of_live o f ≡ None → o ≡ None → ⊥
+begun : (o : Option Live) (f : Live → Option EventFault) → of_live o f ≡ None → o ≡ None → ⊥
 begun None f h e = cc
 begun (Some l) f h e = cc
 
 -- a round of the call
-counts_more : (w : Work) (s : Course) (e : Event) (c k : ℕ) → is_round c e ≡ true → refusal w s e ≡ None → Counts (slice_get s.calls c) k → Counts (slice_get (after w s e).calls c) (k + 1)
+counts_more : (w : Batch) (s : Schedule) (e : Event) (c k : ℕ) → is_round c e ≡ true → refusal w s e ≡ None → Counts (slice_get s.calls c) k → Counts (slice_get (after w s e).calls c) (k + 1)
 counts_more w s (A d) c k is free h = by (eqb-true d c is)
   where
     by : d ≡ c → Counts (slice_get (after w s (A d)).calls c) (k + 1)
@@ -113,7 +113,7 @@ counts_more w s (X d) c k is free h = absurd (both_ways false refl is)
 counts_more w s (R d) c k is free h = absurd (both_ways false refl is)
 counts_more w s G c k is free h = absurd (both_ways false refl is)
 
-counts_reach : (w : Work) (s : Course) (es : List Event) (c k : ℕ) → AllAllowed w s es → Counts (slice_get s.calls c) k → Counts (slice_get (reach w s es).calls c) (k + length (filter (is_round c) es))
+counts_reach : (w : Batch) (s : Schedule) (es : List Event) (c k : ℕ) → AllAllowed w s es → Counts (slice_get s.calls c) k → Counts (slice_get (reach w s es).calls c) (k + length (filter (is_round c) es))
 counts_reach w s [] c k free h = subst (λ n. Counts (slice_get s.calls c) n) (plus_none k) h
   where
     plus_none : (n : ℕ) → n ≡ n + 0
@@ -131,13 +131,13 @@ counts_reach w s (e ∷ es) c k free h = by (is_round c e) refl (λ n. counts_re
 
 pub rounds_are_counted : RoundsAreCounted
 rounds_are_counted w es free c l is live =
-    let many : length l.turns ≡ (0 + length (filter (is_round c) es)) + 1 = subst (λ o. Counts o (0 + length (filter (is_round c) es))) is (counts_reach w beginning es c 0 free refl) live in
+    let many : length l.round_starts ≡ (0 + length (filter (is_round c) es)) + 1 = subst (λ o. Counts o (0 + length (filter (is_round c) es))) is (counts_reach w beginning es c 0 free refl) live in
     omega (arith, many)
 
 -- One event more
 
 -- the journal stays bounded if a call whose round the event is had one left, and the event may be a move
-bounded_end : (w : Work) (es : List Event) (e : Event) → ((c : ℕ) → is_round c e ≡ true → length (filter (is_round c) es) ≤ w.options.rounds) → MayMove w (course_of w es) e → IsBounded w es → IsBounded w (es ++ e ∷ [])
+bounded_end : (w : Batch) (es : List Event) (e : Event) → ((c : ℕ) → is_round c e ≡ true → length (filter (is_round c) es) ≤ w.options.rounds) → MayMove w (schedule_of w es) e → IsBounded w es → IsBounded w (es ++ e ∷ [])
 bounded_end w es e left may b = record { few = λ c. by c (is_round c e) refl; late = moves_join w beginning es (e ∷ []) b.late (may, tt) }
   where
     split : (c : ℕ) → length (filter (is_round c) (es ++ e ∷ [])) ≡ length (filter (is_round c) es) + length (filter (is_round c) (e ∷ []))
@@ -156,10 +156,10 @@ bounded_end w es e left may b = record { few = λ c. by c (is_round c e) refl; l
         omega (arith, all, one, few)
 
 -- an event that is no repair and no move
-pub bounded_other : (w : Work) (es : List Event) (e : Event) → ((c : ℕ) → is_round c e ≡ false) → IsBounded w es → IsBounded w (es ++ e ∷ [])
+pub bounded_other : (w : Batch) (es : List Event) (e : Event) → ((c : ℕ) → is_round c e ≡ false) → IsBounded w es → IsBounded w (es ++ e ∷ [])
 bounded_other w es e other b = bounded_end w es e (λ c is. absurd (both_ways (is_round c e) (other c) is)) (may e other) b
   where
-    may : (e : Event) → ((c : ℕ) → is_round c e ≡ false) → MayMove w (course_of w es) e
+    may : (e : Event) → ((c : ℕ) → is_round c e ≡ false) → MayMove w (schedule_of w es) e
     may (B d) other = tt
     may (S d) other = tt
     may (A d) other = tt
@@ -170,18 +170,18 @@ bounded_other w es e other b = bounded_end w es e (λ c is. absurd (both_ways (i
     may G other = tt
 
 -- a round of a live call that has one left
-left_of : (w : Work) (es : List Event) (d : ℕ) (l : Live) → AllAllowed w beginning es → slice_get (course_of w es).calls d ≡ Some l → l.done ≡ false → used l ≤ w.options.rounds
+left_of : (w : Batch) (es : List Event) (d : ℕ) (l : Live) → AllAllowed w beginning es → slice_get (schedule_of w es).calls d ≡ Some l → l.done ≡ false → used l ≤ w.options.rounds
     → (c : ℕ) → (d == c) ≡ true → length (filter (is_round c) es) ≤ w.options.rounds
 left_of w es d l free is live le c same =
     subst (λ x. length (filter (is_round x) es) ≤ w.options.rounds) (eqb-true d c same)
     (subst (λ n. n ≤ w.options.rounds) (sym (rounds_are_counted w es free d l is live)) le)
 
 -- a repair that is allowed
-pub bounded_repair : (w : Work) (es : List Event) (c : ℕ) → AllAllowed w beginning es → refusal w (course_of w es) (A c) ≡ None → IsBounded w es → IsBounded w (es ++ A c ∷ [])
+pub bounded_repair : (w : Batch) (es : List Event) (c : ℕ) → AllAllowed w beginning es → refusal w (schedule_of w es) (A c) ≡ None → IsBounded w es → IsBounded w (es ++ A c ∷ [])
 bounded_repair w es c free allowed b = by (slice_get s.calls c) refl allowed
   where
-    s : Course
-    s = course_of w es
+    s : Schedule
+    s = schedule_of w es
 
     parts : (l : Live) (d b a h r : Bool) → l.done ≡ d → has_round w l ≡ r → unless (not d) Order (unless b Kind (unless a Stale (unless h Idle (unless r Rounds None)))) ≡ None → (d ≡ false) × (r ≡ true)
     parts l false true true true true e g k = (refl, refl)
@@ -201,15 +201,15 @@ bounded_repair w es c free allowed b = by (slice_get s.calls c) refl allowed
         bounded_end w es (A c) (left_of w es c l free at both.0 (less l both.1)) tt b
 
 -- a move of a stale call that has a round left
-pub bounded_move : (w : Work) (es : List Event) (c : ℕ) (l : Live) → AllAllowed w beginning es → slice_get (course_of w es).calls c ≡ Some l → l.done ≡ false → is_stale (course_of w es) l ≡ true → used l ≤ w.options.rounds
+pub bounded_move : (w : Batch) (es : List Event) (c : ℕ) (l : Live) → AllAllowed w beginning es → slice_get (schedule_of w es).calls c ≡ Some l → l.done ≡ false → is_stale (schedule_of w es) l ≡ true → used l ≤ w.options.rounds
     → IsBounded w es → IsBounded w (es ++ M c ∷ [])
 bounded_move w es c l free at live stale le b = bounded_end w es (M c) (left_of w es c l free at live le) may b
   where
-    may : ForSome (slice_get (course_of w es).calls c) (λ x. IsPast w.options.horizon x.start (length (course_of w es).order))
-    may = subst (λ o. ForSome o (λ x. IsPast w.options.horizon x.start (length (course_of w es).order))) (sym at) past
+    may : ForSome (slice_get (schedule_of w es).calls c) (λ x. IsPast w.options.horizon x.start (length (schedule_of w es).order))
+    may = subst (λ o. ForSome o (λ x. IsPast w.options.horizon x.start (length (schedule_of w es).order))) (sym at) past
       where
-        past : ForSome (Some l) (λ x. IsPast w.options.horizon x.start (length (course_of w es).order))
-        past x is = subst (λ (y : Live). IsPast w.options.horizon y.start (length (course_of w es).order)) (same x is) (stale_is_past w es c l at live stale)
+        past : ForSome (Some l) (λ x. IsPast w.options.horizon x.start (length (schedule_of w es).order))
+        past x is = subst (λ (y : Live). IsPast w.options.horizon y.start (length (schedule_of w es).order)) (same x is) (stale_is_past w es c l at live stale)
           where
             same : (x : Live) → ◌≡◌ {A = Option Live} (Some l) (Some x) → l ≡ x
             same x e = cc

@@ -11,13 +11,13 @@ use Rattle.mv_journal.specs.declared.event.Event.{Event}
 use Rattle.mv_journal.specs.declared.event.Event.TheVariants.{B, S, A, M, C, X, R, G}
 use Rattle.mv_journal.specs.declared.outcome.Mark.{Mark}
 use Rattle.mv_journal.specs.declared.outcome.Mark.TheVariants.{Plain, Exclusive, Moved}
-use Rattle.mv_lawful.specs.declared.fault.Fault.{Fault}
-use Rattle.mv_lawful.specs.declared.fault.Fault.TheVariants.{Order, Kind, Stale}
+use Rattle.mv_lawful.specs.declared.fault.EventFault.{EventFault}
+use Rattle.mv_lawful.specs.declared.fault.EventFault.TheVariants.{Order, Kind, Stale}
 use Rattle.mv_lawful.specs.declared.fault.Wrong.TheVariants.{Open}
-use Rattle.mv_lawful.specs.Work.{Work}
-use Rattle.mv_lawful.specs.Lawful.{Turn, Live, Course, beginning, change_live, begin, again, finish, is_stale, unless, of_live, refusal, after, reach, first_open, open_call, wrong_from, Lawful}
+use Rattle.mv_lawful.specs.Batch.{Batch}
+use Rattle.mv_lawful.specs.Lawful.{RoundStart, Live, Schedule, beginning, change_live, begin, again, finish, is_stale, unless, of_live, refusal, after, reach, first_open, open_call, wrong_from, Lawful}
 use Rattle.mv_lawful.specs.Laws.{first_start, IsOfCalls}
-use Rattle.mv_lawful.specs.Rounds.{WithinRounds, last_turn}
+use Rattle.mv_lawful.specs.Rounds.{WithinRounds, last_round_start}
 use Rattle.mv_lawful.proofs.Lists.{get_last, get_set}
 use Rattle.mv_lawful.proofs.Numbers.{within_more, within_end, last_end}
 use Rattle.mv_lawful.proofs.Repairs.{first_allowed}
@@ -97,10 +97,10 @@ record LiveAt (ls : List Live) (c : ℕ) : Type 0 where
   is : slice_get ls c ≡ Some l
   live : l.done ≡ false
 
-live_at : (ls : List Live) (c : ℕ) (f : Live → Option Fault) → of_live (slice_get ls c) f ≡ None → LiveAt ls c
+live_at : (ls : List Live) (c : ℕ) (f : Live → Option EventFault) → of_live (slice_get ls c) f ≡ None → LiveAt ls c
 live_at ls c f h = by (slice_get ls c) refl h
   where
-    live_of : (b : Bool) (later : Option Fault) → unless (not b) Order later ≡ None → b ≡ false
+    live_of : (b : Bool) (later : Option EventFault) → unless (not b) Order later ≡ None → b ≡ false
     live_of true later k = cc
     live_of false later k = refl
 
@@ -110,14 +110,14 @@ live_at ls c f h = by (slice_get ls c) refl h
 
 -- What events keep
 
-pub first_by : (n : ℕ) (ts : List Turn) → WithinRounds n ts → first_start ts ≤ n
+pub first_by : (n : ℕ) (ts : List RoundStart) → WithinRounds n ts → first_start ts ≤ n
 first_by n [] h = omega arith
 first_by n (t ∷ ts) h = h.0
 
 -- no round of a call starts after its last one, whose start is the call's and is at most this number
 pub record StartsIn (n : ℕ) (l : Live) : Type 0 where
-  pub by : WithinRounds l.start l.turns
-  pub last : last_turn l.turns ≡ l.start
+  pub by : WithinRounds l.start l.round_starts
+  pub last : last_round_start l.round_starts ≡ l.start
   pub past : l.start ≤ n
 
 starts_later : (n m : ℕ) (l : Live) → n ≤ m → StartsIn n l → StartsIn m l
@@ -125,12 +125,12 @@ starts_later n m l le h = record { by = h.by; last = h.last; past = (let p = h.p
 
 starts_again : (n : ℕ) (mark : Mark) (l : Live) → StartsIn n l → StartsIn n (again n mark l)
 starts_again n mark l h = record {
-  by = within_end n l.turns (record { start = n; mark = mark }) (within_more l.start n l.turns h.past h.by) (omega arith);
-  last = last_end l.turns (record { start = n; mark = mark });
+  by = within_end n l.round_starts (record { start = n; mark = mark }) (within_more l.start n l.round_starts h.past h.by) (omega arith);
+  last = last_end l.round_starts (record { start = n; mark = mark });
   past = omega arith;
 }
 
-pub record Orderly (w : Work) (order answered : List ℕ) (calls : List Live) : Type 0 where
+pub record Orderly (w : Batch) (order answered : List ℕ) (calls : List Live) : Type 0 where
   pub count : length calls ≤ w.count
   pub once : Once order
   pub replied : Once answered
@@ -138,7 +138,7 @@ pub record Orderly (w : Work) (order answered : List ℕ) (calls : List Live) : 
   pub done : (c : ℕ) (l : Live) → slice_get calls c ≡ Some l → l.done ≡ (stands c answered || stands c order)
   pub within : (c : ℕ) → length calls ≤ c → (stands c answered || stands c order) ≡ false
   pub starts : (c : ℕ) (l : Live) → slice_get calls c ≡ Some l → StartsIn (length order) l
-  pub after_begin : (k c : ℕ) (l : Live) → slice_get order k ≡ Some c → slice_get calls c ≡ Some l → WithinRounds k l.turns
+  pub after_begin : (k c : ℕ) (l : Live) → slice_get order k ≡ Some c → slice_get calls c ≡ Some l → WithinRounds k l.round_starts
   pub readers : (c : ℕ) → stands c answered ≡ true → w.read_only c ≡ true
 
 -- neither of them
@@ -155,7 +155,7 @@ or_true true b h = refl
 or_true false b h = h
 
 -- one live call changes and stays live
-changed : (w : Work) (order answered : List ℕ) (calls : List Live) (c : ℕ) (l m : Live) → Orderly w order answered calls → slice_get calls c ≡ Some l → l.done ≡ false → m.done ≡ false → StartsIn (length order) m
+changed : (w : Batch) (order answered : List ℕ) (calls : List Live) (c : ℕ) (l m : Live) → Orderly w order answered calls → slice_get calls c ≡ Some l → l.done ≡ false → m.done ≡ false → StartsIn (length order) m
     → Orderly w order answered (slice_set calls c m)
 changed w order answered calls c l m o is live still low = record {
   count = let n = length-set calls c m in let k = o.count in omega (arith, n, k);
@@ -180,12 +180,12 @@ changed w order answered calls c l m o is live still low = record {
     starts_by d x (inl h) = subst (λ (y : Live). StartsIn (length order) y) h.1 low
     starts_by d x (inr h) = o.starts d x h.1
 
-    begin_by : (k d : ℕ) (x : Live) → slice_get order k ≡ Some d → ((d ≡ c) × (m ≡ x)) ⊎ ((d ≡ c → ⊥) × (slice_get calls d ≡ Some x)) → WithinRounds k x.turns
+    begin_by : (k d : ℕ) (x : Live) → slice_get order k ≡ Some d → ((d ≡ c) × (m ≡ x)) ⊎ ((d ≡ c → ⊥) × (slice_get calls d ≡ Some x)) → WithinRounds k x.round_starts
     begin_by k d x at (inl h) = absurd (both_ways (stands c order) (none_right (stands c answered) (stands c order) away) (stands_at order k c (at ∙ ap Some h.0)))
     begin_by k d x at (inr h) = o.after_begin k d x at h.1
 
 -- one live call commits
-committed : (w : Work) (order answered : List ℕ) (calls : List Live) (c : ℕ) (l m : Live) → Orderly w order answered calls → slice_get calls c ≡ Some l → l.done ≡ false → m.done ≡ true → StartsIn (length order) m
+committed : (w : Batch) (order answered : List ℕ) (calls : List Live) (c : ℕ) (l m : Live) → Orderly w order answered calls → slice_get calls c ≡ Some l → l.done ≡ false → m.done ≡ true → StartsIn (length order) m
     → Orderly w (order ++ c ∷ []) answered (slice_set calls c m)
 committed w order answered calls c l m o is live finished low = record {
   count = let n = length-set calls c m in let k = o.count in omega (arith, n, k);
@@ -231,14 +231,14 @@ committed w order answered calls c l m o is live finished low = record {
     starts_by d x (inl h) = subst (λ (y : Live). StartsIn (length order) y) h.1 low
     starts_by d x (inr h) = o.starts d x h.1
 
-    begin_by : (k d : ℕ) (x : Live) → (slice_get order k ≡ Some d) ⊎ ((k ≡ length order) × (c ≡ d)) → ((d ≡ c) × (m ≡ x)) ⊎ ((d ≡ c → ⊥) × (slice_get calls d ≡ Some x)) → WithinRounds k x.turns
+    begin_by : (k d : ℕ) (x : Live) → (slice_get order k ≡ Some d) ⊎ ((k ≡ length order) × (c ≡ d)) → ((d ≡ c) × (m ≡ x)) ⊎ ((d ≡ c → ⊥) × (slice_get calls d ≡ Some x)) → WithinRounds k x.round_starts
     begin_by k d x (inl at) (inl h) = absurd (both_ways (stands c order) away (stands_at order k c (at ∙ ap Some h.0)))
     begin_by k d x (inl at) (inr h) = o.after_begin k d x at h.1
-    begin_by k d x (inr at) (inl h) = subst (λ n. WithinRounds n x.turns) (sym at.0) (subst (λ (y : Live). WithinRounds (length order) y.turns) h.1 (within_more m.start (length order) m.turns low.past low.by))
+    begin_by k d x (inr at) (inl h) = subst (λ n. WithinRounds n x.round_starts) (sym at.0) (subst (λ (y : Live). WithinRounds (length order) y.round_starts) h.1 (within_more m.start (length order) m.round_starts low.past low.by))
     begin_by k d x (inr at) (inr h) = absurd (h.0 (sym at.1))
 
 -- one live call is answered
-replied : (w : Work) (order answered : List ℕ) (calls : List Live) (c : ℕ) (l m : Live) → Orderly w order answered calls → slice_get calls c ≡ Some l → l.done ≡ false → m.done ≡ true → StartsIn (length order) m
+replied : (w : Batch) (order answered : List ℕ) (calls : List Live) (c : ℕ) (l m : Live) → Orderly w order answered calls → slice_get calls c ≡ Some l → l.done ≡ false → m.done ≡ true → StartsIn (length order) m
     → w.read_only c ≡ true → Orderly w order (answered ++ c ∷ []) (slice_set calls c m)
 replied w order answered calls c l m o is live finished low reads = record {
   count = let n = length-set calls c m in let k = o.count in omega (arith, n, k);
@@ -288,12 +288,12 @@ replied w order answered calls c l m o is live finished low reads = record {
     starts_by d x (inl h) = subst (λ (y : Live). StartsIn (length order) y) h.1 low
     starts_by d x (inr h) = o.starts d x h.1
 
-    begin_by : (k d : ℕ) (x : Live) → slice_get order k ≡ Some d → ((d ≡ c) × (m ≡ x)) ⊎ ((d ≡ c → ⊥) × (slice_get calls d ≡ Some x)) → WithinRounds k x.turns
+    begin_by : (k d : ℕ) (x : Live) → slice_get order k ≡ Some d → ((d ≡ c) × (m ≡ x)) ⊎ ((d ≡ c → ⊥) × (slice_get calls d ≡ Some x)) → WithinRounds k x.round_starts
     begin_by k d x at (inl h) = absurd (both_ways (stands c order) uncommitted (stands_at order k c (at ∙ ap Some h.0)))
     begin_by k d x at (inr h) = o.after_begin k d x at h.1
 
 -- a call begins
-begun : (w : Work) (order answered : List ℕ) (calls : List Live) → Orderly w order answered calls → length calls < w.count → Orderly w order answered (calls ++ begin (length order) ∷ [])
+begun : (w : Batch) (order answered : List ℕ) (calls : List Live) → Orderly w order answered calls → length calls < w.count → Orderly w order answered (calls ++ begin (length order) ∷ [])
 begun w order answered calls o room = record {
   count = let n = longer in omega (arith, n, room);
   once = o.once;
@@ -320,19 +320,19 @@ begun w order answered calls o room = record {
     starts_by d x (inl h) = o.starts d x h
     starts_by d x (inr h) = subst (λ (y : Live). StartsIn (length order) y) h.1 (record { by = (omega arith, tt); last = refl; past = omega arith })
 
-    begin_by : (k d : ℕ) (x : Live) → slice_get order k ≡ Some d → (slice_get calls d ≡ Some x) ⊎ ((d ≡ length calls) × (begin (length order) ≡ x)) → WithinRounds k x.turns
+    begin_by : (k d : ℕ) (x : Live) → slice_get order k ≡ Some d → (slice_get calls d ≡ Some x) ⊎ ((d ≡ length calls) × (begin (length order) ≡ x)) → WithinRounds k x.round_starts
     begin_by k d x at (inl h) = o.after_begin k d x at h
     begin_by k d x at (inr h) = absurd (both_ways (stands d order) (none_right (stands d answered) (stands d order) (next_away d h.0)) (stands_at order k d at))
 
-abbrev pub OrderlyAt : Work → Course → Type 0
+abbrev pub OrderlyAt : Batch → Schedule → Type 0
 OrderlyAt w s = Orderly w s.order s.answered s.calls
 
-at_call : (w : Work) (order answered : List ℕ) (calls : List Live) (c : ℕ) (f : Live → Live) (a : LiveAt calls c) → Orderly w order answered (slice_set calls c (f a.l))
+at_call : (w : Batch) (order answered : List ℕ) (calls : List Live) (c : ℕ) (f : Live → Live) (a : LiveAt calls c) → Orderly w order answered (slice_set calls c (f a.l))
     → Orderly w order answered (change_live (slice_get calls c) f calls c)
 at_call w order answered calls c f a h = subst (λ o. Orderly w order answered (change_live o f calls c)) (sym a.is) h
 
 -- a call that may be answered is read only
-reader_of : (w : Work) (c : ℕ) (b : Bool) (later : Option Fault) → unless (not b) Order (unless (w.read_only c) Kind later) ≡ None → w.read_only c ≡ true
+reader_of : (w : Batch) (c : ℕ) (b : Bool) (later : Option EventFault) → unless (not b) Order (unless (w.read_only c) Kind later) ≡ None → w.read_only c ≡ true
 reader_of w c b later h = by b (w.read_only c) h
   where
     by : (b r : Bool) → unless (not b) Order (unless r Kind later) ≡ None → r ≡ true
@@ -340,14 +340,14 @@ reader_of w c b later h = by b (w.read_only c) h
     by false true k = refl
     by false false k = cc
 
-answered_reads : (w : Work) (s : Course) (c : ℕ) → refusal w s (R c) ≡ None → w.read_only c ≡ true
+answered_reads : (w : Batch) (s : Schedule) (c : ℕ) → refusal w s (R c) ≡ None → w.read_only c ≡ true
 answered_reads w s c h = by (slice_get s.calls c) h
   where
     by : (o : Option Live) → of_live o (λ l. unless (w.read_only c) Kind (unless (not (is_stale s l)) Stale None)) ≡ None → w.read_only c ≡ true
     by None k = cc
     by (Some l) k = reader_of w c l.done (unless (not (is_stale s l)) Stale None) k
 
-room_of : (w : Work) (n c : ℕ) → unless ((c == n) && nat_lt c w.count) Order None ≡ None → n < w.count
+room_of : (w : Batch) (n c : ℕ) → unless ((c == n) && nat_lt c w.count) Order None ≡ None → n < w.count
 room_of w n c h = by (c == n) (nat_lt c w.count) refl refl h
   where
     less : nat_lt c w.count ≡ true → c < w.count
@@ -358,7 +358,7 @@ room_of w n c h = by (c == n) (nat_lt c w.count) refl refl h
     by true false e k h = cc
     by false b e k h = cc
 
-pub orderly_after : (w : Work) (s : Course) (e : Event) → refusal w s e ≡ None → OrderlyAt w s → OrderlyAt w (after w s e)
+pub orderly_after : (w : Batch) (s : Schedule) (e : Event) → refusal w s e ≡ None → OrderlyAt w s → OrderlyAt w (after w s e)
 orderly_after w s (B c) h o = begun w s.order s.answered s.calls o (room_of w (length s.calls) c h)
 orderly_after w s (S c) h o =
     let a = live_at s.calls c _ h in
@@ -393,11 +393,11 @@ orderly_after w s G h o = o
 -- Whole journals
 
 -- orderly, with no call open
-pub record Ended (w : Work) (s : Course) : Type 0 where
+pub record Ended (w : Batch) (s : Schedule) : Type 0 where
   pub orderly : OrderlyAt w s
   pub closed : option_map Open (open_call w s) ≡ None
 
-pub ended_from : (w : Work) (n : ℕ) (s : Course) (es : List Event) → wrong_from w n s es ≡ None → OrderlyAt w s → Ended w (reach w s es)
+pub ended_from : (w : Batch) (n : ℕ) (s : Schedule) (es : List Event) → wrong_from w n s es ≡ None → OrderlyAt w s → Ended w (reach w s es)
 ended_from w n s [] h o = record { orderly = o; closed = h }
 ended_from w n s (e ∷ es) h o =
     let parts = first_allowed n (refusal w s e) (wrong_from w (n + 1) (after w s e) es) h in
@@ -413,7 +413,7 @@ open_done n (l ∷ ls) i h = by l.done i refl h (open_done (n + 1) ls)
     by true (suc j) e h go = go j (omega (arith, h))
     by false i e h go = absurd (omega (arith, h))
 
-pub all_done : (w : Work) (s : Course) → option_map Open (open_call w s) ≡ None → (c : ℕ) → c < w.count → (l : Live) × (slice_get s.calls c ≡ Some l) × (l.done ≡ true)
+pub all_done : (w : Batch) (s : Schedule) → option_map Open (open_call w s) ≡ None → (c : ℕ) → c < w.count → (l : Live) × (slice_get s.calls c ≡ Some l) × (l.done ≡ true)
 all_done w s h c less = open_done 0 s.calls c (below (first_open 0 s.calls) (closed (first_open 0 s.calls) h))
   where
     closed : (n : ℕ) → option_map Open (if nat_lt n w.count then Some n else None) ≡ None → nat_lt n w.count ≡ false
@@ -427,7 +427,7 @@ all_done w s h c less = open_done 0 s.calls c (below (first_open 0 s.calls) (clo
     below n k = grind (arith, k, less)
 
 -- before any event
-pub at_beginning : (w : Work) → OrderlyAt w beginning
+pub at_beginning : (w : Batch) → OrderlyAt w beginning
 at_beginning w = record {
   count = omega arith;
   once = tt;
@@ -442,14 +442,14 @@ at_beginning w = record {
 
 -- Which calls are named
 
-live_below : (w : Work) (s : Course) (c : ℕ) (f : Live → Option Fault) → OrderlyAt w s → of_live (slice_get s.calls c) f ≡ None → c < w.count
+live_below : (w : Batch) (s : Schedule) (c : ℕ) (f : Live → Option EventFault) → OrderlyAt w s → of_live (slice_get s.calls c) f ≡ None → c < w.count
 live_below w s c f o h =
     let a = live_at s.calls c f h in
     let within : c < length s.calls = slice_get_within s.calls c a.l a.is in
     let count = o.count in
     omega (arith, within, count)
 
-pub next_below : (w : Work) (n c : ℕ) → unless ((c == n) && nat_lt c w.count) Order None ≡ None → c < w.count
+pub next_below : (w : Batch) (n c : ℕ) → unless ((c == n) && nat_lt c w.count) Order None ≡ None → c < w.count
 next_below w n c h = by (c == n) (nat_lt c w.count) refl h
   where
     less : nat_lt c w.count ≡ true → c < w.count
@@ -460,7 +460,7 @@ next_below w n c h = by (c == n) (nat_lt c w.count) refl h
     by true false k h = cc
     by false b k h = cc
 
-is_of_calls : (w : Work) (s : Course) (e : Event) → refusal w s e ≡ None → OrderlyAt w s → IsOfCalls w.count e
+is_of_calls : (w : Batch) (s : Schedule) (e : Event) → refusal w s e ≡ None → OrderlyAt w s → IsOfCalls w.count e
 is_of_calls w s (B c) h o = next_below w (length s.calls) c h
 is_of_calls w s (S c) h o = live_below w s c _ o h
 is_of_calls w s (A c) h o = live_below w s c _ o h
@@ -470,11 +470,11 @@ is_of_calls w s (X c) h o = live_below w s c _ o h
 is_of_calls w s (R c) h o = live_below w s c _ o h
 is_of_calls w s G h o = tt
 
-named_from : (w : Work) (n : ℕ) (s : Course) (es : List Event) → wrong_from w n s es ≡ None → OrderlyAt w s → All (IsOfCalls w.count) es
+named_from : (w : Batch) (n : ℕ) (s : Schedule) (es : List Event) → wrong_from w n s es ≡ None → OrderlyAt w s → All (IsOfCalls w.count) es
 named_from w n s [] h o = All-nil (IsOfCalls w.count)
 named_from w n s (e ∷ es) h o =
     let parts = first_allowed n (refusal w s e) (wrong_from w (n + 1) (after w s e) es) h in
     All-cons (IsOfCalls w.count) e es (is_of_calls w s e parts.0 o) (named_from w (n + 1) (after w s e) es parts.1 (orderly_after w s e parts.0 o))
 
-pub lawful_names_calls : (w : Work) (es : List Event) → Lawful w es → All (IsOfCalls w.count) es
+pub lawful_names_calls : (w : Batch) (es : List Event) → Lawful w es → All (IsOfCalls w.count) es
 lawful_names_calls w es h = named_from w 1 beginning es h (at_beginning w)

@@ -14,14 +14,14 @@ use Rattle.mv_journal.specs.declared.outcome.Mark.{Mark}
 use Rattle.mv_journal.specs.declared.outcome.Mark.TheVariants.{Plain, Exclusive, Moved}
 use Rattle.mv_journal.specs.declared.outcome.Round.{Round}
 use Rattle.mv_journal.specs.declared.outcome.HistoryLine.{HistoryLine}
-use Rattle.mv_lawful.specs.declared.fault.Fault.{Fault}
-use Rattle.mv_lawful.specs.declared.fault.Fault.TheVariants.{Order, Kind, Stale}
+use Rattle.mv_lawful.specs.declared.fault.EventFault.{EventFault}
+use Rattle.mv_lawful.specs.declared.fault.EventFault.TheVariants.{Order, Kind, Stale}
 use Rattle.mv_values.specs.Tables.{Tables}
-use Rattle.mv_lawful.specs.Work.{Work, tables_after, table_at}
-use Rattle.mv_lawful.specs.Lawful.{Turn, Live, Course, beginning, change_live, begin, again, finish, is_stale, unless, of_live, refusal, after, reach, course_of, wrong_from, AllAllowed}
+use Rattle.mv_lawful.specs.Batch.{Batch, tables_after, table_at}
+use Rattle.mv_lawful.specs.Lawful.{RoundStart, Live, Schedule, beginning, change_live, begin, again, finish, is_stale, unless, of_live, refusal, after, reach, schedule_of, wrong_from, AllAllowed}
 use Rattle.mv_lawful.specs.Places.{Place, start_in, places, calls_at, standing}
-use Rattle.mv_lawful.specs.Rounds.{WithinRounds, last_turn, last_turn_or, unless_moved, whole_run, later_run, later_rounds, rounds_of, round, last_start}
-use Rattle.mv_lawful.specs.Outcomes.{commits_before, reply_in, reply_after, turns_of, history_line}
+use Rattle.mv_lawful.specs.Rounds.{WithinRounds, last_round_start, last_turn_or, unless_moved, whole_run, later_run, later_rounds, rounds_of, round, last_start}
+use Rattle.mv_lawful.specs.Outcomes.{commits_before, reply_in, reply_after, round_starts_of, history_line}
 use Rattle.mv_lawful.specs.Laws.{IsSerial}
 use Rattle.mv_lawful.specs.Serializable.{begins_in, commits_in, ends_in, order_of, commits_of, commits_to, IsPlaced, start_of, LawfulIsSerializable}
 use Rattle.mv_lawful.proofs.Lists.{get_front, get_below, get_end, set_there, set_apart}
@@ -63,14 +63,14 @@ number_at (suc n) c lt =
     ]
 
 -- the reply of a call after so many commits
-reply_at : (w : Work) (s : Course) (j c : ℕ) → c < w.count → commits_before s.order s.answered (start_in s.calls c) c ≡ Some j
+reply_at : (w : Batch) (s : Schedule) (j c : ℕ) → c < w.count → commits_before s.order s.answered (start_in s.calls c) c ≡ Some j
     → slice_get (map (reply_in w s) (first_numbers w.count)) c ≡ Some (w.run c (table_at w s.order j)).reply
 reply_at w s j c lt is =
     slice_get-map (reply_in w s) (first_numbers w.count) c
     ∙ (ap (option_map (reply_in w s)) (number_at w.count c lt) ∙ ap (λ (o : Option ℕ). Some (reply_after w s.order c o)) is)
 
 -- with so many commits before it a call is at its place
-before_place : (w : Work) (s : Course) (j : ℕ) (o : Option ℕ) (c : ℕ) → OrderlyAt w s → StandsBy s 0 s.order j o c → commits_before s.order s.answered (start_in s.calls c) c ≡ Some j
+before_place : (w : Batch) (s : Schedule) (j : ℕ) (o : Option ℕ) (c : ℕ) → OrderlyAt w s → StandsBy s 0 s.order j o c → commits_before s.order s.answered (start_in s.calls c) c ≡ Some j
 before_place w s j (Some number) c o h =
     ap (λ b. if b then Some (start_in s.calls c) else position (λ d. d == c) s.order) (o.apart c (stands_at s.order j c h.1)) ∙ position_is s.order c j o.once h.1
 before_place w s j None c o h =
@@ -78,12 +78,12 @@ before_place w s j None c o h =
 
 -- The history
 
-calls_of : (w : Work) (s : Course) (ps : List Place) → order_of (map (history_line w s) ps) ≡ calls_at ps
+calls_of : (w : Batch) (s : Schedule) (ps : List Place) → order_of (map (history_line w s) ps) ≡ calls_at ps
 calls_of w s [] = refl
 calls_of w s (p ∷ ps) = ap (λ cs. p.call ∷ cs) (calls_of w s ps)
 
 -- the lines of commits are those of their places
-commits_in_lines : (w : Work) (s : Course) (ps : List Place) → commits_of (map (history_line w s) ps) ≡ map (history_line w s) (filter is_commit ps)
+commits_in_lines : (w : Batch) (s : Schedule) (ps : List Place) → commits_of (map (history_line w s) ps) ≡ map (history_line w s) (filter is_commit ps)
 commits_in_lines w s [] = refl
 commits_in_lines w s (p ∷ ps) = by (is_some p.commit) (commits_in_lines w s ps)
   where
@@ -92,23 +92,23 @@ commits_in_lines w s (p ∷ ps) = by (is_some p.commit) (commits_in_lines w s ps
     by true h = ap (λ (ls : List HistoryLine). history_line w s p ∷ ls) h
     by false h = h
 
-taken_lines : (w : Work) (s : Course) (k : ℕ) (ps : List Place) → take k (map (history_line w s) ps) ≡ map (history_line w s) (take k ps)
+taken_lines : (w : Batch) (s : Schedule) (k : ℕ) (ps : List Place) → take k (map (history_line w s) ps) ≡ map (history_line w s) (take k ps)
 taken_lines w s zero ps = refl
 taken_lines w s (suc k) [] = refl
 taken_lines w s (suc k) (p ∷ ps) = ap (λ (ls : List HistoryLine). history_line w s p ∷ ls) (taken_lines w s k ps)
 
-as_many_before : (w : Work) (s : Course) (k : ℕ) (ps : List Place) → commits_to k (map (history_line w s) ps) ≡ commits_to_place k ps
+as_many_before : (w : Batch) (s : Schedule) (k : ℕ) (ps : List Place) → commits_to k (map (history_line w s) ps) ≡ commits_to_place k ps
 as_many_before w s k ps =
     ap (λ (ls : List HistoryLine). length (commits_of ls)) (taken_lines w s k ps)
     ∙ (ap (λ (ls : List HistoryLine). length ls) (commits_in_lines w s (take k ps)) ∙ length-map (filter is_commit (take k ps)) (history_line w s))
 
 -- the line at a place is that of the call there
-record IsLineAt (w : Work) (s : Course) (ps : List Place) (k : ℕ) (found : HistoryLine) : Type 0 where
+record IsLineAt (w : Batch) (s : Schedule) (ps : List Place) (k : ℕ) (found : HistoryLine) : Type 0 where
   place : Place
   is : slice_get ps k ≡ Some place
   line : history_line w s place ≡ found
 
-line_at : (w : Work) (s : Course) (ps : List Place) (k : ℕ) (line : HistoryLine) → slice_get (map (history_line w s) ps) k ≡ Some line → IsLineAt w s ps k line
+line_at : (w : Batch) (s : Schedule) (ps : List Place) (k : ℕ) (line : HistoryLine) → slice_get (map (history_line w s) ps) k ≡ Some line → IsLineAt w s ps k line
 line_at w s ps k line h = by (slice_get ps k) refl (sym (slice_get-map (history_line w s) ps k) ∙ h)
   where
     by : (o : Option Place) → slice_get ps k ≡ o → option_map (history_line w s) o ≡ Some line → IsLineAt w s ps k line
@@ -117,27 +117,27 @@ line_at w s ps k line h = by (slice_get ps k) refl (sym (slice_get-map (history_
 
 -- Events one after another
 
-allowed_from : (w : Work) (n : ℕ) (s : Course) (es : List Event) → wrong_from w n s es ≡ None → AllAllowed w s es
+allowed_from : (w : Batch) (n : ℕ) (s : Schedule) (es : List Event) → wrong_from w n s es ≡ None → AllAllowed w s es
 allowed_from w n s [] h = tt
 allowed_from w n s (e ∷ es) h =
     let parts = first_allowed n (refusal w s e) (wrong_from w (n + 1) (after w s e) es) h in
     (parts.0, allowed_from w (n + 1) (after w s e) es parts.1)
 
-allowed_parts : (w : Work) (s : Course) (es fs : List Event) → AllAllowed w s (es ++ fs) → AllAllowed w s es × AllAllowed w (reach w s es) fs
+allowed_parts : (w : Batch) (s : Schedule) (es fs : List Event) → AllAllowed w s (es ++ fs) → AllAllowed w s es × AllAllowed w (reach w s es) fs
 allowed_parts w s [] fs h = (tt, h)
 allowed_parts w s (e ∷ es) fs h = let both = allowed_parts w (after w s e) es fs h.1 in ((h.0, both.0), both.1)
 
-reach_parts : (w : Work) (s : Course) (es fs : List Event) → reach w s (es ++ fs) ≡ reach w (reach w s es) fs
+reach_parts : (w : Batch) (s : Schedule) (es fs : List Event) → reach w s (es ++ fs) ≡ reach w (reach w s es) fs
 reach_parts w s [] fs = refl
 reach_parts w s (e ∷ es) fs = reach_parts w (after w s e) es fs
 
-orderly_reach : (w : Work) (s : Course) (es : List Event) → AllAllowed w s es → OrderlyAt w s → OrderlyAt w (reach w s es)
+orderly_reach : (w : Batch) (s : Schedule) (es : List Event) → AllAllowed w s es → OrderlyAt w s → OrderlyAt w (reach w s es)
 orderly_reach w s [] h o = o
 orderly_reach w s (e ∷ es) h o = orderly_reach w (after w s e) es h.1 (orderly_after w s e h.0 o)
 
 -- Commits
 
-order_is : (w : Work) (s : Course) (es : List Event) → (reach w s es).order ≡ s.order ++ commits_in es
+order_is : (w : Batch) (s : Schedule) (es : List Event) → (reach w s es).order ≡ s.order ++ commits_in es
 order_is w s [] = nothing s.order
   where
     nothing : (cs : List ℕ) → cs ≡ cs ++ []
@@ -155,7 +155,7 @@ order_is w s (G ∷ es) = order_is w (after w s G) es
 -- Ends
 
 -- whether a call has committed or was answered
-abbrev is_ended : ℕ → Course → Bool
+abbrev is_ended : ℕ → Schedule → Bool
 is_ended c s = stands c s.answered || stands c s.order
 
 stands_more : (c d : ℕ) (cs : List ℕ) → stands c (cs ++ d ∷ []) ≡ (stands c cs || ((d == c) || false))
@@ -184,7 +184,7 @@ nothing_more true = refl
 nothing_more false = refl
 
 -- it has ended before the events, or ends by them
-ends_are : (w : Work) (s : Course) (es : List Event) (c : ℕ) → is_ended c (reach w s es) ≡ (is_ended c s || stands c (ends_in es))
+ends_are : (w : Batch) (s : Schedule) (es : List Event) (c : ℕ) → is_ended c (reach w s es) ≡ (is_ended c s || stands c (ends_in es))
 ends_are w s [] c = nothing_more (is_ended c s)
 ends_are w s (B d ∷ es) c = ends_are w (after w s (B d)) es c
 ends_are w s (S d ∷ es) c = ends_are w (after w s (S d)) es c
@@ -216,14 +216,14 @@ same_count ls c f = by (slice_get ls c)
     by (Some l) = set_count ls c (f l)
 
 -- the call that begins is the next one
-next_is : (w : Work) (n c : ℕ) → unless ((c == n) && nat_lt c w.count) Order None ≡ None → c ≡ n
+next_is : (w : Batch) (n c : ℕ) → unless ((c == n) && nat_lt c w.count) Order None ≡ None → c ≡ n
 next_is w n c h = by (c == n) (nat_lt c w.count) refl h
   where
     by : (a b : Bool) → (c == n) ≡ a → unless (a && b) Order None ≡ None → c ≡ n
     by true b e k = eqb-true c n e
     by false b e k = cc
 
-begins_are : (w : Work) (s : Course) (es : List Event) → AllAllowed w s es → first_numbers (length s.calls) ++ begins_in es ≡ first_numbers (length (reach w s es).calls)
+begins_are : (w : Batch) (s : Schedule) (es : List Event) → AllAllowed w s es → first_numbers (length s.calls) ++ begins_in es ≡ first_numbers (length (reach w s es).calls)
 begins_are w s [] h = nothing (first_numbers (length s.calls))
   where
     nothing : (cs : List ℕ) → cs ++ [] ≡ cs
@@ -244,7 +244,7 @@ begins_are w s (R c ∷ es) h = ap (λ m. first_numbers m ++ begins_in es) (sym 
 begins_are w s (G ∷ es) h = begins_are w (after w s G) es h.1
 
 -- at the end each call has begun
-all_begun : (w : Work) (s : Course) → Ended w s → length s.calls ≡ w.count
+all_begun : (w : Batch) (s : Schedule) → Ended w s → length s.calls ≡ w.count
 all_begun w s h =
     elim (cases_lt (length s.calls) w.count) [
       | inl less ↦ absurd (let it = all_done w s h.closed (length s.calls) less in let within : length s.calls < length s.calls = slice_get_within s.calls (length s.calls) it.0 it.1 in omega (arith, within))
@@ -257,15 +257,15 @@ all_begun w s h =
 record BeganAt (n : ℕ) (ls : List Live) (c : ℕ) : Type 0 where
   l : Live
   is : slice_get ls c ≡ Some l
-  later : List Turn
-  turns : l.turns ≡ record { start = n; mark = Plain } ∷ later
+  later : List RoundStart
+  round_starts : l.round_starts ≡ record { start = n; mark = Plain } ∷ later
 
 -- it keeps the first round
 abbrev KeepsFirst : (Live → Live) → Type 0
-KeepsFirst f = (l : Live) (t : Turn) (ts : List Turn) → l.turns ≡ t ∷ ts → (us : List Turn) × ((f l).turns ≡ t ∷ us)
+KeepsFirst f = (l : Live) (t : RoundStart) (ts : List RoundStart) → l.round_starts ≡ t ∷ ts → (us : List RoundStart) × ((f l).round_starts ≡ t ∷ us)
 
 keeps_again : (n : ℕ) (mark : Mark) → KeepsFirst (again n mark)
-keeps_again n mark l t ts is = (ts ++ record { start = n; mark = mark } ∷ [], ap (λ (us : List Turn). us ++ record { start = n; mark = mark } ∷ []) is)
+keeps_again n mark l t ts is = (ts ++ record { start = n; mark = mark } ∷ [], ap (λ (us : List RoundStart). us ++ record { start = n; mark = mark } ∷ []) is)
 
 began_changed : (n : ℕ) (ls : List Live) (c d : ℕ) (f : Live → Live) → KeepsFirst f → BeganAt n ls c → BeganAt n (change_live (slice_get ls d) f ls d) c
 began_changed n ls c d f keeps b = by (slice_get ls d) refl
@@ -274,16 +274,16 @@ began_changed n ls c d f keeps b = by (slice_get ls d) refl
     set m true e at =
         let same : c ≡ d = eqb-true c d e in
         let one : b.l ≡ m = same_Some b.l m (sym b.is ∙ (ap (slice_get ls) same ∙ at)) in
-        let kept = keeps m (record { start = n; mark = Plain }) b.later (subst (λ (x : Live). x.turns ≡ record { start = n; mark = Plain } ∷ b.later) one b.turns) in
-        record { l = f m; is = ap (slice_get (slice_set ls d (f m))) same ∙ set_there ls d (f m) m at; later = kept.0; turns = kept.1 }
-    set m false e at = record { l = b.l; is = set_apart ls d c (f m) (λ same. both_ways (c == d) e (eq-eqb c d same)) ∙ b.is; later = b.later; turns = b.turns }
+        let kept = keeps m (record { start = n; mark = Plain }) b.later (subst (λ (x : Live). x.round_starts ≡ record { start = n; mark = Plain } ∷ b.later) one b.round_starts) in
+        record { l = f m; is = ap (slice_get (slice_set ls d (f m))) same ∙ set_there ls d (f m) m at; later = kept.0; round_starts = kept.1 }
+    set m false e at = record { l = b.l; is = set_apart ls d c (f m) (λ same. both_ways (c == d) e (eq-eqb c d same)) ∙ b.is; later = b.later; round_starts = b.round_starts }
 
     by : (o : Option Live) → slice_get ls d ≡ o → BeganAt n (change_live o f ls d) c
     by None at = b
     by (Some m) at = set m (c == d) refl at
 
-began_after : (w : Work) (s : Course) (e : Event) (n c : ℕ) → BeganAt n s.calls c → BeganAt n (after w s e).calls c
-began_after w s (B d) n c b = record { l = b.l; is = get_front s.calls (begin (length s.order)) c b.l b.is; later = b.later; turns = b.turns }
+began_after : (w : Batch) (s : Schedule) (e : Event) (n c : ℕ) → BeganAt n s.calls c → BeganAt n (after w s e).calls c
+began_after w s (B d) n c b = record { l = b.l; is = get_front s.calls (begin (length s.order)) c b.l b.is; later = b.later; round_starts = b.round_starts }
 began_after w s (S d) n c b = began_changed n s.calls c d (λ l. record l { steps = l.steps + 1 }) (λ l t ts is. (ts, is)) b
 began_after w s (A d) n c b = began_changed n s.calls c d (again (length s.order) Plain) (keeps_again (length s.order) Plain) b
 began_after w s (M d) n c b = began_changed n s.calls c d (again (length s.order) Moved) (keeps_again (length s.order) Moved) b
@@ -292,34 +292,34 @@ began_after w s (X d) n c b = began_changed n s.calls c d (λ l. finish (again (
 began_after w s (R d) n c b = began_changed n s.calls c d finish (λ l t ts is. (ts, is)) b
 began_after w s G n c b = b
 
-began_reach : (w : Work) (s : Course) (es : List Event) (n c : ℕ) → BeganAt n s.calls c → BeganAt n (reach w s es).calls c
+began_reach : (w : Batch) (s : Schedule) (es : List Event) (n c : ℕ) → BeganAt n s.calls c → BeganAt n (reach w s es).calls c
 began_reach w s [] n c b = b
 began_reach w s (e ∷ es) n c b = began_reach w (after w s e) es n c (began_after w s e n c b)
 
-abbrev rounds_in : Work → Course → ℕ → List Round
-rounds_in w s c = rounds_of w s.order c (turns_of (slice_get s.calls c))
+abbrev rounds_in : Batch → Schedule → ℕ → List Round
+rounds_in w s c = rounds_of w s.order c (round_starts_of (slice_get s.calls c))
 
-start_is : (w : Work) (s : Course) (n c : ℕ) → BeganAt n s.calls c → start_of (rounds_in w s c) ≡ Some n
+start_is : (w : Batch) (s : Schedule) (n c : ℕ) → BeganAt n s.calls c → start_of (rounds_in w s c) ≡ Some n
 start_is w s n c b =
-    ap (λ (o : Option Live). start_of (rounds_of w s.order c (turns_of o))) b.is
-    ∙ ap (λ (ts : List Turn). start_of (rounds_of w s.order c ts)) b.turns
+    ap (λ (o : Option Live). start_of (rounds_of w s.order c (round_starts_of o))) b.is
+    ∙ ap (λ (ts : List RoundStart). start_of (rounds_of w s.order c ts)) b.round_starts
 
 -- the first start of a call, and its end, by the events before and after its begin
-record IsBegun (w : Work) (before later : List Event) (c : ℕ) (s : Course) : Type 0 where
+record IsBegun (w : Batch) (before later : List Event) (c : ℕ) (s : Schedule) : Type 0 where
   end : Contains (ends_in later) c
   start : start_of (rounds_in w s c) ≡ Some (length (commits_in before))
 
-begun_by_events : (w : Work) (before later : List Event) (c : ℕ) → AllAllowed w beginning (before ++ B c ∷ later) → Ended w (course_of w (before ++ B c ∷ later)) → IsBegun w before later c (course_of w (before ++ B c ∷ later))
+begun_by_events : (w : Batch) (before later : List Event) (c : ℕ) → AllAllowed w beginning (before ++ B c ∷ later) → Ended w (schedule_of w (before ++ B c ∷ later)) → IsBegun w before later c (schedule_of w (before ++ B c ∷ later))
 begun_by_events w before later c free ended = record {
   end = contains_it c (ends_in later) (sym (ap (λ b. b || stands c (ends_in later)) away) ∙ (sym (ends_are w mid (B c ∷ later) c) ∙ stood));
-  start = start_is w s (length (commits_in before)) c (subst (λ (t : Course). BeganAt (length (commits_in before)) t.calls c) (sym (reach_parts w beginning before (B c ∷ later))) (began_reach w (after w mid (B c)) later (length (commits_in before)) c there));
+  start = start_is w s (length (commits_in before)) c (subst (λ (t : Schedule). BeganAt (length (commits_in before)) t.calls c) (sym (reach_parts w beginning before (B c ∷ later))) (began_reach w (after w mid (B c)) later (length (commits_in before)) c there));
 }
   where
-    mid : Course
-    mid = course_of w before
+    mid : Schedule
+    mid = schedule_of w before
 
-    s : Course
-    s = course_of w (before ++ B c ∷ later)
+    s : Schedule
+    s = schedule_of w (before ++ B c ∷ later)
 
     both : AllAllowed w beginning before × AllAllowed w mid (B c ∷ later)
     both = allowed_parts w beginning before (B c ∷ later) free
@@ -349,39 +349,39 @@ begun_by_events w before later c free ended = record {
       l = begin (length (commits_in before));
       is = get_end mid.calls (begin (length mid.order)) c next ∙ ap (λ (cs : List ℕ). Some (begin (length cs))) early;
       later = [];
-      turns = refl;
+      round_starts = refl;
     }
 
 -- Starts
 
-starts_by : (w : Work) (order : List ℕ) (c old k : ℕ) (ts : List Turn) → WithinRounds k ts → All (λ (r : Round). r.start ≤ k) (later_rounds w order c old ts)
+starts_by : (w : Batch) (order : List ℕ) (c old k : ℕ) (ts : List RoundStart) → WithinRounds k ts → All (λ (r : Round). r.start ≤ k) (later_rounds w order c old ts)
 starts_by w order c old k [] h = All-nil (λ (r : Round). r.start ≤ k)
 starts_by w order c old k (t ∷ ts) h =
     All-cons (λ (r : Round). r.start ≤ k) (round t (unless_moved (later_run w order c old t.start t.mark) ts)) (later_rounds w order c t.start ts) h.0 (starts_by w order c t.start k ts h.1)
 
-all_by : (w : Work) (order : List ℕ) (c k : ℕ) (ts : List Turn) → WithinRounds k ts → All (λ (r : Round). r.start ≤ k) (rounds_of w order c ts)
+all_by : (w : Batch) (order : List ℕ) (c k : ℕ) (ts : List RoundStart) → WithinRounds k ts → All (λ (r : Round). r.start ≤ k) (rounds_of w order c ts)
 all_by w order c k [] h = All-nil (λ (r : Round). r.start ≤ k)
 all_by w order c k (t ∷ ts) h = All-cons (λ (r : Round). r.start ≤ k) (round t (unless_moved (whole_run w order c t.start) ts)) (later_rounds w order c t.start ts) h.0 (starts_by w order c t.start k ts h.1)
 
--- the last start of rounds is that of the turns
-last_later : (w : Work) (order : List ℕ) (c old : ℕ) (r : Round) (ts : List Turn) → r.start ≡ old → last_start (r ∷ later_rounds w order c old ts) ≡ last_turn_or old ts
+-- the last start of rounds is that of the starts of rounds
+last_later : (w : Batch) (order : List ℕ) (c old : ℕ) (r : Round) (ts : List RoundStart) → r.start ≡ old → last_start (r ∷ later_rounds w order c old ts) ≡ last_turn_or old ts
 last_later w order c old r [] is = is
 last_later w order c old r (t ∷ ts) is = last_later w order c t.start (round t (unless_moved (later_run w order c old t.start t.mark) ts)) ts refl
 
-last_is : (w : Work) (order : List ℕ) (c : ℕ) (ts : List Turn) → last_start (rounds_of w order c ts) ≡ last_turn ts
+last_is : (w : Batch) (order : List ℕ) (c : ℕ) (ts : List RoundStart) → last_start (rounds_of w order c ts) ≡ last_round_start ts
 last_is w order c [] = refl
 last_is w order c (t ∷ ts) = last_later w order c t.start (round t (unless_moved (whole_run w order c t.start) ts)) ts refl ∙ sym (last_is_or t ts)
 
 -- the rounds of a call that has begun
-rounds_at : (w : Work) (s : Course) (c : ℕ) (l : Live) → slice_get s.calls c ≡ Some l → rounds_in w s c ≡ rounds_of w s.order c l.turns
-rounds_at w s c l is = ap (λ (o : Option Live). rounds_of w s.order c (turns_of o)) is
+rounds_at : (w : Batch) (s : Schedule) (c : ℕ) (l : Live) → slice_get s.calls c ≡ Some l → rounds_in w s c ≡ rounds_of w s.order c l.round_starts
+rounds_at w s c l is = ap (λ (o : Option Live). rounds_of w s.order c (round_starts_of o)) is
 
 -- a call that is live changes, and no other
 kept_set : (ls : List Live) (d c : ℕ) (l m x : Live) → slice_get ls c ≡ Some l → l.done ≡ true → slice_get ls d ≡ Some m → m.done ≡ false → slice_get (slice_set ls d x) c ≡ Some l
 kept_set ls d c l m x is done at live =
     set_apart ls d c x (λ same. both_ways m.done live (ap (λ (y : Live). y.done) (same_Some m l (sym at ∙ (ap (slice_get ls) (sym same) ∙ is))) ∙ done)) ∙ is
 
-kept_call : (ls : List Live) (d c : ℕ) (l : Live) (f : Live → Live) (g : Live → Option Fault) → slice_get ls c ≡ Some l → l.done ≡ true → of_live (slice_get ls d) g ≡ None
+kept_call : (ls : List Live) (d c : ℕ) (l : Live) (f : Live → Live) (g : Live → Option EventFault) → slice_get ls c ≡ Some l → l.done ≡ true → of_live (slice_get ls d) g ≡ None
     → slice_get (change_live (slice_get ls d) f ls d) c ≡ Some l
 kept_call ls d c l f g is done free = by (slice_get ls d) refl free
   where
@@ -394,7 +394,7 @@ kept_call ls d c l f g is done free = by (slice_get ls d) refl free
     by (Some m) at k = kept_set ls d c l m (f m) is done at (live m m.done k)
 
 -- a call that is done stays as it is
-done_after : (w : Work) (s : Course) (e : Event) (c : ℕ) (l : Live) → refusal w s e ≡ None → slice_get s.calls c ≡ Some l → l.done ≡ true → slice_get (after w s e).calls c ≡ Some l
+done_after : (w : Batch) (s : Schedule) (e : Event) (c : ℕ) (l : Live) → refusal w s e ≡ None → slice_get s.calls c ≡ Some l → l.done ≡ true → slice_get (after w s e).calls c ≡ Some l
 done_after w s (B d) c l free is done = get_front s.calls (begin (length s.order)) c l is
 done_after w s (S d) c l free is done = kept_call s.calls d c l _ _ is done free
 done_after w s (A d) c l free is done = kept_call s.calls d c l _ _ is done free
@@ -404,12 +404,12 @@ done_after w s (X d) c l free is done = kept_call s.calls d c l _ _ is done free
 done_after w s (R d) c l free is done = kept_call s.calls d c l _ _ is done free
 done_after w s G c l free is done = is
 
-done_reach : (w : Work) (s : Course) (es : List Event) (c : ℕ) (l : Live) → AllAllowed w s es → slice_get s.calls c ≡ Some l → l.done ≡ true → slice_get (reach w s es).calls c ≡ Some l
+done_reach : (w : Batch) (s : Schedule) (es : List Event) (c : ℕ) (l : Live) → AllAllowed w s es → slice_get s.calls c ≡ Some l → l.done ≡ true → slice_get (reach w s es).calls c ≡ Some l
 done_reach w s [] c l free is done = is
 done_reach w s (e ∷ es) c l free is done = done_reach w (after w s e) es c l free.1 (done_after w s e c l free.0 is done) done
 
 -- an answered call stays answered
-answered_stays : (w : Work) (s : Course) (es : List Event) (c : ℕ) → stands c s.answered ≡ true → stands c (reach w s es).answered ≡ true
+answered_stays : (w : Batch) (s : Schedule) (es : List Event) (c : ℕ) → stands c s.answered ≡ true → stands c (reach w s es).answered ≡ true
 answered_stays w s [] c h = h
 answered_stays w s (B d ∷ es) c h = answered_stays w (after w s (B d)) es c h
 answered_stays w s (S d ∷ es) c h = answered_stays w (after w s (S d)) es c h
@@ -421,16 +421,16 @@ answered_stays w s (R d ∷ es) c h = answered_stays w (after w s (R d)) es c (s
 answered_stays w s (G ∷ es) c h = answered_stays w (after w s G) es c h
 
 -- a call that is answered by an event: it stays so, with a start of at most the number of commits before
-record IsAnswered (before : List Event) (c : ℕ) (s : Course) : Type 0 where
+record IsAnswered (before : List Event) (c : ℕ) (s : Schedule) : Type 0 where
   there : stands c s.answered ≡ true
   past : start_in s.calls c ≤ length (commits_in before)
 
-answered_by_events : (w : Work) (before later : List Event) (c : ℕ) → AllAllowed w beginning (before ++ R c ∷ later) → IsAnswered before c (course_of w (before ++ R c ∷ later))
+answered_by_events : (w : Batch) (before later : List Event) (c : ℕ) → AllAllowed w beginning (before ++ R c ∷ later) → IsAnswered before c (schedule_of w (before ++ R c ∷ later))
 answered_by_events w before later c free =
-    subst (λ (t : Course). IsAnswered before c t) (sym (reach_parts w beginning before (R c ∷ later))) (by (slice_get mid.calls c) refl both.1.0)
+    subst (λ (t : Schedule). IsAnswered before c t) (sym (reach_parts w beginning before (R c ∷ later))) (by (slice_get mid.calls c) refl both.1.0)
   where
-    mid : Course
-    mid = course_of w before
+    mid : Schedule
+    mid = schedule_of w before
 
     both : AllAllowed w beginning before × AllAllowed w mid (R c ∷ later)
     both = allowed_parts w beginning before (R c ∷ later) free
@@ -454,14 +454,14 @@ answered_by_events w before later c free =
 -- Lines in their places
 
 -- a place has so many commits before it; its rounds start no later
-record IsFound (w : Work) (s : Course) (k : ℕ) (line : HistoryLine) : Type 0 where
+record IsFound (w : Batch) (s : Schedule) (k : ℕ) (line : HistoryLine) : Type 0 where
   placed : IsPlaced (commits_to k (map (history_line w s) (places s))) line.commit line.rounds
   starts : All (λ (r : Round). r.start ≤ commits_to k (map (history_line w s) (places s))) line.rounds
   answered : stands line.call s.answered ≡ true → commits_to k (map (history_line w s) (places s)) ≡ start_in s.calls line.call
 
 -- by the number of its commit
-found_by : (w : Work) (s : Course) (j : ℕ) (o : Option ℕ) (c : ℕ) (l : Live) → OrderlyAt w s → slice_get s.calls c ≡ Some l → StandsBy s 0 s.order j o c
-    → IsPlaced j o (rounds_of w s.order c l.turns) × WithinRounds j l.turns × (stands c s.answered ≡ true → j ≡ start_in s.calls c)
+found_by : (w : Batch) (s : Schedule) (j : ℕ) (o : Option ℕ) (c : ℕ) (l : Live) → OrderlyAt w s → slice_get s.calls c ≡ Some l → StandsBy s 0 s.order j o c
+    → IsPlaced j o (rounds_of w s.order c l.round_starts) × WithinRounds j l.round_starts × (stands c s.answered ≡ true → j ≡ start_in s.calls c)
 found_by w s j (Some number) c l o is h = (
   (let e = h.0 in omega (arith, e)),
   o.after_begin j c l h.1 is,
@@ -472,13 +472,13 @@ found_by w s j None c l o is h =
     let own = start_at s.calls c l is in
     let there = h.1 in
     let start : l.start ≡ j = omega (arith, own, there) in (
-      last_is w s.order c l.turns ∙ (t.last ∙ start),
-      subst (λ n. WithinRounds n l.turns) start t.by,
+      last_is w s.order c l.round_starts ∙ (t.last ∙ start),
+      subst (λ n. WithinRounds n l.round_starts) start t.by,
       (λ answered. omega (arith, there)),
     )
 
 -- a call that stands has begun
-begun_at_place : (w : Work) (s : Course) (j : ℕ) (o : Option ℕ) (c : ℕ) → OrderlyAt w s → StandsBy s 0 s.order j o c → (l : Live) × (slice_get s.calls c ≡ Some l)
+begun_at_place : (w : Batch) (s : Schedule) (j : ℕ) (o : Option ℕ) (c : ℕ) → OrderlyAt w s → StandsBy s 0 s.order j o c → (l : Live) × (slice_get s.calls c ≡ Some l)
 begun_at_place w s j o c orderly h = by (slice_get s.calls c) refl
   where
     short : (ls : List Live) (c : ℕ) → slice_get ls c ≡ None → length ls ≤ c
@@ -490,18 +490,18 @@ begun_at_place w s j o c orderly h = by (slice_get s.calls c) refl
     by (Some l) is = (l, is)
     by None is = absurd (both_ways (stands c s.answered || stands c s.order) (orderly.within c (short s.calls c is)) (ended_at s 0 s.order j o c h))
 
-found_at : (w : Work) (s : Course) (k : ℕ) (line : HistoryLine) → OrderlyAt w s → slice_get (map (history_line w s) (places s)) k ≡ Some line → IsFound w s k line
+found_at : (w : Batch) (s : Schedule) (k : ℕ) (line : HistoryLine) → OrderlyAt w s → slice_get (map (history_line w s) (places s)) k ≡ Some line → IsFound w s k line
 found_at w s k line o at =
     let it = line_at w s (places s) k line at in
     let here = place_at s 0 s.order k it.place it.is in
     let live = begun_at_place w s (commits_to_place k (places s)) it.place.commit it.place.call o here in
     let parts = found_by w s (commits_to_place k (places s)) it.place.commit it.place.call live.0 o live.1 here in
     let many : commits_to_place k (places s) ≡ commits_to k (map (history_line w s) (places s)) = sym (as_many_before w s k (places s)) in
-    let rounds : rounds_of w s.order it.place.call live.0.turns ≡ rounds_in w s it.place.call = sym (rounds_at w s it.place.call live.0 live.1) in
+    let rounds : rounds_of w s.order it.place.call live.0.round_starts ≡ rounds_in w s it.place.call = sym (rounds_at w s it.place.call live.0 live.1) in
     subst (λ (x : HistoryLine). IsFound w s k x) it.line (record {
       placed = subst (λ n. IsPlaced n it.place.commit (rounds_in w s it.place.call)) many (subst (λ (rs : List Round). IsPlaced (commits_to_place k (places s)) it.place.commit rs) rounds parts.0);
       starts = subst (λ n. All (λ (r : Round). r.start ≤ n) (rounds_in w s it.place.call)) many
-          (subst (λ (rs : List Round). All (λ (r : Round). r.start ≤ commits_to_place k (places s)) rs) rounds (all_by w s.order it.place.call (commits_to_place k (places s)) live.0.turns parts.1));
+          (subst (λ (rs : List Round). All (λ (r : Round). r.start ≤ commits_to_place k (places s)) rs) rounds (all_by w s.order it.place.call (commits_to_place k (places s)) live.0.round_starts parts.1));
       answered = λ there. sym many ∙ parts.2 there;
     })
 
@@ -528,8 +528,8 @@ lawful_is_serializable w es keeps h = record {
   starts = λ k line at. (found_at w s k line orderly at).starts;
 }
   where
-    s : Course
-    s = course_of w es
+    s : Schedule
+    s = schedule_of w es
 
     ended : Ended w s
     ended = ended_from w 1 beginning es h (at_beginning w)
@@ -570,9 +570,9 @@ lawful_is_serializable w es keeps h = record {
 
     begun_at : (before later : List Event) (c : ℕ) → es ≡ before ++ B c ∷ later → IsBegun w before later c s
     begun_at before later c is =
-        subst (λ (fs : List Event). IsBegun w before later c (course_of w fs)) (sym is)
-        (begun_by_events w before later c (subst (AllAllowed w beginning) is free) (subst (λ (fs : List Event). Ended w (course_of w fs)) is ended))
+        subst (λ (fs : List Event). IsBegun w before later c (schedule_of w fs)) (sym is)
+        (begun_by_events w before later c (subst (AllAllowed w beginning) is free) (subst (λ (fs : List Event). Ended w (schedule_of w fs)) is ended))
 
     answered_by : (before later : List Event) (c : ℕ) → es ≡ before ++ R c ∷ later → IsAnswered before c s
     answered_by before later c is =
-        subst (λ (fs : List Event). IsAnswered before c (course_of w fs)) (sym is) (answered_by_events w before later c (subst (AllAllowed w beginning) is free))
+        subst (λ (fs : List Event). IsAnswered before c (schedule_of w fs)) (sym is) (answered_by_events w before later c (subst (AllAllowed w beginning) is free))

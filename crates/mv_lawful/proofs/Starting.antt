@@ -8,7 +8,7 @@ use Rattle.std.proofs.lemmas.List.{length-map, map-append, take_more, drop_more,
 use Rattle.std.proofs.lemmas.List.Elements.{filter-append}
 use Rattle.std.proofs.lemmas.Option.{same_Some, slice_get-map}
 use Rattle.mv_values.specs.Counts.{first_numbers}
-use Rattle.mv_lawful.specs.Lawful.{Live, Course, begin}
+use Rattle.mv_lawful.specs.Lawful.{Live, Schedule, begin}
 use Rattle.mv_lawful.specs.Places.{Place, start_by, start_in, answered_at, answer_place, places_from, places, places_by}
 use Rattle.mv_lawful.proofs.Placing.{commit_place, places_by_starts}
 use Rattle.mv_lawful.proofs.Serializing.{number_at}
@@ -91,7 +91,7 @@ starts_same ls starts are c = ap (λ ns. start_in (map begin ns) c) are ∙ by (
     by (Some l) e = ap start_by (there ∙ ap (λ o. option_map begin (option_map (λ (l : Live). l.start) o)) e) ∙ sym (ap start_by e)
 
 -- so these are the places of a journal whose calls have these starts
-pub places_told : (s : Course) (order starts answered : List ℕ) → order ≡ s.order → starts ≡ map (λ (l : Live). l.start) s.calls → answered ≡ s.answered → places_by order starts answered ≡ places s
+pub places_told : (s : Schedule) (order starts answered : List ℕ) → order ≡ s.order → starts ≡ map (λ (l : Live). l.start) s.calls → answered ≡ s.answered → places_by order starts answered ≡ places s
 places_told s order starts answered ordered started replied = places_by_starts (record { order = order; calls = map begin starts; low = 0; answered = answered }) s ordered replied (starts_same s.calls starts started)
 
 -- those of these calls that start there
@@ -138,14 +138,14 @@ start_put starts answered count i c n lists list other are lt is start less ther
 
 -- Places one after another
 
-pub place_more : (s : Course) (ps all : List Place) (cs : List ℕ) (i c : ℕ) → i < length cs → c ≡ get_or cs i 0 → ps ++ places_from s i (drop i cs) ≡ all
+pub place_more : (s : Schedule) (ps all : List Place) (cs : List ℕ) (i c : ℕ) → i < length cs → c ≡ get_or cs i 0 → ps ++ places_from s i (drop i cs) ≡ all
     → ((ps ++ map answer_place (answered_at s i)) ++ commit_place (i + 1) c ∷ []) ++ places_from s (i + 1) (drop (i + 1) cs) ≡ all
 place_more s ps all cs i c lt is h =
     append_assoc (ps ++ map answer_place (answered_at s i)) (commit_place (i + 1) c ∷ []) (places_from s (i + 1) (drop (i + 1) cs))
     ∙ (append_assoc ps (map answer_place (answered_at s i)) (commit_place (i + 1) c ∷ places_from s (i + 1) (drop (i + 1) cs))
     ∙ (ap (λ ds. ps ++ places_from s i ds) (ap (λ d. d ∷ drop (i + 1) cs) is ∙ sym (drop_more cs i 0 lt)) ∙ h))
 
-pub place_last : (s : Course) (ps all : List Place) (cs : List ℕ) (i : ℕ) → length cs ≡ i → ps ++ places_from s i (drop i cs) ≡ all → ps ++ map answer_place (answered_at s i) ≡ all
+pub place_last : (s : Schedule) (ps all : List Place) (cs : List ℕ) (i : ℕ) → length cs ≡ i → ps ++ places_from s i (drop i cs) ≡ all → ps ++ map answer_place (answered_at s i) ≡ all
 place_last s ps all cs i is h = ap (λ ds. ps ++ places_from s i ds) (sym (drop_all i cs (omega (arith, is)))) ∙ h
 
 pub answer_more : (cs : List ℕ) (ps all : List Place) (i c : ℕ) → i < length cs → c ≡ get_or cs i c → ps ++ map answer_place (drop i cs) ≡ all → (ps ++ answer_place c ∷ []) ++ map answer_place (drop (i + 1) cs) ≡ all

@@ -5,8 +5,8 @@ use Rattle.std.specs.List.{filter}
 use Rattle.std.proofs.lemmas.Bool.{eq-eqb, ne_eqb}
 use Rattle.std.proofs.lemmas.List.Elements.{filter-append}
 use Rattle.mv_values.specs.Counts.{first_numbers}
-use Rattle.mv_lawful.specs.Work.{Work}
-use Rattle.mv_lawful.specs.Lawful.{Live, Course, beginning, begin, finish, open_call}
+use Rattle.mv_lawful.specs.Batch.{Batch}
+use Rattle.mv_lawful.specs.Lawful.{Live, Schedule, beginning, begin, finish, open_call}
 use Rattle.mv_lawful.specs.declared.fault.Wrong.TheVariants.{Open}
 use Rattle.mv_lawful.specs.Places.{start_by, start_in, answered_at, answer_place, places_from, calls_at, standing}
 use Rattle.mv_lawful.specs.Outcomes.{in_turn}
@@ -45,7 +45,7 @@ none_past ls n most k (c ∷ cs) less h =
 -- One call more
 
 -- a commit stands behind all others
-commit_stands : (s t : Course) (m n : ℕ) (cs : List ℕ) → ((k : ℕ) → answered_at t k ≡ answered_at s k) → answered_at t (m + length cs + 1) ≡ []
+commit_stands : (s t : Schedule) (m n : ℕ) (cs : List ℕ) → ((k : ℕ) → answered_at t k ≡ answered_at s k) → answered_at t (m + length cs + 1) ≡ []
     → calls_at (places_from t m (cs ++ n ∷ [])) ≡ calls_at (places_from s m cs) ++ n ∷ []
 commit_stands s t m n [] same none =
     calls_more t m n []
@@ -58,7 +58,7 @@ commit_stands s t m n (c ∷ cs) same none =
     ∙ (sym (append_assoc (answered_at s m) (c ∷ calls_at (places_from s (m + 1) cs)) (n ∷ [])) ∙ ap (λ ds. ds ++ n ∷ []) (sym (calls_more s m c cs)))))
 
 -- so does a call that is answered after all commits
-answer_stands : (s t : Course) (m n : ℕ) (cs : List ℕ) → ((k : ℕ) → k < m + length cs → answered_at t k ≡ answered_at s k) → answered_at t (m + length cs) ≡ answered_at s (m + length cs) ++ n ∷ []
+answer_stands : (s t : Schedule) (m n : ℕ) (cs : List ℕ) → ((k : ℕ) → k < m + length cs → answered_at t k ≡ answered_at s k) → answered_at t (m + length cs) ≡ answered_at s (m + length cs) ++ n ∷ []
     → calls_at (places_from t m cs) ≡ calls_at (places_from s m cs) ++ n ∷ []
 answer_stands s t m n [] same last =
     let here : m + length {A = ℕ} [] ≡ m = omega arith in
@@ -89,21 +89,21 @@ before_end ls n most c [] less start h = ((less, start), tt)
 before_end ls n most c (d ∷ cs) less start h = (h.0, before_end ls n most c cs less start h.1)
 
 -- by kind: whether the next call is read only
-abbrev Next : Work → ℕ → Bool → Course
+abbrev Next : Batch → ℕ → Bool → Schedule
 Next w n true = record { order = commits_of w n; calls = done_calls w (suc n); low = 0; answered = answers_of w n ++ n ∷ [] }
 Next w n false = record { order = commits_of w n ++ n ∷ []; calls = done_calls w (suc n); low = 0; answered = answers_of w n }
 
-abbrev next_by : Work → ℕ → Bool → Course
+abbrev next_by : Batch → ℕ → Bool → Schedule
 next_by w n b = record { order = more_commits b n (commits_of w n); calls = done_calls w (suc n); low = 0; answered = more_answers b n (answers_of w n) }
 
-next_is : (w : Work) (n : ℕ) (b : Bool) → w.read_only n ≡ b → turned w (suc n) ≡ Next w n b
+next_is : (w : Batch) (n : ℕ) (b : Bool) → w.read_only n ≡ b → turned w (suc n) ≡ Next w n b
 next_is w n true reads = ap (next_by w n) reads
 next_is w n false reads = ap (next_by w n) reads
 
-abbrev AllBefore : Work → ℕ → Type 0
+abbrev AllBefore : Batch → ℕ → Type 0
 AllBefore w n = Before (done_calls w n) n (length (commits_of w n)) (answers_of w n)
 
-all_before : (w : Work) (n : ℕ) → AllBefore w n
+all_before : (w : Batch) (n : ℕ) → AllBefore w n
 all_before w zero = tt
 all_before w (suc n) = by (before_more (done_calls w n) (finish (begin (length (commits_of w n)))) n (length (commits_of w n)) (answers_of w n) (length_calls w n) (all_before w n)) (w.read_only n) refl
   where
@@ -115,9 +115,9 @@ all_before w (suc n) = by (before_more (done_calls w n) (finish (begin (length (
     kind grown false = before_later (done_calls w (suc n)) (suc n) (length (commits_of w n)) (length (commits_of w n ++ n ∷ [])) (answers_of w n) (let l = length-append (commits_of w n) (n ∷ []) in omega (arith, l)) grown
 
     by : Before (done_calls w (suc n)) (suc n) (length (commits_of w n)) (answers_of w n) → (b : Bool) → w.read_only n ≡ b → AllBefore w (suc n)
-    by grown b reads = subst (λ (t : Course). Before t.calls (suc n) (length t.order) t.answered) (sym (next_is w n b reads)) (kind grown b)
+    by grown b reads = subst (λ (t : Schedule). Before t.calls (suc n) (length t.order) t.answered) (sym (next_is w n b reads)) (kind grown b)
 
-stands_more : (w : Work) (n : ℕ) (b : Bool) → standing (Next w n b) ≡ standing (turned w n) ++ n ∷ []
+stands_more : (w : Batch) (n : ℕ) (b : Bool) → standing (Next w n b) ≡ standing (turned w n) ++ n ∷ []
 stands_more w n true = answer_stands (turned w n) (Next w n true) 0 n (commits_of w n) same last
   where
     ls : List Live
@@ -152,11 +152,11 @@ stands_more w n false = commit_stands (turned w n) (Next w n false) 0 n (commits
     past : answered_at (turned w n) (0 + length (commits_of w n) + 1) ≡ []
     past = none_past (done_calls w n) n (length (commits_of w n)) (0 + length (commits_of w n) + 1) (answers_of w n) (omega arith) (all_before w n)
 
-pub stands_in_turn : (w : Work) (n : ℕ) → standing (turned w n) ≡ first_numbers n
+pub stands_in_turn : (w : Batch) (n : ℕ) → standing (turned w n) ≡ first_numbers n
 stands_in_turn w zero = refl
 stands_in_turn w (suc n) = ap standing (next_is w n (w.read_only n) refl) ∙ (stands_more w n (w.read_only n) ∙ ap (λ cs. cs ++ n ∷ []) (stands_in_turn w n))
 
-pub in_turn_is_lawful : (w : Work) → IsInTurn w (in_turn w.read_only w.count)
+pub in_turn_is_lawful : (w : Batch) → IsInTurn w (in_turn w.read_only w.count)
 in_turn_is_lawful w = record {
   lawful = only_open w 1 beginning (in_turn w.read_only w.count) (turns_free w w.count (omega arith)) ∙ (ap (λ s. option_map Open (open_call w s)) (turns_reach w w.count) ∙ closed w w.count refl);
   bounded = record { few = λ c. (let e = ap length (no_rounds w.read_only c w.count) in omega (arith, e)); late = turns_late w w.count };

@@ -14,29 +14,29 @@ use Rattle.mv_journal.specs.declared.event.Event.{Event}
 use Rattle.mv_journal.specs.declared.event.Event.TheVariants.{B}
 use Rattle.mv_history.specs.declared.change.Change.{Change}
 use Rattle.mv_history.specs.Hits.{first_hit}
-use Rattle.mv_lawful.specs.declared.fault.Fault.TheVariants.{Order, Kind, Stale, Conflict}
+use Rattle.mv_lawful.specs.declared.fault.EventFault.TheVariants.{Order, Kind, Stale, Conflict}
 use Rattle.mv_lawful.specs.declared.fault.Wrong.TheVariants.{Open}
-use Rattle.mv_lawful.specs.Work.{Work, tables_after, changes_after, since, hit_of, records_at}
-use Rattle.mv_lawful.specs.Lawful.{Live, Course, beginning, change_live, begin, finish, unless, of_live, refusal, after, reach, first_open, open_call, or_refused, wrong_from, AllAllowed}
+use Rattle.mv_lawful.specs.Batch.{Batch, tables_after, changes_after, since, hit_of, records_at}
+use Rattle.mv_lawful.specs.Lawful.{Live, Schedule, beginning, change_live, begin, finish, unless, of_live, refusal, after, reach, first_open, open_call, or_refused, wrong_from, AllAllowed}
 use Rattle.mv_lawful.specs.Rounds.{is_round, MovesLate}
 use Rattle.mv_lawful.specs.Outcomes.{ending, turn, in_turn}
 use Rattle.mv_lawful.proofs.Lists.{get_end}
 
 -- Journals one after another
 
-allowed_join : (w : Work) (s : Course) (es fs : List Event) → AllAllowed w s es → AllAllowed w (reach w s es) fs → AllAllowed w s (es ++ fs)
+allowed_join : (w : Batch) (s : Schedule) (es fs : List Event) → AllAllowed w s es → AllAllowed w (reach w s es) fs → AllAllowed w s (es ++ fs)
 allowed_join w s [] fs h k = k
 allowed_join w s (e ∷ es) fs h k = (h.0, allowed_join w (after w s e) es fs h.1 k)
 
-reach_join : (w : Work) (s : Course) (es fs : List Event) → reach w s (es ++ fs) ≡ reach w (reach w s es) fs
+reach_join : (w : Batch) (s : Schedule) (es fs : List Event) → reach w s (es ++ fs) ≡ reach w (reach w s es) fs
 reach_join w s [] fs = refl
 reach_join w s (e ∷ es) fs = reach_join w (after w s e) es fs
 
-pub moves_join : (w : Work) (s : Course) (es fs : List Event) → MovesLate w s es → MovesLate w (reach w s es) fs → MovesLate w s (es ++ fs)
+pub moves_join : (w : Batch) (s : Schedule) (es fs : List Event) → MovesLate w s es → MovesLate w (reach w s es) fs → MovesLate w s (es ++ fs)
 moves_join w s [] fs h k = k
 moves_join w s (e ∷ es) fs h k = (h.0, moves_join w (after w s e) es fs h.1 k)
 
-pub only_open : (w : Work) (n : ℕ) (s : Course) (es : List Event) → AllAllowed w s es → wrong_from w n s es ≡ option_map Open (open_call w (reach w s es))
+pub only_open : (w : Batch) (n : ℕ) (s : Schedule) (es : List Event) → AllAllowed w s es → wrong_from w n s es ≡ option_map Open (open_call w (reach w s es))
 only_open w n s [] h = refl
 only_open w n s (e ∷ es) h = ap (λ o. or_refused n o (wrong_from w (n + 1) (after w s e) es)) h.0 ∙ only_open w (n + 1) (after w s e) es h.1
 
@@ -59,20 +59,20 @@ abbrev pub more_answers : Bool → ℕ → List ℕ → List ℕ
 more_answers true c cs = cs ++ c ∷ []
 more_answers false c cs = cs
 
-abbrev pub commits_of : Work → ℕ → List ℕ
+abbrev pub commits_of : Batch → ℕ → List ℕ
 commits_of w zero = []
 commits_of w (suc n) = more_commits (w.read_only n) n (commits_of w n)
 
-abbrev pub answers_of : Work → ℕ → List ℕ
+abbrev pub answers_of : Batch → ℕ → List ℕ
 answers_of w zero = []
 answers_of w (suc n) = more_answers (w.read_only n) n (answers_of w n)
 
 -- the first n calls, after their ends
-abbrev pub done_calls : Work → ℕ → List Live
+abbrev pub done_calls : Batch → ℕ → List Live
 done_calls w zero = []
 done_calls w (suc n) = done_calls w n ++ finish (begin (length (commits_of w n))) ∷ []
 
-pub length_calls : (w : Work) (n : ℕ) → length (done_calls w n) ≡ n
+pub length_calls : (w : Batch) (n : ℕ) → length (done_calls w n) ≡ n
 length_calls w zero = refl
 length_calls w (suc n) = let l = length-append (done_calls w n) (finish (begin (length (commits_of w n))) ∷ []) in let k = length_calls w n in omega (arith, l, k)
 
@@ -90,7 +90,7 @@ done_more : (ls : List Live) (l : Live) → AllDone ls → l.done ≡ true → A
 done_more [] l h k = (k, tt)
 done_more (x ∷ ls) l h k = (h.0, done_more ls l h.1 k)
 
-all_done : (w : Work) (n : ℕ) → AllDone (done_calls w n)
+all_done : (w : Batch) (n : ℕ) → AllDone (done_calls w n)
 all_done w zero = tt
 all_done w (suc n) = done_more (done_calls w n) (finish (begin (length (commits_of w n)))) (all_done w n) refl
 
@@ -100,7 +100,7 @@ none_open k (l ∷ ls) h = ap (λ b. if b then first_open (k + 1) ls else k) h.0
 
 -- No hit
 
-pub length_changes : (w : Work) (db : Tables) (cs : List ℕ) → length (changes_after w db cs) ≡ length cs
+pub length_changes : (w : Batch) (db : Tables) (cs : List ℕ) → length (changes_after w db cs) ≡ length cs
 length_changes w db [] = refl
 length_changes w db (c ∷ cs) = ap suc (length_changes w (w.run c db).tables cs)
 
@@ -114,29 +114,29 @@ pub no_commits : (number : ℕ) (before rs : List Record) → first_hit number [
 no_commits number before [] = refl
 no_commits number before (r ∷ rs) = no_commits number (before ++ r ∷ []) rs
 
-no_hit : (w : Work) (order : List ℕ) (c : ℕ) → hit_of w order (length order) c ≡ None
+no_hit : (w : Batch) (order : List ℕ) (c : ℕ) → hit_of w order (length order) c ≡ None
 no_hit w order c =
     let none : since w order (length order) ≡ [] = drop_past (changes_after w w.opening order) (length order) (length_changes w w.opening order) in
     ap (λ css. first_hit (length order + 1) css [] (records_at w order (length order) c)) none ∙ no_commits (length order + 1) [] (records_at w order (length order) c)
 
 -- One turn
 
-pub tables_more : (w : Work) (db : Tables) (cs : List ℕ) (c : ℕ) → tables_after w db (cs ++ c ∷ []) ≡ (w.run c (tables_after w db cs)).tables
+pub tables_more : (w : Batch) (db : Tables) (cs : List ℕ) (c : ℕ) → tables_after w db (cs ++ c ∷ []) ≡ (w.run c (tables_after w db cs)).tables
 tables_more w db [] c = refl
 tables_more w db (d ∷ cs) c = tables_more w (w.run d db).tables cs c
 
-abbrev pub course : List ℕ → List ℕ → List Live → Course
-course order answered calls = record { order = order; calls = calls; low = 0; answered = answered }
+abbrev pub schedule : List ℕ → List ℕ → List Live → Schedule
+schedule order answered calls = record { order = order; calls = calls; low = 0; answered = answered }
 
 -- after the first n turns
-abbrev pub turned : Work → ℕ → Course
-turned w n = course (commits_of w n) (answers_of w n) (done_calls w n)
+abbrev pub turned : Batch → ℕ → Schedule
+turned w n = schedule (commits_of w n) (answers_of w n) (done_calls w n)
 
 -- and after the next begin
-abbrev one_live : Work → ℕ → Course
-one_live w n = course (commits_of w n) (answers_of w n) (done_calls w n ++ begin (length (commits_of w n)) ∷ [])
+abbrev one_live : Batch → ℕ → Schedule
+one_live w n = schedule (commits_of w n) (answers_of w n) (done_calls w n ++ begin (length (commits_of w n)) ∷ [])
 
-begin_free : (w : Work) (n : ℕ) → n < w.count → refusal w (turned w n) (B n) ≡ None
+begin_free : (w : Batch) (n : ℕ) → n < w.count → refusal w (turned w n) (B n) ≡ None
 begin_free w n less = ap (λ b. unless (b && nat_lt n w.count) Order None) next ∙ ap (λ b. unless b Order None) room
   where
     next : (n == length (done_calls w n)) ≡ true
@@ -146,7 +146,7 @@ begin_free w n less = ap (λ b. unless (b && nat_lt n w.count) Order None) next 
     room = grind (arith, less)
 
 -- the event that ends the call is allowed
-end_free : (w : Work) (n : ℕ) (b : Bool) → w.read_only n ≡ b → refusal w (one_live w n) (ending b n) ≡ None
+end_free : (w : Batch) (n : ℕ) (b : Bool) → w.read_only n ≡ b → refusal w (one_live w n) (ending b n) ≡ None
 end_free w n true reads =
     ap (λ o. of_live o (λ l. unless (w.read_only n) Kind (unless (not (nat_lt l.start 0)) Stale None))) (get_end (done_calls w n) (begin (length (commits_of w n))) n (sym (length_calls w n)))
     ∙ (ap (λ b. unless b Kind (unless (not (nat_lt (length (commits_of w n)) 0)) Stale None)) reads ∙ ap (λ b. unless (not b) Stale None) (le-ltb (length (commits_of w n)) 0 (omega arith)))
@@ -156,23 +156,23 @@ end_free w n false reads =
     ∙ (ap (λ b. unless (not b) Kind (unless (not (nat_lt (length order) 0)) Stale (unless (not (is_some (hit_of w order (length order) n))) Conflict None))) reads
     ∙ (ap (λ b. unless (not b) Stale (unless (not (is_some (hit_of w order (length order) n))) Conflict None)) (le-ltb (length order) 0 (omega arith)) ∙ ap (λ h. unless (not (is_some h)) Conflict None) (no_hit w order n)))
 
-finished : (w : Work) (n : ℕ) → change_live (slice_get (done_calls w n ++ begin (length (commits_of w n)) ∷ []) n) finish (done_calls w n ++ begin (length (commits_of w n)) ∷ []) n ≡ done_calls w (suc n)
+finished : (w : Batch) (n : ℕ) → change_live (slice_get (done_calls w n ++ begin (length (commits_of w n)) ∷ []) n) finish (done_calls w n ++ begin (length (commits_of w n)) ∷ []) n ≡ done_calls w (suc n)
 finished w n =
     let l : Live = begin (length (commits_of w n)) in
     ap (λ o. change_live o finish (done_calls w n ++ l ∷ []) n) (get_end (done_calls w n) l n (sym (length_calls w n))) ∙ set_end (done_calls w n) l (finish l) n (length_calls w n)
 
-end_done : (w : Work) (n : ℕ) (b : Bool) → w.read_only n ≡ b → after w (one_live w n) (ending b n) ≡ turned w (suc n)
+end_done : (w : Batch) (n : ℕ) (b : Bool) → w.read_only n ≡ b → after w (one_live w n) (ending b n) ≡ turned w (suc n)
 end_done w n true reads =
-    ap (course (commits_of w n) (answers_of w n ++ n ∷ [])) (finished w n)
-    ∙ ap (λ b. course (more_commits b n (commits_of w n)) (more_answers b n (answers_of w n)) (done_calls w (suc n))) (sym reads)
+    ap (schedule (commits_of w n) (answers_of w n ++ n ∷ [])) (finished w n)
+    ∙ ap (λ b. schedule (more_commits b n (commits_of w n)) (more_answers b n (answers_of w n)) (done_calls w (suc n))) (sym reads)
 end_done w n false reads =
-    ap (course (commits_of w n ++ n ∷ []) (answers_of w n)) (finished w n)
-    ∙ ap (λ b. course (more_commits b n (commits_of w n)) (more_answers b n (answers_of w n)) (done_calls w (suc n))) (sym reads)
+    ap (schedule (commits_of w n ++ n ∷ []) (answers_of w n)) (finished w n)
+    ∙ ap (λ b. schedule (more_commits b n (commits_of w n)) (more_answers b n (answers_of w n)) (done_calls w (suc n))) (sym reads)
 
-pub turn_free : (w : Work) (n : ℕ) → n < w.count → AllAllowed w (turned w n) (turn w.read_only n)
+pub turn_free : (w : Batch) (n : ℕ) → n < w.count → AllAllowed w (turned w n) (turn w.read_only n)
 turn_free w n less = (begin_free w n less, (end_free w n (w.read_only n) refl, tt))
 
-pub turn_done : (w : Work) (n : ℕ) → reach w (turned w n) (turn w.read_only n) ≡ turned w (suc n)
+pub turn_done : (w : Batch) (n : ℕ) → reach w (turned w n) (turn w.read_only n) ≡ turned w (suc n)
 turn_done w n = end_done w n (w.read_only n) refl
 
 -- All turns
@@ -180,24 +180,24 @@ turn_done w n = end_done w n (w.read_only n) refl
 pub turns_more : (read_only : ℕ → Bool) (n : ℕ) → in_turn read_only (suc n) ≡ in_turn read_only n ++ turn read_only n
 turns_more read_only n = flat_map-append (turn read_only) (first_numbers n) (n ∷ []) ∙ ap (λ l. in_turn read_only n ++ l) (append-nil (turn read_only n))
 
-pub turns_reach : (w : Work) (n : ℕ) → reach w beginning (in_turn w.read_only n) ≡ turned w n
+pub turns_reach : (w : Batch) (n : ℕ) → reach w beginning (in_turn w.read_only n) ≡ turned w n
 turns_reach w zero = refl
 turns_reach w (suc n) =
     ap (reach w beginning) (turns_more w.read_only n)
     ∙ (reach_join w beginning (in_turn w.read_only n) (turn w.read_only n) ∙ (ap (λ s. reach w s (turn w.read_only n)) (turns_reach w n) ∙ turn_done w n))
 
-pub turns_free : (w : Work) (n : ℕ) → n ≤ w.count → AllAllowed w beginning (in_turn w.read_only n)
+pub turns_free : (w : Batch) (n : ℕ) → n ≤ w.count → AllAllowed w beginning (in_turn w.read_only n)
 turns_free w zero h = tt
 turns_free w (suc n) h =
     subst (AllAllowed w beginning) (sym (turns_more w.read_only n)) (allowed_join w beginning (in_turn w.read_only n) (turn w.read_only n) (turns_free w n (omega (arith, h)))
     (subst (λ s. AllAllowed w s (turn w.read_only n)) (sym (turns_reach w n)) (turn_free w n (omega (arith, h)))))
 
 -- neither of the two events of a turn is a repair or a move
-turn_late : (w : Work) (s : Course) (b : Bool) (n : ℕ) → MovesLate w s (B n ∷ ending b n ∷ [])
+turn_late : (w : Batch) (s : Schedule) (b : Bool) (n : ℕ) → MovesLate w s (B n ∷ ending b n ∷ [])
 turn_late w s true n = (tt, (tt, tt))
 turn_late w s false n = (tt, (tt, tt))
 
-pub turns_late : (w : Work) (n : ℕ) → MovesLate w beginning (in_turn w.read_only n)
+pub turns_late : (w : Batch) (n : ℕ) → MovesLate w beginning (in_turn w.read_only n)
 turns_late w zero = tt
 turns_late w (suc n) =
     subst (MovesLate w beginning) (sym (turns_more w.read_only n))
@@ -214,7 +214,7 @@ no_rounds read_only c (suc n) =
     ∙ (filter-append (is_round c) (in_turn read_only n) (turn read_only n)
     ∙ (ap (λ l. l ++ filter (is_round c) (turn read_only n)) (no_rounds read_only c n) ∙ no_round c n (read_only n)))
 
-pub closed : (w : Work) (n : ℕ) → n ≡ w.count → option_map Open (open_call w (turned w n)) ≡ None
+pub closed : (w : Batch) (n : ℕ) → n ≡ w.count → option_map Open (open_call w (turned w n)) ≡ None
 closed w n is = ap (λ c. option_map Open (if nat_lt c w.count then Some c else None)) (none_open 0 (done_calls w n) (all_done w n))
     ∙ ap (λ b. option_map Open (if b then Some (0 + length (done_calls w n)) else None)) past
   where

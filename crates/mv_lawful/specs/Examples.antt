@@ -24,10 +24,10 @@ use Rattle.mv_journal.specs.declared.event.Event.TheVariants.{B, S, A, M, C, X, 
 use Rattle.mv_journal.specs.declared.outcome.Mark.TheVariants.{Plain, Exclusive, Moved}
 use Rattle.mv_journal.specs.declared.outcome.Round.{Round}
 use Rattle.mv_journal.specs.declared.outcome.HistoryLine.{HistoryLine}
-use Rattle.mv_lawful.specs.declared.fault.Fault.TheVariants.{Order, Kind, Stale, Conflict, Idle, Rounds}
+use Rattle.mv_lawful.specs.declared.fault.EventFault.TheVariants.{Order, Kind, Stale, Conflict, Idle, Rounds}
 use Rattle.mv_lawful.specs.declared.fault.Wrong.TheVariants.{Refused, Open}
-use Rattle.mv_lawful.specs.Work.{Work, hit_of}
-use Rattle.mv_lawful.specs.Lawful.{Lawful, wrong_with, course_of}
+use Rattle.mv_lawful.specs.Batch.{Batch, hit_of}
+use Rattle.mv_lawful.specs.Lawful.{Lawful, wrong_with, schedule_of}
 use Rattle.mv_lawful.specs.Outcomes.{outcome_of}
 
 -- Databases
@@ -110,7 +110,7 @@ tell db = run_of (look 1 1 0 3 (balance db 1) ∷ record (blank 2) { reads = rea
 abbrev pub see : ℕ → Tables → Run
 see a db = run_of (look 1 a 1 2 (balance db a) ∷ print 2 (reads 1 0 ∷ []) (decimal (balance db a)) ∷ []) db
 
--- Work
+-- Batch
 
 abbrev pub run_in : List (Tables → Run) → ℕ → Tables → Run
 run_in [] c db = run_of [] db
@@ -118,15 +118,15 @@ run_in (run ∷ runs) zero db = run db
 run_in (run ∷ runs) (suc c) db = run_in runs c db
 
 -- calls of which these are read only
-abbrev pub work_with : List ℕ → Tables → List (Tables → Run) → ℕ → Option ℕ → Work
-work_with readers db runs rounds horizon = record { run = run_in runs; read_only = λ c. list_any (λ d. d == c) readers; count = length runs; opening = db; options = record { rounds = rounds; horizon = horizon } }
+abbrev pub batch_with : List ℕ → Tables → List (Tables → Run) → ℕ → Option ℕ → Batch
+batch_with readers db runs rounds horizon = record { run = run_in runs; read_only = λ c. list_any (λ d. d == c) readers; count = length runs; opening = db; options = record { rounds = rounds; horizon = horizon } }
 
-abbrev pub work : Tables → List (Tables → Run) → ℕ → Option ℕ → Work
-work = work_with []
+abbrev pub batch : Tables → List (Tables → Run) → ℕ → Option ℕ → Batch
+batch = batch_with []
 
--- work on five accounts, with three rounds and no horizon
-abbrev pub bank : List (Tables → Run) → Work
-bank runs = work five runs 3 None
+-- batch on five accounts, with three rounds and no horizon
+abbrev pub bank : List (Tables → Run) → Batch
+bank runs = batch five runs 3 None
 
 abbrev pub plain : ℕ → ℕ → Round
 plain start n = record { start = start; count = Some n; mark = Plain }
@@ -141,14 +141,14 @@ numbered_from n [] = []
 numbered_from n (l ∷ ls) = record l { commit = Some n } ∷ numbered_from (n + 1) ls
 
 -- a journal is lawful, and the calls stand so
-abbrev pub Stands : Work → List Event → List HistoryLine → Type 0
+abbrev pub Stands : Batch → List Event → List HistoryLine → Type 0
 Stands w es history = Lawful w es × ((outcome_of w es).history ≡ history)
 
 -- a journal is lawful, and its commits have these rounds
-abbrev pub Comes : Work → List Event → List HistoryLine → Type 0
+abbrev pub Comes : Batch → List Event → List HistoryLine → Type 0
 Comes w es history = Stands w es (numbered_from 1 history)
 
-abbrev pub Answers : Work → List Event → List Reply → Tables → Type 0
+abbrev pub Answers : Batch → List Event → List Reply → Tables → Type 0
 Answers w es replies tables = ((outcome_of w es).replies ≡ replies) × ((outcome_of w es).tables ≡ tables)
 
 abbrev pub says : List ℕ → Reply
@@ -163,7 +163,7 @@ repaired_second = B 0 ∷ B 1 ∷ C 0 ∷ A 1 ∷ C 1 ∷ []
 -- transfers between other accounts: the change hits the UPDATE of the fee, and only that is executed again
 abbrev pub OnlyTheFee : Type 0
 OnlyTheFee =
-    let w : Work = bank (transfer 1 2 10 ∷ transfer 3 4 10 ∷ []) in
+    let w : Batch = bank (transfer 1 2 10 ∷ transfer 3 4 10 ∷ []) in
     Comes w repaired_second (line 0 (plain 0 5 ∷ []) ∷ line 1 (plain 0 5 ∷ plain 1 1 ∷ []) ∷ [])
     × Answers w repaired_second (says [] ∷ says [] ∷ []) ((account 0 2 ∷ account 1 90 ∷ account 2 110 ∷ account 3 90 ∷ account 4 110 ∷ []) ∷ [])
     × (hit_of w (0 ∷ []) 0 1 ≡ Some (record { number = 4; commit = 1 }))
@@ -171,7 +171,7 @@ OnlyTheFee =
 -- both add to one account: the change hits the SELECT, and all is executed again
 abbrev pub AllAgain : Type 0
 AllAgain =
-    let w : Work = bank (add 1 5 ∷ add 1 7 ∷ []) in
+    let w : Batch = bank (add 1 5 ∷ add 1 7 ∷ []) in
     Comes w repaired_second (line 0 (plain 0 4 ∷ []) ∷ line 1 (plain 0 4 ∷ plain 1 4 ∷ []) ∷ [])
     × Answers w repaired_second (says (105 ∷ []) ∷ says (112 ∷ []) ∷ []) ((account 0 0 ∷ account 1 112 ∷ account 2 100 ∷ account 3 100 ∷ account 4 100 ∷ []) ∷ [])
     × (hit_of w (0 ∷ []) 0 1 ≡ Some (record { number = 0; commit = 1 }))
@@ -179,37 +179,37 @@ AllAgain =
 -- adding zero changes no row, so it hits nothing
 abbrev pub NothingAdded : Type 0
 NothingAdded =
-    let w : Work = bank (add 1 0 ∷ add 1 7 ∷ []) in
+    let w : Batch = bank (add 1 0 ∷ add 1 7 ∷ []) in
     Comes w (B 0 ∷ B 1 ∷ C 0 ∷ C 1 ∷ []) (line 0 (plain 0 4 ∷ []) ∷ line 1 (plain 0 4 ∷ []) ∷ []) × (hit_of w (0 ∷ []) 0 1 ≡ None)
 
 -- a row that a COUNT didn't find before hits it
 abbrev pub NewRowCounts : Type 0
 NewRowCounts =
-    let w : Work = bank (put 7 100 ∷ rich ∷ []) in
+    let w : Batch = bank (put 7 100 ∷ rich ∷ []) in
     Comes w repaired_second (line 0 (plain 0 1 ∷ []) ∷ line 1 (plain 0 2 ∷ plain 1 2 ∷ []) ∷ [])
     × ((outcome_of w repaired_second).replies ≡ says [] ∷ says (5 ∷ []) ∷ []) × (hit_of w (0 ∷ []) 0 1 ≡ Some (record { number = 0; commit = 1 }))
 
 -- the PRINT of x has a definer that the old run didn't have; the SELECT of account 2 and its PRINT are kept
 abbrev pub NewDefiner : Type 0
 NewDefiner =
-    let w : Work = bank (add 1 5 ∷ tell ∷ []) in
+    let w : Batch = bank (add 1 5 ∷ tell ∷ []) in
     Comes w repaired_second (line 0 (plain 0 4 ∷ []) ∷ line 1 (plain 0 5 ∷ plain 1 4 ∷ []) ∷ []) × ((outcome_of w repaired_second).replies ≡ says (105 ∷ []) ∷ says (1 ∷ 100 ∷ []) ∷ [])
 
 -- a call that would roll back goes through on the later table; in the other order it rolls back
 abbrev pub OtherBranch : Type 0
 OtherBranch =
-    let w : Work = bank (transfer 1 2 150 ∷ add 1 60 ∷ []) in
+    let w : Batch = bank (transfer 1 2 150 ∷ add 1 60 ∷ []) in
     let es : List Event = B 0 ∷ B 1 ∷ C 1 ∷ A 0 ∷ C 0 ∷ [] in
-    let turns : List Event = B 0 ∷ C 0 ∷ B 1 ∷ C 1 ∷ [] in
+    let round_starts : List Event = B 0 ∷ C 0 ∷ B 1 ∷ C 1 ∷ [] in
     Comes w es (line 1 (plain 0 4 ∷ []) ∷ line 0 (plain 0 3 ∷ plain 1 5 ∷ []) ∷ [])
     × Answers w es (says [] ∷ says (160 ∷ []) ∷ []) ((account 0 1 ∷ account 1 10 ∷ account 2 250 ∷ account 3 100 ∷ account 4 100 ∷ []) ∷ [])
-    × Comes w turns (line 0 (plain 0 3 ∷ []) ∷ line 1 (plain 1 4 ∷ []) ∷ [])
-    × ((outcome_of w turns).replies ≡ record { lines = []; end = Some (Own (codes "no funds")) } ∷ says (160 ∷ []) ∷ [])
+    × Comes w round_starts (line 0 (plain 0 3 ∷ []) ∷ line 1 (plain 1 4 ∷ []) ∷ [])
+    × ((outcome_of w round_starts).replies ≡ record { lines = []; end = Some (Own (codes "no funds")) } ∷ says (160 ∷ []) ∷ [])
 
 -- two calls insert one key: the later one ends
 abbrev pub SameKey : Type 0
 SameKey =
-    let w : Work = bank (put 7 1 ∷ put 7 2 ∷ []) in
+    let w : Batch = bank (put 7 1 ∷ put 7 2 ∷ []) in
     Comes w repaired_second (line 0 (plain 0 1 ∷ []) ∷ line 1 (plain 0 1 ∷ plain 1 1 ∷ []) ∷ []) × ((outcome_of w repaired_second).replies ≡ says [] ∷ record { lines = []; end = Some Duplicate } ∷ [])
 
 -- two columns of one row: no predicate sees the change by itself; the call's own write of the key makes it a hit
@@ -245,7 +245,7 @@ count_both db =
 
 abbrev pub OwnWriteCounts : Type 0
 OwnWriteCounts =
-    let w : Work = work (triple 0 0) (set_third ∷ count_both ∷ []) 3 None in
+    let w : Batch = batch (triple 0 0) (set_third ∷ count_both ∷ []) 3 None in
     Comes w repaired_second (line 0 (plain 0 1 ∷ []) ∷ line 1 (plain 0 3 ∷ plain 1 2 ∷ []) ∷ [])
     × Answers w repaired_second (says [] ∷ says (1 ∷ []) ∷ []) (triple 1 1) × (hit_of w (0 ∷ []) 0 1 ≡ Some (record { number = 1; commit = 1 }))
 
@@ -257,7 +257,7 @@ write_and_look db = run_of (change 1 1 1 (balance db 1 + 1) ∷ look 2 1 0 1 (ba
 -- executed again
 abbrev pub KeptWriteStays : Type 0
 KeptWriteStays =
-    let w : Work = bank (add 2 5 ∷ write_and_look ∷ []) in
+    let w : Batch = bank (add 2 5 ∷ write_and_look ∷ []) in
     Comes w repaired_second (line 0 (plain 0 4 ∷ []) ∷ line 1 (plain 0 3 ∷ plain 1 1 ∷ []) ∷ [])
 
 -- One step, moves, low
@@ -267,12 +267,12 @@ abbrev pub InOneStep : Type 0
 InOneStep =
     let runs : List (Tables → Run) = transfer 1 2 10 ∷ transfer 3 4 10 ∷ [] in
     let es : List Event = B 0 ∷ B 1 ∷ C 0 ∷ X 1 ∷ [] in
-    Comes (work five runs 0 None) es (line 0 (plain 0 5 ∷ []) ∷ line 1 (plain 0 5 ∷ record { start = 1; count = Some 1; mark = Exclusive } ∷ []) ∷ [])
-    × (wrong_with (work five runs 1 None) es ≡ Some (Refused 4 Rounds))
+    Comes (batch five runs 0 None) es (line 0 (plain 0 5 ∷ []) ∷ line 1 (plain 0 5 ∷ record { start = 1; count = Some 1; mark = Exclusive } ∷ []) ∷ [])
+    × (wrong_with (batch five runs 1 None) es ≡ Some (Refused 4 Rounds))
 
 abbrev pub FirstFaults : Type 0
 FirstFaults =
-    let w : Work = bank (add 1 5 ∷ add 1 7 ∷ []) in
+    let w : Batch = bank (add 1 5 ∷ add 1 7 ∷ []) in
     (wrong_with w (B 0 ∷ B 1 ∷ C 0 ∷ C 1 ∷ []) ≡ Some (Refused 4 Conflict))
     × (wrong_with w (B 0 ∷ A 0 ∷ []) ≡ Some (Refused 2 Idle))
     × (wrong_with w (B 1 ∷ []) ≡ Some (Refused 1 Order))
@@ -283,7 +283,7 @@ FirstFaults =
 -- a stale call is moved; it may neither go on nor be repaired
 abbrev pub StaleMoves : Type 0
 StaleMoves =
-    let w : Work = work five (add 1 5 ∷ add 2 5 ∷ add 3 5 ∷ []) 3 (Some 1) in
+    let w : Batch = batch five (add 1 5 ∷ add 2 5 ∷ add 3 5 ∷ []) 3 (Some 1) in
     let es : Event → List Event = λ e. B 0 ∷ B 1 ∷ B 2 ∷ C 0 ∷ C 1 ∷ G ∷ e ∷ C 2 ∷ [] in
     Comes w (es (M 2)) (line 0 (plain 0 4 ∷ []) ∷ line 1 (plain 0 4 ∷ []) ∷ line 2 (record { start = 0; count = None; mark = Plain } ∷ record { start = 2; count = Some 4; mark = Moved } ∷ []) ∷ [])
     × (wrong_with w (es (S 2)) ≡ Some (Refused 7 Stale))
@@ -292,9 +292,9 @@ StaleMoves =
 -- low is the oldest start of a live call, not the newest: call 0 isn't stale
 abbrev pub OldestStart : Type 0
 OldestStart =
-    let w : Work = bank (add 1 5 ∷ add 2 5 ∷ add 3 5 ∷ []) in
+    let w : Batch = bank (add 1 5 ∷ add 2 5 ∷ add 3 5 ∷ []) in
     let es : List Event = B 0 ∷ B 1 ∷ C 1 ∷ B 2 ∷ G ∷ [] in
-    ((course_of w es).low ≡ 0) × Lawful w (es ++ C 0 ∷ C 2 ∷ [])
+    ((schedule_of w es).low ≡ 0) × Lawful w (es ++ C 0 ∷ C 2 ∷ [])
 
 -- Read only calls
 
@@ -305,7 +305,7 @@ commit n c rounds = record { commit = Some n; call = c; rounds = rounds }
 -- an answered call stands at its start: before a commit that it doesn't see, although that was made before its answer
 abbrev pub AnsweredAtStart : Type 0
 AnsweredAtStart =
-    let w : Work = work_with (1 ∷ []) five (add 1 5 ∷ see 1 ∷ []) 3 None in
+    let w : Batch = batch_with (1 ∷ []) five (add 1 5 ∷ see 1 ∷ []) 3 None in
     let early : List Event = B 0 ∷ B 1 ∷ C 0 ∷ R 1 ∷ [] in
     let late : List Event = B 0 ∷ C 0 ∷ B 1 ∷ R 1 ∷ [] in
     Stands w early (line 1 (plain 0 2 ∷ []) ∷ commit 1 0 (plain 0 4 ∷ []) ∷ [])
@@ -316,14 +316,14 @@ AnsweredAtStart =
 -- those of one start stand in the order of their answers, and between two commits
 abbrev pub AnsweredBetween : Type 0
 AnsweredBetween =
-    let w : Work = work_with (1 ∷ 2 ∷ []) five (add 1 5 ∷ see 1 ∷ see 2 ∷ add 1 7 ∷ []) 3 None in
+    let w : Batch = batch_with (1 ∷ 2 ∷ []) five (add 1 5 ∷ see 1 ∷ see 2 ∷ add 1 7 ∷ []) 3 None in
     Stands w (B 0 ∷ C 0 ∷ B 1 ∷ B 2 ∷ B 3 ∷ C 3 ∷ R 2 ∷ S 1 ∷ R 1 ∷ [])
     (commit 1 0 (plain 0 4 ∷ []) ∷ line 2 (plain 1 2 ∷ []) ∷ line 1 (plain 1 2 ∷ []) ∷ commit 2 3 (plain 1 4 ∷ []) ∷ [])
 
 -- a read only call is neither committed nor repaired, and no other is answered
 abbrev pub OtherKind : Type 0
 OtherKind =
-    let w : Work = work_with (1 ∷ []) five (add 1 5 ∷ see 1 ∷ []) 0 None in
+    let w : Batch = batch_with (1 ∷ []) five (add 1 5 ∷ see 1 ∷ []) 0 None in
     (wrong_with w (B 0 ∷ B 1 ∷ C 0 ∷ C 1 ∷ []) ≡ Some (Refused 4 Kind))
     × (wrong_with w (B 0 ∷ B 1 ∷ C 0 ∷ A 1 ∷ []) ≡ Some (Refused 4 Kind))
     × (wrong_with w (B 0 ∷ B 1 ∷ C 0 ∷ X 1 ∷ []) ≡ Some (Refused 4 Kind))
@@ -334,7 +334,7 @@ OtherKind =
 -- a stale call is moved before it is answered
 abbrev pub StaleAnswer : Type 0
 StaleAnswer =
-    let w : Work = work_with (2 ∷ []) five (add 1 5 ∷ add 2 5 ∷ see 1 ∷ []) 3 (Some 1) in
+    let w : Batch = batch_with (2 ∷ []) five (add 1 5 ∷ add 2 5 ∷ see 1 ∷ []) 3 (Some 1) in
     let es : List Event = B 0 ∷ B 1 ∷ B 2 ∷ C 0 ∷ C 1 ∷ G ∷ [] in
     (wrong_with w (es ++ R 2 ∷ []) ≡ Some (Refused 7 Stale))
     × Stands w (es ++ M 2 ∷ R 2 ∷ [])

@@ -1,4 +1,4 @@
-pub mod Work
+pub mod Batch
 pub mod Lawful
 pub mod Places
 pub mod Rounds

@@ -7,13 +7,13 @@ use Rattle.mv_journal.specs.declared.event.Event.{Event}
 use Rattle.mv_journal.specs.declared.event.Event.TheVariants.{B, S, A, M, C, X, R, G}
 use Rattle.mv_journal.specs.declared.outcome.HistoryLine.{HistoryLine}
 use Rattle.mv_journal.specs.declared.outcome.Outcome.{Outcome}
-use Rattle.mv_lawful.specs.Work.{Work, table_at}
-use Rattle.mv_lawful.specs.Lawful.{Turn, Live, Course, course_of}
+use Rattle.mv_lawful.specs.Batch.{Batch, table_at}
+use Rattle.mv_lawful.specs.Lawful.{RoundStart, Live, Schedule, schedule_of}
 use Rattle.mv_lawful.specs.Places.{Place, start_in, places}
 use Rattle.mv_lawful.specs.Rounds.{rounds_of}
 
 -- the reply of a call that runs alone after so many commits; a call that has no place has an empty one
-abbrev pub reply_after : Work → List ℕ → ℕ → Option ℕ → Reply
+abbrev pub reply_after : Batch → List ℕ → ℕ → Option ℕ → Reply
 reply_after w order c None = record { lines = []; end = None }
 reply_after w order c (Some k) = (w.run c (table_at w order k)).reply
 
@@ -22,23 +22,23 @@ abbrev pub commits_before : List ℕ → List ℕ → ℕ → ℕ → Option ℕ
 commits_before order answered start c = if list_any (λ d. d == c) answered then Some start else position (λ d. d == c) order
 
 -- Reply: the reply of a call alone after these commits
-abbrev pub reply_in : Work → Course → ℕ → Reply
+abbrev pub reply_in : Batch → Schedule → ℕ → Reply
 reply_in w s c = reply_after w s.order c (commits_before s.order s.answered (start_in s.calls c) c)
 
 -- the reply of a call of the order, alone after those before it; that of an answered call, alone after those up to its
 -- start
-abbrev pub IsReply : Work → List ℕ → List ℕ → ℕ → ℕ → Reply → Type 0
+abbrev pub IsReply : Batch → List ℕ → List ℕ → ℕ → ℕ → Reply → Type 0
 IsReply w order answered start c reply = (k : ℕ) × (commits_before order answered start c ≡ Some k) × (k ≤ length order) × (reply ≡ (w.run c (table_at w order k)).reply)
 
-abbrev pub turns_of : Option Live → List Turn
-turns_of None = []
-turns_of (Some l) = l.turns
+abbrev pub round_starts_of : Option Live → List RoundStart
+round_starts_of None = []
+round_starts_of (Some l) = l.round_starts
 
 -- a call in its place, with its rounds
-abbrev pub history_line : Work → Course → Place → HistoryLine
-history_line w s p = record { commit = p.commit; call = p.call; rounds = rounds_of w s.order p.call (turns_of (slice_get s.calls p.call)) }
+abbrev pub history_line : Batch → Schedule → Place → HistoryLine
+history_line w s p = record { commit = p.commit; call = p.call; rounds = rounds_of w s.order p.call (round_starts_of (slice_get s.calls p.call)) }
 
-abbrev pub outcome_at : Work → Course → List Event → Outcome
+abbrev pub outcome_at : Batch → Schedule → List Event → Outcome
 outcome_at w s es = record {
   replies = map (reply_in w s) (first_numbers w.count);
   history = map (history_line w s) (places s);
@@ -47,8 +47,8 @@ outcome_at w s es = record {
 }
 
 -- the outcome of a journal
-abbrev pub outcome_of : Work → List Event → Outcome
-outcome_of w es = outcome_at w (course_of w es) es
+abbrev pub outcome_of : Batch → List Event → Outcome
+outcome_of w es = outcome_at w (schedule_of w es) es
 
 -- The journal of one worker
 
@@ -96,7 +96,7 @@ abbrev pub shown : List Event → List Event
 shown = filter has_line
 
 -- the outcome of one worker's journal, in which old versions may be collected between any events
-pub record IsOutcomeInTurn (w : Work) (n : ℕ) (o : Outcome) : Type 0 where
+pub record IsOutcomeInTurn (w : Batch) (n : ℕ) (o : Outcome) : Type 0 where
   pub journal : List Event
   pub turns : without_collections journal ≡ in_turn w.read_only n
   pub outcome : o ≡ outcome_of w journal

@@ -9,7 +9,7 @@ use Rattle.mv_journal.specs.declared.event.Event.TheVariants.{B, S, A, M, C, X, 
 use Rattle.mv_journal.specs.declared.outcome.Round.{Round}
 use Rattle.mv_journal.specs.declared.outcome.HistoryLine.{HistoryLine}
 use Rattle.mv_journal.specs.declared.outcome.Outcome.{Outcome}
-use Rattle.mv_lawful.specs.Work.{Work, table_at, ReadersKeepTables}
+use Rattle.mv_lawful.specs.Batch.{Batch, table_at, ReadersKeepTables}
 use Rattle.mv_lawful.specs.Lawful.{Lawful}
 use Rattle.mv_lawful.specs.Rounds.{last_start}
 use Rattle.mv_lawful.specs.Outcomes.{outcome_of}
@@ -83,7 +83,7 @@ start_of [] = None
 start_of (round ∷ rounds) = Some round.start
 
 -- the calls are serializable in the order of the history
-pub record IsSerializable (w : Work) (o : Outcome) : Type 0 where
+pub record IsSerializable (w : Batch) (o : Outcome) : Type 0 where
   -- the order has each call exactly once, and nothing else
   pub calls : All (λ c. c < w.count) (order_of o.history)
   pub once : (c : ℕ) → c < w.count → length (filter (λ d. d == c) (order_of o.history)) ≡ 1
@@ -108,4 +108,4 @@ pub record IsSerializable (w : Work) (o : Outcome) : Type 0 where
 
 -- the outcome of a lawful journal is serializable, if read only calls change nothing
 abbrev pub LawfulIsSerializable : Type 0
-LawfulIsSerializable = (w : Work) (es : List Event) → ReadersKeepTables w → Lawful w es → IsSerializable w (outcome_of w es)
+LawfulIsSerializable = (w : Batch) (es : List Event) → ReadersKeepTables w → Lawful w es → IsSerializable w (outcome_of w es)

@@ -2,7 +2,7 @@
 
 /// Why an event is refused.
 #[derive(Clone, Copy)]
-pub enum Fault {
+pub enum EventFault {
     /// A B event of another call than the next one, an event of a call that isn't live, or an S event after a repair or
     /// a move of its call, or if its first run has no statement left.
     Order,
@@ -22,7 +22,7 @@ pub enum Fault {
 #[derive(Clone, Copy)]
 pub enum Wrong {
     /// The event with this number, counted from 1, is refused.
-    Refused { n: u32, fault: Fault },
+    Refused { n: u32, fault: EventFault },
     /// All events are allowed, and this is the first call that has neither committed nor been answered.
     Open { call: u32 },
 }

@@ -3,7 +3,7 @@ use Rattle.std.proofs.Common.{◌≡◌, ◌<◌, ◌≤◌, ℕ, ◌+◌, Bool,
 use Rattle.std.proofs.lemmas.Bool.{le-ltb, lt-ltb}
 use Rattle.std.proofs.lemmas.List.{drop_all, take_more, reverse-append, drop_more}
 use Rattle.mv_ast.specs.declared.lexeme.Lexeme.{Lexeme}
-use Rattle.mv_ast.specs.declared.limit.Passed.{Passed}
+use Rattle.mv_ast.specs.declared.limit.PassedLimit.{PassedLimit}
 use Rattle.mv_ast.specs.declared.limit.Which.TheVariants as limit
 use Rattle.mv_ast.specs.Limits.{at_token, is_end, is_behind_end, is_stop, deeper, depth, stretch, first_behind}
 
@@ -44,7 +44,7 @@ none_left : (before : List Lexeme) → first_behind before [] ≡ None
 unfolding first_behind
 none_left before = refl
 
-pub rest_turn : (ls : List Lexeme) (k : ℕ) (d : Lexeme) (n m : ℕ) (all : Option Passed) → k < length ls → n ≡ depth (front ls (k + 1)) → m ≡ stretch (front ls (k + 1)) → n ≤ 32 → m ≤ 1000
+pub rest_turn : (ls : List Lexeme) (k : ℕ) (d : Lexeme) (n m : ℕ) (all : Option PassedLimit) → k < length ls → n ≡ depth (front ls (k + 1)) → m ≡ stretch (front ls (k + 1)) → n ≤ 32 → m ≤ 1000
     → first_behind (front ls k) (drop k ls) ≡ all → first_behind (front ls (k + 1)) (drop (k + 1) ls) ≡ all
 rest_turn ls k d n m all h i j p q e =
     let f = front_more ls k d h in
@@ -53,13 +53,13 @@ rest_turn ls k d n m all h i j p q e =
     ap (λ x. first_behind x (drop (k + 1) ls)) f ∙ (sym (not_over (get_or ls k d) (front ls k) (drop (k + 1) ls) a b)
     ∙ (ap (first_behind (front ls k)) (sym (drop_more ls k d h)) ∙ e))
 
-pub depth_passed : (ls : List Lexeme) (k : ℕ) (d : Lexeme) (n : ℕ) (all : Option Passed) → k < length ls → n ≡ depth (front ls (k + 1)) → 32 < n
+pub depth_passed : (ls : List Lexeme) (k : ℕ) (d : Lexeme) (n : ℕ) (all : Option PassedLimit) → k < length ls → n ≡ depth (front ls (k + 1)) → 32 < n
     → first_behind (front ls k) (drop k ls) ≡ all → Some (at_token limit.Depth (get_or ls k d).number) ≡ all
 depth_passed ls k d n all h i p e =
     let a : 32 < depth (get_or ls k d ∷ front ls k) = subst (λ x. 32 < x) (i ∙ ap depth (front_more ls k d h)) p in
     sym (over_depth (get_or ls k d) (front ls k) (drop (k + 1) ls) a) ∙ (ap (first_behind (front ls k)) (sym (drop_more ls k d h)) ∙ e)
 
-pub stretch_passed : (ls : List Lexeme) (k : ℕ) (d : Lexeme) (n m : ℕ) (all : Option Passed) → k < length ls → n ≡ depth (front ls (k + 1)) → m ≡ stretch (front ls (k + 1)) → n ≤ 32 → 1000 < m
+pub stretch_passed : (ls : List Lexeme) (k : ℕ) (d : Lexeme) (n m : ℕ) (all : Option PassedLimit) → k < length ls → n ≡ depth (front ls (k + 1)) → m ≡ stretch (front ls (k + 1)) → n ≤ 32 → 1000 < m
     → first_behind (front ls k) (drop k ls) ≡ all → Some (at_token limit.Stretch (get_or ls k d).number) ≡ all
 stretch_passed ls k d n m all h i j p q e =
     let f = front_more ls k d h in
@@ -67,5 +67,5 @@ stretch_passed ls k d n m all h i j p q e =
     let b : 1000 < stretch (get_or ls k d ∷ front ls k) = subst (λ x. 1000 < x) (j ∙ ap stretch f) q in
     sym (over_stretch (get_or ls k d) (front ls k) (drop (k + 1) ls) a b) ∙ (ap (first_behind (front ls k)) (sym (drop_more ls k d h)) ∙ e)
 
-pub none_passed : (ls : List Lexeme) (k : ℕ) (all : Option Passed) → length ls ≤ k → first_behind (front ls k) (drop k ls) ≡ all → None ≡ all
+pub none_passed : (ls : List Lexeme) (k : ℕ) (all : Option PassedLimit) → length ls ≤ k → first_behind (front ls k) (drop k ls) ≡ all → None ≡ all
 none_passed ls k all h e = sym (none_left (front ls k)) ∙ (ap (first_behind (front ls k)) (sym (drop_all k ls h)) ∙ e)

@@ -8,17 +8,17 @@ use Rattle.mv_ast.specs.declared.tree.Stmt.{Stmt}
 use Rattle.mv_ast.specs.declared.tree.Stmt.TheOpen as open'
 use Rattle.mv_ast.specs.declared.tree.Stmt.TheVariants.{Branch, rolls-Branch}
 use Rattle.mv_ast.specs.declared.tree.Stmt.TheFolds.{fold-roll-Stmt}
-use Rattle.mv_ast.specs.declared.limit.Passed.{Passed}
+use Rattle.mv_ast.specs.declared.limit.PassedLimit.{PassedLimit}
 use Rattle.mv_ast.specs.Limits.{soonest, sooner, together, statement_step, statement_passes, tokens_step, statement_tokens}
 use Rattle.mv_limits.specs.declared.cursor.Cursor.{Cursor}
 use Rattle.mv_limits.specs.Places.{place_of, step, seek}
 
-pub soonest_joined : (best : Option Passed) (ps qs : List Passed) → soonest best (ps ++ qs) ≡ soonest (soonest best ps) qs
+pub soonest_joined : (best : Option PassedLimit) (ps qs : List PassedLimit) → soonest best (ps ++ qs) ≡ soonest (soonest best ps) qs
 unfolding soonest
 soonest_joined best [] qs = refl
 soonest_joined best (p ∷ ps) qs = soonest_joined (sooner best p) ps qs
 
-pub soonest_none : (best : Option Passed) → soonest best [] ≡ best
+pub soonest_none : (best : Option PassedLimit) → soonest best [] ≡ best
 unfolding soonest
 soonest_none best = refl
 
@@ -43,11 +43,11 @@ end : {A B S : Type 0} (F : S → List B → S) (f : A → List B) (xs : List A)
     → length xs ≤ k → F s (together (map f (drop k xs))) ≡ all → s ≡ all
 end F f xs k s all none h i = sym (none s) ∙ (ap (λ r. F s (together (map f r))) (sym (drop_all k xs h)) ∙ i)
 
-pub soonest_turn : {A : Type 0} (f : A → List Passed) (xs : List A) (k : ℕ) (x : A) (s next all : Option Passed) → k < length xs → x ≡ get_or xs k x
+pub soonest_turn : {A : Type 0} (f : A → List PassedLimit) (xs : List A) (k : ℕ) (x : A) (s next all : Option PassedLimit) → k < length xs → x ≡ get_or xs k x
     → next ≡ soonest s (f x) → soonest s (together (map f (drop k xs))) ≡ all → soonest next (together (map f (drop (k + 1) xs))) ≡ all
 soonest_turn f xs k x s next all h is e i = turn soonest f xs k x s next all soonest_joined h is e i
 
-pub soonest_end : {A : Type 0} (f : A → List Passed) (xs : List A) (k : ℕ) (s all : Option Passed) → length xs ≤ k → soonest s (together (map f (drop k xs))) ≡ all → s ≡ all
+pub soonest_end : {A : Type 0} (f : A → List PassedLimit) (xs : List A) (k : ℕ) (s all : Option PassedLimit) → length xs ≤ k → soonest s (together (map f (drop k xs))) ≡ all → s ≡ all
 soonest_end f xs k s all h i = end soonest f xs k s all soonest_none h i
 
 pub seek_turn : {A : Type 0} (f : A → List ℕ) (xs : List A) (k : ℕ) (x : A) (s next all : Cursor) → k < length xs → x ≡ get_or xs k x
@@ -59,12 +59,12 @@ seek_end f xs k s all h i = end seek f xs k s all seek_none h i
 
 -- an IF
 branch_passes : (token : ℕ) (test : Expr) (ys ns : List Stmt) → statement_passes (Branch token test ys ns) ≡ together (map statement_passes ys) ++ together (map statement_passes ns)
-branch_passes token test ys ns = ap statement_passes (sym (rolls-Branch token test ys ns)) ∙ fold-roll-Stmt (List Passed) statement_step (open'.Branch token test ys ns)
+branch_passes token test ys ns = ap statement_passes (sym (rolls-Branch token test ys ns)) ∙ fold-roll-Stmt (List PassedLimit) statement_step (open'.Branch token test ys ns)
 
 branch_tokens : (token : ℕ) (test : Expr) (ys ns : List Stmt) → statement_tokens (Branch token test ys ns) ≡ token ∷ (together (map statement_tokens ys) ++ together (map statement_tokens ns))
 branch_tokens token test ys ns = ap statement_tokens (sym (rolls-Branch token test ys ns)) ∙ fold-roll-Stmt (List ℕ) tokens_step (open'.Branch token test ys ns)
 
-pub branch_best : (token : ℕ) (test : Expr) (ys ns : List Stmt) (best middle next : Option Passed) → middle ≡ soonest best (together (map statement_passes ys))
+pub branch_best : (token : ℕ) (test : Expr) (ys ns : List Stmt) (best middle next : Option PassedLimit) → middle ≡ soonest best (together (map statement_passes ys))
     → next ≡ soonest middle (together (map statement_passes ns)) → next ≡ soonest best (statement_passes (Branch token test ys ns))
 branch_best token test ys ns best middle next h i =
     i ∙ (ap (λ r. soonest r (together (map statement_passes ns))) h

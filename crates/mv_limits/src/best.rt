@@ -3,7 +3,7 @@
 ghost use Rattle.std.specs.Prelude.{◌≡◌, ◌-◌, ℕ};
 ghost use Rattle.mv_ast.specs.Limits.{rank, is_sooner, sooner, soonest, when, at_token, too_many, name_token, column_token, param_token, declared_token, literal_token, row_token, expr_token, sort_token, set_token};
 
-use mv_ast::limit::{Passed, Which};
+use mv_ast::limit::{PassedLimit, Which};
 use mv_ast::tree::{ColDef, Expr, Lit, LitRow, Name, Param, SetItem, Sort, VarDef};
 
 /// Returns the index of a limit in `Which`.
@@ -13,14 +13,14 @@ fn rank(which: Which) -> u8
     which as u8
 }
 
-fn is_sooner(pass: Passed, other: Passed) -> bool
+fn is_sooner(pass: PassedLimit, other: PassedLimit) -> bool
     ensures { result ≡ is_sooner pass other }
 {
     pass.token < other.token || (pass.token == other.token && rank(pass.which) < rank(other.which))
 }
 
 /// Returns whichever of the two comes first.
-pub(crate) fn sooner(best: Option<Passed>, pass: Passed) -> Option<Passed>
+pub(crate) fn sooner(best: Option<PassedLimit>, pass: PassedLimit) -> Option<PassedLimit>
     ensures { result ≡ sooner best pass }
 {
     match best {
@@ -38,15 +38,15 @@ pub(crate) fn sooner(best: Option<Passed>, pass: Passed) -> Option<Passed>
 /// Returns whichever of the two comes first. The limit counts only if `is_passed`.
 #[tactic(auto, unfolding(mv_ast::specs::Limits::soonest))]
 pub(crate) fn sooner_when(
-    best: Option<Passed>,
+    best: Option<PassedLimit>,
     is_passed: bool,
     which: Which,
     token: u32,
-) -> Option<Passed>
+) -> Option<PassedLimit>
     ensures { result ≡ soonest best (when is_passed (at_token which token)) }
 {
     if is_passed {
-        sooner(best, Passed { which, token })
+        sooner(best, PassedLimit { which, token })
     } else {
         best
     }
@@ -63,17 +63,17 @@ pub(crate) trait Placed {
 /// Returns whichever comes first: `best`, or this limit if there are more than `most` items.
 #[tactic(auto, unfolding(mv_ast::specs::Limits::soonest))]
 pub(crate) fn too_many<T: Placed>(
-    best: Option<Passed>,
+    best: Option<PassedLimit>,
     which: Which,
     most: usize,
     items: &[T],
-) -> Option<Passed>
+) -> Option<PassedLimit>
     ensures { result ≡ soonest best (too_many which most T.place items.now) }
 {
     match items.get(most) {
         Some(item) => {
             let token = item.token();
-            sooner(best, Passed { which, token })
+            sooner(best, PassedLimit { which, token })
         }
         None => best,
     }

@@ -4,7 +4,7 @@ ghost use Rattle.std.specs.Prelude.{◌≡◌, ◌≤◌, ◌+◌, if◌then◌e
 ghost use Rattle.mv_ast.specs.Limits.{is_end, is_opening, is_closing, is_stop, deeper, first_early};
 
 use mv_ast::lexeme::{Lexeme, Terminal};
-use mv_ast::limit::{Passed, Which};
+use mv_ast::limit::{PassedLimit, Which};
 
 /// The greatest nesting depth of parentheses, IF, FOR and BEGIN.
 const DEPTH: u32 = 32;
@@ -89,7 +89,7 @@ impl Counts {
 
 /// Returns the first token at which depth or stretch is passed. If both are passed there, depth counts. The cost is
 /// linear in the number of tokens.
-pub fn first_early(lexemes: &[Lexeme]) -> Option<Passed>
+pub fn first_early(lexemes: &[Lexeme]) -> Option<PassedLimit>
     ensures { result ≡ first_early lexemes.now }
 {
     let mut counts = Counts {
@@ -102,11 +102,11 @@ pub fn first_early(lexemes: &[Lexeme]) -> Option<Passed>
         counts = counts.after(lexeme.kind);
         if counts.depth > DEPTH {
             let which = Which::Depth;
-            return Some(Passed { which, token });
+            return Some(PassedLimit { which, token });
         }
         if counts.stretch > STRETCH {
             let which = Which::Stretch;
-            return Some(Passed { which, token });
+            return Some(PassedLimit { which, token });
         }
     }
     None

@@ -8,7 +8,7 @@ use crate::rows::{in_arguments, in_params, in_table};
 use crate::statements::in_body;
 use crate::tokens::in_tokens;
 use mv_ast::lexeme::Lexeme;
-use mv_ast::limit::{Passed, Which};
+use mv_ast::limit::{PassedLimit, Which};
 use mv_ast::tree::{Item, ItemKind, ProcDef, Script};
 
 /// The most tables, procedures and calls of a script.
@@ -25,7 +25,7 @@ const VARIABLES: usize = 64;
 
 /// Returns whichever comes first: `best`, or a limit passed in the procedure.
 #[tactic(auto, using(crate::proofs::Joining::soonest_joined))]
-fn in_procedure(best: Option<Passed>, procedure: &ProcDef) -> Option<Passed>
+fn in_procedure(best: Option<PassedLimit>, procedure: &ProcDef) -> Option<PassedLimit>
     ensures { result ≡ soonest best (procedure_passes procedure.now) }
 {
     let params = procedure.params.as_slice();
@@ -48,7 +48,12 @@ fn is_counted(which: Which, kind: &ItemKind) -> bool
 }
 
 /// Returns whichever comes first: `best`, or this limit if it counts more than `most` of the items.
-fn too_many_items(best: Option<Passed>, which: Which, most: usize, items: &[Item]) -> Option<Passed>
+fn too_many_items(
+    best: Option<PassedLimit>,
+    which: Which,
+    most: usize,
+    items: &[Item],
+) -> Option<PassedLimit>
     ensures { result ≡ soonest best (too_many_items which most items.now) }
 {
     let mut left = most;
@@ -58,7 +63,7 @@ fn too_many_items(best: Option<Passed>, which: Which, most: usize, items: &[Item
         }
         if left == 0 {
             let token = item.token;
-            return sooner(best, Passed { which, token });
+            return sooner(best, PassedLimit { which, token });
         }
         left -= 1;
     }
@@ -67,7 +72,7 @@ fn too_many_items(best: Option<Passed>, which: Which, most: usize, items: &[Item
 
 /// Returns whichever comes first: `best`, or a limit passed within the item.
 #[tactic(auto, unfolding(mv_ast::specs::Limits::soonest))]
-fn in_item(best: Option<Passed>, item: &Item) -> Option<Passed>
+fn in_item(best: Option<PassedLimit>, item: &Item) -> Option<PassedLimit>
     ensures { result ≡ soonest best (passes_in item.now) }
 {
     match &item.kind {
@@ -79,7 +84,7 @@ fn in_item(best: Option<Passed>, item: &Item) -> Option<Passed>
 }
 
 /// Returns whichever comes first: `best`, or a limit passed within one of the items.
-fn in_items(best: Option<Passed>, items: &[Item]) -> Option<Passed>
+fn in_items(best: Option<PassedLimit>, items: &[Item]) -> Option<PassedLimit>
     ensures { result ≡ soonest best (together (map passes_in items.now)) }
 {
     let mut best = best;
@@ -93,7 +98,7 @@ fn in_items(best: Option<Passed>, items: &[Item]) -> Option<Passed>
 /// tokens and these bytes. If several limits are passed there, the first in `Which` counts. The cost is linear in the
 /// number of bytes. It allocates nothing.
 #[tactic(auto, using(crate::proofs::Joining::soonest_joined))]
-pub fn first_late(bytes: &[u8], lexemes: &[Lexeme], script: &Script) -> Option<Passed>
+pub fn first_late(bytes: &[u8], lexemes: &[Lexeme], script: &Script) -> Option<PassedLimit>
     ensures { result ≡ first_late bytes.now lexemes.now script.now }
 {
     let items = script.items.as_slice();

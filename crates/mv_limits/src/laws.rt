@@ -1,7 +1,7 @@
 //! Laws of limits, for readers of the contracts that say which limit is passed first.
 
 ghost use Rattle.std.specs.Prelude.{List, None};
-ghost use Rattle.mv_ast.specs.declared.limit.Passed.{Passed};
+ghost use Rattle.mv_ast.specs.declared.limit.PassedLimit.{PassedLimit};
 ghost use Rattle.mv_ast.specs.Limits.{soonest};
 ghost use Rattle.mv_limits.specs.Firsts.{IsFirst};
 
@@ -9,5 +9,5 @@ ghost use Rattle.mv_limits.specs.Firsts.{IsFirst};
 /// limit is passed.
 #[tactic(auto, using(crate::proofs::Least::is_first))]
 pub fn soonest_is_first()
-    ensures { (ps : List Passed) → IsFirst ps (soonest None ps) }
+    ensures { (ps : List PassedLimit) → IsFirst ps (soonest None ps) }
 {}

@@ -5,7 +5,7 @@ ghost use Rattle.mv_ast.specs.Limits.{soonest, together, row_passes, table_passe
 
 use crate::best::too_many;
 use crate::statements::COLUMNS;
-use mv_ast::limit::{Passed, Which};
+use mv_ast::limit::{PassedLimit, Which};
 use mv_ast::tree::{Arg, LitRow, Param, ParamKind, TableDef};
 
 /// The most key columns of a table.
@@ -15,7 +15,7 @@ const KEY: usize = 8;
 const ROWS: usize = 1000;
 
 /// Returns whichever comes first: `best`, or a limit passed in the literal rows.
-fn in_rows(best: Option<Passed>, rows: &[LitRow]) -> Option<Passed>
+fn in_rows(best: Option<PassedLimit>, rows: &[LitRow]) -> Option<PassedLimit>
     ensures { result ≡ soonest best (together (map row_passes rows.now)) }
 {
     let mut best = best;
@@ -27,7 +27,7 @@ fn in_rows(best: Option<Passed>, rows: &[LitRow]) -> Option<Passed>
 
 /// Returns whichever comes first: `best`, or a limit passed in the table.
 #[tactic(auto, using(crate::proofs::Joining::soonest_joined))]
-pub(crate) fn in_table(best: Option<Passed>, table: &TableDef) -> Option<Passed>
+pub(crate) fn in_table(best: Option<PassedLimit>, table: &TableDef) -> Option<PassedLimit>
     ensures { result ≡ soonest best (table_passes table.now) }
 {
     let best = too_many(best, Which::Columns, COLUMNS, table.columns.as_slice());
@@ -37,7 +37,7 @@ pub(crate) fn in_table(best: Option<Passed>, table: &TableDef) -> Option<Passed>
 
 /// Returns whichever comes first: `best`, or a limit passed in the parameter.
 #[tactic(auto, unfolding(mv_ast::specs::Limits::soonest))]
-fn in_param(best: Option<Passed>, param: &Param) -> Option<Passed>
+fn in_param(best: Option<PassedLimit>, param: &Param) -> Option<PassedLimit>
     ensures { result ≡ soonest best (param_passes param.now) }
 {
     match &param.kind {
@@ -47,7 +47,7 @@ fn in_param(best: Option<Passed>, param: &Param) -> Option<Passed>
 }
 
 /// Returns whichever comes first: `best`, or a limit passed in the parameters.
-pub(crate) fn in_params(best: Option<Passed>, params: &[Param]) -> Option<Passed>
+pub(crate) fn in_params(best: Option<PassedLimit>, params: &[Param]) -> Option<PassedLimit>
     ensures { result ≡ soonest best (together (map param_passes params.now)) }
 {
     let mut best = best;
@@ -59,7 +59,7 @@ pub(crate) fn in_params(best: Option<Passed>, params: &[Param]) -> Option<Passed
 
 /// Returns whichever comes first: `best`, or a limit passed in the argument.
 #[tactic(auto, using(crate::proofs::Joining::soonest_joined), unfolding(mv_ast::specs::Limits::soonest))]
-fn in_argument(best: Option<Passed>, argument: &Arg) -> Option<Passed>
+fn in_argument(best: Option<PassedLimit>, argument: &Arg) -> Option<PassedLimit>
     ensures { result ≡ soonest best (argument_passes argument.now) }
 {
     match argument {
@@ -73,7 +73,7 @@ fn in_argument(best: Option<Passed>, argument: &Arg) -> Option<Passed>
 }
 
 /// Returns whichever comes first: `best`, or a limit passed in the arguments.
-pub(crate) fn in_arguments(best: Option<Passed>, arguments: &[Arg]) -> Option<Passed>
+pub(crate) fn in_arguments(best: Option<PassedLimit>, arguments: &[Arg]) -> Option<PassedLimit>
     ensures { result ≡ soonest best (together (map argument_passes arguments.now)) }
 {
     let mut best = best;

@@ -6,7 +6,7 @@ ghost use Rattle.mv_limits.specs.Places.{seek, step};
 
 use crate::best::{sooner, too_many};
 use crate::cursor::Cursor;
-use mv_ast::limit::{Passed, Which};
+use mv_ast::limit::{PassedLimit, Which};
 use mv_ast::tree::{Name, Sort, Stmt};
 
 /// The most items in a list of a statement, a table, a ROWS parameter or a literal row.
@@ -18,7 +18,7 @@ const STATEMENTS: usize = 1000;
 /// The state of a walk through statements: the first limit passed so far, and the search for a statement.
 #[derive(Clone, Copy)]
 struct Walk {
-    best: Option<Passed>,
+    best: Option<PassedLimit>,
     place: Cursor,
 }
 
@@ -41,7 +41,12 @@ fn behind(place: Cursor, token: u32) -> Cursor
 
 /// Returns whichever comes first: `best`, or a limit passed by a list of the SELECT.
 #[tactic(auto, using(crate::proofs::Joining::soonest_joined))]
-fn in_select(best: Option<Passed>, columns: &[Name], to: &[Name], sorts: &[Sort]) -> Option<Passed>
+fn in_select(
+    best: Option<PassedLimit>,
+    columns: &[Name],
+    to: &[Name],
+    sorts: &[Sort],
+) -> Option<PassedLimit>
     ensures { result ≡ soonest best (too_many Which.Columns columns_most name_token columns.now ++ (too_many Which.Columns columns_most name_token to.now ++ too_many Which.Columns columns_most sort_token sorts.now)) }
 {
     let best = too_many(best, Which::Columns, COLUMNS, columns);
@@ -51,7 +56,7 @@ fn in_select(best: Option<Passed>, columns: &[Name], to: &[Name], sorts: &[Sort]
 
 /// Returns whichever comes first: `best`, or a limit passed by a list of the FOR over a SELECT.
 #[tactic(auto, using(crate::proofs::Joining::soonest_joined))]
-fn in_loop(best: Option<Passed>, columns: &[Name], sorts: &[Sort]) -> Option<Passed>
+fn in_loop(best: Option<PassedLimit>, columns: &[Name], sorts: &[Sort]) -> Option<PassedLimit>
     ensures { result ≡ soonest best (too_many Which.Columns columns_most name_token columns.now ++ too_many Which.Columns columns_most sort_token sorts.now) }
 {
     let best = too_many(best, Which::Columns, COLUMNS, columns);
@@ -131,7 +136,7 @@ fn in_statement(walk: Walk, statement: &Stmt) -> Walk
 
 /// Returns whichever comes first: `best`, or a limit passed by the lists of the statements or by their number.
 #[tactic(auto, using(crate::proofs::Joining::soonest_joined))]
-pub(crate) fn in_body(best: Option<Passed>, body: &[Stmt]) -> Option<Passed>
+pub(crate) fn in_body(best: Option<PassedLimit>, body: &[Stmt]) -> Option<PassedLimit>
     ensures { result ≡ soonest best (together (map statement_passes body.now) ++ too_many Which.Statements 1000 (λ t. t) (together (map statement_tokens body.now))) }
 {
     let place = Cursor {
@@ -142,7 +147,7 @@ pub(crate) fn in_body(best: Option<Passed>, body: &[Stmt]) -> Option<Passed>
     match walk.place.found {
         Some(token) => {
             let which = Which::Statements;
-            sooner(walk.best, Passed { which, token })
+            sooner(walk.best, PassedLimit { which, token })
         }
         None => walk.best,
     }

@@ -7,7 +7,7 @@ ghost use Rattle.mv_ast.specs.Limits.{soonest, own_passes, is_size_of, is_size, 
 use crate::best::sooner_when;
 use crate::texts::{GREATEST, spelling, unquoted_len, value};
 use mv_ast::lexeme::{Lexeme, Terminal};
-use mv_ast::limit::{Passed, Which};
+use mv_ast::limit::{PassedLimit, Which};
 
 /// The most bytes of a name.
 const NAME: usize = 64;
@@ -17,7 +17,12 @@ const TEXT: usize = 4000;
 
 /// Returns whichever comes first: `best`, or a limit that the token of this kind with these bytes passes.
 #[tactic(auto, unfolding(mv_ast::specs::Limits::soonest))]
-fn in_token(best: Option<Passed>, kind: Terminal, text: &[u8], token: u32) -> Option<Passed>
+fn in_token(
+    best: Option<PassedLimit>,
+    kind: Terminal,
+    text: &[u8],
+    token: u32,
+) -> Option<PassedLimit>
     ensures { result ≡ soonest best (own_passes kind text.now token) }
 {
     match kind {
@@ -49,7 +54,7 @@ fn is_size(digits: &[u8]) -> bool
 
 /// Returns whichever comes first: `best`, or the limit of n if the tokens begin with TEXT ( n ).
 #[tactic(auto, unfolding(mv_ast::specs::Limits::soonest))]
-fn in_size(best: Option<Passed>, bytes: &[u8], lexemes: &[Lexeme]) -> Option<Passed>
+fn in_size(best: Option<PassedLimit>, bytes: &[u8], lexemes: &[Lexeme]) -> Option<PassedLimit>
     ensures { result ≡ soonest best (size_passes bytes.now lexemes.now) }
 {
     match lexemes {
@@ -63,7 +68,7 @@ fn in_size(best: Option<Passed>, bytes: &[u8], lexemes: &[Lexeme]) -> Option<Pas
 }
 
 /// Returns the first of the limits that single tokens pass.
-pub(crate) fn in_tokens(bytes: &[u8], lexemes: &[Lexeme]) -> Option<Passed>
+pub(crate) fn in_tokens(bytes: &[u8], lexemes: &[Lexeme]) -> Option<PassedLimit>
     ensures { result ≡ soonest None (token_passes bytes.now lexemes.now) }
 {
     let mut best = None;

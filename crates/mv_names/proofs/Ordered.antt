@@ -3,11 +3,11 @@ use Rattle.std.proofs.Common.{◌≡◌, ℕ, ◌<◌, Bool, true, false, ◌&&�
 use Rattle.std.proofs.lemmas.Bool.{ltb-true, eqb-true, and_parts, or_parts}
 use Rattle.std.proofs.lemmas.List.{take_more}
 use Rattle.std.proofs.lemmas.List.Elements.{All-nil, All-cons, All-append}
-use Rattle.mv_names.specs.declared.fault.Fault.{Fault}
+use Rattle.mv_names.specs.declared.fault.TokenFault.{TokenFault}
 use Rattle.mv_names.specs.First.{is_before, rank, IsFirst, IsFirstOf}
 use Rattle.mv_names.specs.Earlier.{earlier_of}
 
-pub never_itself : (f : Fault) → is_before f f ≡ false
+pub never_itself : (f : TokenFault) → is_before f f ≡ false
 never_itself f = grind (arith)
 
 -- the numbers of the tokens, and the places of the kinds
@@ -25,12 +25,12 @@ by_token a b c r s q false e k h l =
     same_token a b c r s q same h l (ltb-true r s two.1)
 
 -- what isn't before the best isn't before what is before it
-pub not_before : (f g best : Fault) → is_before g best ≡ false → is_before f best ≡ true → is_before g f ≡ false
+pub not_before : (f g best : TokenFault) → is_before g best ≡ false → is_before f best ≡ true → is_before g f ≡ false
 not_before f g best h k =
     let two = or_parts (nat_lt g.token best.token) (g.token == best.token && nat_lt (rank g.kind) (rank best.kind)) h in
     by_token f.token best.token g.token (rank f.kind) (rank best.kind) (rank g.kind) (nat_lt f.token best.token) refl k two.0 two.1
 
-one_more : (seen : List Fault) (f best : Fault) (b : Bool) → is_before f best ≡ b → IsFirst seen best → IsFirst (seen ++ f ∷ []) (if b then f else best)
+one_more : (seen : List TokenFault) (f best : TokenFault) (b : Bool) → is_before f best ≡ b → IsFirst seen best → IsFirst (seen ++ f ∷ []) (if b then f else best)
 one_more seen f best true e h = (
   seen,
   [],
@@ -46,13 +46,13 @@ one_more seen f best false e h = (
 )
 
 -- the first of faults and one more
-pub first_more : (first : Option Fault) (seen : List Fault) (f : Fault) → IsFirstOf seen first → IsFirst (seen ++ f ∷ []) (earlier_of first f)
+pub first_more : (first : Option TokenFault) (seen : List TokenFault) (f : TokenFault) → IsFirstOf seen first → IsFirst (seen ++ f ∷ []) (earlier_of first f)
 first_more None seen f h =
     rw h ([], [], refl, All-cons (λ g. is_before g f ≡ false) f [] (never_itself f) (All-nil (λ g. is_before g f ≡ false)))
 first_more (Some best) seen f h = one_more seen f best (is_before f best) refl h
 
 -- the same of a front of faults
-pub first_at : (faults : List Fault) (i : ℕ) (first : Option Fault) (d next : Fault) → i < length faults → IsFirstOf (take i faults) first → next ≡ earlier_of first (get_or faults i d)
+pub first_at : (faults : List TokenFault) (i : ℕ) (first : Option TokenFault) (d next : TokenFault) → i < length faults → IsFirstOf (take i faults) first → next ≡ earlier_of first (get_or faults i d)
     → IsFirst (take (i + 1) faults) next
 first_at faults i first d next lt h e =
     rw (e, take_more faults i d lt) (first_more first (take i faults) (get_or faults i d) h)

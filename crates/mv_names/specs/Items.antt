@@ -9,7 +9,7 @@ use Rattle.mv_ast.specs.declared.tree.ProcDef.{ProcDef}
 use Rattle.mv_ast.specs.declared.tree.CopyDef.{CopyDef}
 use Rattle.mv_ast.specs.declared.tree.CallDef.{CallDef}
 use Rattle.mv_ast.specs.declared.tree.Span.{Span}
-use Rattle.mv_names.specs.declared.fault.Fault.{Fault}
+use Rattle.mv_names.specs.declared.fault.TokenFault.{TokenFault}
 use Rattle.mv_names.specs.declared.parts.Parts.{Parts}
 use Rattle.mv_names.specs.First.{late, when}
 
@@ -60,6 +60,6 @@ stage_after (Call c) = 3
 stage_after (Journal j) = 5
 
 -- an item is late if its kind is below the least kind allowed, given here; each item may raise that kind
-abbrev pub lates : ℕ → List Item → List Fault
+abbrev pub lates : ℕ → List Item → List TokenFault
 lates least [] = []
 lates least (i ∷ is) = when (nat_lt (stage i.kind) least) (late i.token) ++ lates (max least (stage_after i.kind)) is

@@ -13,7 +13,7 @@ use Rattle.mv_ast.specs.declared.tree.Expr.{Expr}
 use Rattle.mv_ast.specs.declared.tree.Stmt.{Stmt}
 use Rattle.mv_ast.specs.declared.tree.Stmt.TheOpen.{Stmt-F, Assign, Select, Total, ForSelect, ForRows, Branch, Insert, Update, Delete, Print, Rollback}
 use Rattle.mv_ast.specs.declared.tree.Stmt.TheFolds.{fold-Stmt}
-use Rattle.mv_names.specs.declared.fault.Fault.{Fault}
+use Rattle.mv_names.specs.declared.fault.TokenFault.{TokenFault}
 use Rattle.mv_names.specs.declared.scope.ValueType.{ValueType}
 use Rattle.mv_names.specs.declared.scope.ValueType.TheVariants.{Int, Unknown}
 use Rattle.mv_names.specs.declared.scope.Binding.{Binding}
@@ -28,7 +28,7 @@ use Rattle.mv_names.specs.Typing.{misfit, in_place, placed, judged, column_fault
 -- Names
 
 -- each name that is taken or occurs earlier in the list
-abbrev pub doubles : {A : Type 0} → (A → Name) → List named.Text → List A → List Fault
+abbrev pub doubles : {A : Type 0} → (A → Name) → List named.Text → List A → List TokenFault
 doubles label_of taken [] = []
 doubles label_of taken (x ∷ xs) =
     when (is_named (λ t. t) taken (label_of x).text) (double (label_of x).token) ++ doubles label_of (taken ++ (label_of x).text ∷ []) xs
@@ -36,7 +36,7 @@ doubles label_of taken (x ∷ xs) =
 abbrev pub table_named : List TableDef → named.Text → Option TableDef
 table_named tables n = first_named (λ (t : TableDef). t.name.text) tables n
 
-abbrev pub missing_table : ℕ → Option TableDef → List Fault
+abbrev pub missing_table : ℕ → Option TableDef → List TokenFault
 missing_table token None = unknown token ∷ []
 missing_table token (Some t) = []
 
@@ -50,20 +50,20 @@ abbrev pub target_type : Option Entry → ValueType
 target_type None = Unknown
 target_type (Some e) = set_type e.binding
 
-abbrev pub set_faults : ℕ → Binding → List Fault
+abbrev pub set_faults : ℕ → Binding → List TokenFault
 set_faults token (Variable t) = []
 set_faults token m = wrong token ∷ []
 
-abbrev pub target_faults : ℕ → Option Entry → List Fault
+abbrev pub target_faults : ℕ → Option Entry → List TokenFault
 target_faults token None = unknown token ∷ []
 target_faults token (Some e) = set_faults token e.binding
 
 -- a target that receives a value of this type
-abbrev pub target : List Entry → ValueType → Name → List Fault
+abbrev pub target : List Entry → ValueType → Name → List TokenFault
 target scope value n = target_faults n.token (entry_of scope n.text) ++ misfit value n.token (target_type (entry_of scope n.text))
 
 -- a target for each type; a target without a type takes any value
-abbrev pub targets : List Entry → List ValueType → List Name → List Fault
+abbrev pub targets : List Entry → List ValueType → List Name → List TokenFault
 targets scope ts [] = []
 targets scope [] (n ∷ ns) = target scope Unknown n ++ targets scope [] ns
 targets scope (t ∷ ts) (n ∷ ns) = target scope t n ++ targets scope ts ns
@@ -80,16 +80,16 @@ values_token [] token = token
 values_token (e ∷ es) token = e.token
 
 -- a condition of WHERE: its right side has the column's type
-abbrev pub cond_faults : List Entry → Option (List ColDef) → Cond → List Fault
+abbrev pub cond_faults : List Entry → Option (List ColDef) → Cond → List TokenFault
 cond_faults scope columns c = column_faults columns c.column ++ placed (type_among columns c.column.text) scope c.right
 
-abbrev pub where_faults : List Entry → Option (List ColDef) → List Cond → List Fault
+abbrev pub where_faults : List Entry → Option (List ColDef) → List Cond → List TokenFault
 where_faults scope columns conds = flat_map (cond_faults scope columns) conds
 
-abbrev pub order_faults : Option (List ColDef) → List Sort → List Fault
+abbrev pub order_faults : Option (List ColDef) → List Sort → List TokenFault
 order_faults columns sorts = flat_map (λ (s : Sort). column_faults columns s.column) sorts
 
-abbrev pub offset_faults : List Entry → Option Expr → List Fault
+abbrev pub offset_faults : List Entry → Option Expr → List TokenFault
 offset_faults scope None = []
 offset_faults scope (Some e) = placed Int scope e
 
@@ -101,7 +101,7 @@ agg_type columns (Min n) = type_among columns n.text
 agg_type columns (Max n) = type_among columns n.text
 
 -- an aggregate's column exists, and that of a SUM is INT
-abbrev pub agg_faults : Option (List ColDef) → Agg → List Fault
+abbrev pub agg_faults : Option (List ColDef) → Agg → List TokenFault
 agg_faults columns CountAll = []
 agg_faults columns (CountDistinct n) = column_faults columns n
 agg_faults columns (Sum n) = column_faults columns n ++ misfit Int n.token (type_among columns n.text)
@@ -109,19 +109,19 @@ agg_faults columns (Min n) = column_faults columns n
 agg_faults columns (Max n) = column_faults columns n
 
 -- a loop's name is not yet in scope
-abbrev pub turn_name : List Entry → Name → List Fault
+abbrev pub turn_name : List Entry → Name → List TokenFault
 turn_name scope n = when (is_named (λ (e : Entry). e.name) scope n.text) (double n.token)
 
-abbrev pub not_rows : ℕ → Binding → List Fault
+abbrev pub not_rows : ℕ → Binding → List TokenFault
 not_rows token (Rows fields) = []
 not_rows token m = wrong token ∷ []
 
-abbrev pub rows_faults : ℕ → Option Entry → List Fault
+abbrev pub rows_faults : ℕ → Option Entry → List TokenFault
 rows_faults token None = unknown token ∷ []
 rows_faults token (Some e) = not_rows token e.binding
 
 -- a value for each column; a value without a column may have any type
-abbrev pub values_faults : List Entry → List ColDef → List Expr → List Fault
+abbrev pub values_faults : List Entry → List ColDef → List Expr → List TokenFault
 values_faults scope cs [] = []
 values_faults scope [] (e ∷ es) = placed Unknown scope e ++ values_faults scope [] es
 values_faults scope (c ∷ cs) (e ∷ es) = placed (type_in c.kind) scope e ++ values_faults scope cs es
@@ -131,7 +131,7 @@ is_key None n = false
 is_key (Some t) n = is_named (λ (k : Name). k.text) t.key n
 
 -- an item of SET: its column exists and isn't in the key, and its expression has the column's type
-abbrev pub item_faults : List Entry → Option TableDef → SetItem → List Fault
+abbrev pub item_faults : List Entry → Option TableDef → SetItem → List TokenFault
 item_faults scope t i =
     column_faults (columns_of t) i.column ++ when (is_key t i.column.text) (key_set i.column.token)
     ++ in_place (type_among (columns_of t) i.column.text) (judged i.right scope (columns_of t))
@@ -140,7 +140,7 @@ item_faults scope t i =
 
 -- the faults, given the names in scope
 abbrev pub Faults : Type 0
-Faults = List Entry → List Fault
+Faults = List Entry → List TokenFault
 
 abbrev pub all_faults : List Faults → Faults
 all_faults [] scope = []

@@ -9,7 +9,7 @@ use Rattle.mv_ast.specs.declared.tree.TwoOp.TheVariants.{Add, Sub, Mul, Div, Rem
 use Rattle.mv_ast.specs.declared.tree.Expr.{Expr, Expr-F, fold-Expr}
 use Rattle.mv_ast.specs.declared.tree.ExprKind.TheOpen.{ExprKind-F}
 use Rattle.mv_ast.specs.declared.tree.ExprKind.TheOpen as kind
-use Rattle.mv_names.specs.declared.fault.Fault.{Fault}
+use Rattle.mv_names.specs.declared.fault.TokenFault.{TokenFault}
 use Rattle.mv_names.specs.declared.scope.ValueType.{ValueType}
 use Rattle.mv_names.specs.declared.scope.ValueType.TheVariants.{Int, Text, Unknown}
 use Rattle.mv_names.specs.declared.scope.Field.{Field}
@@ -30,13 +30,13 @@ clash t u = false
 pub record Judged : Type 0 where
   pub token : ℕ
   pub type : ValueType
-  pub faults : List Fault
+  pub faults : List TokenFault
 
 -- an expression in a place of this type
-abbrev pub misfit : ValueType → ℕ → ValueType → List Fault
+abbrev pub misfit : ValueType → ℕ → ValueType → List TokenFault
 misfit place token type = when (clash place type) (wrong token)
 
-abbrev pub in_place : ValueType → Judged → List Fault
+abbrev pub in_place : ValueType → Judged → List TokenFault
 in_place place part = part.faults ++ misfit place part.token part.type
 
 -- a name read as a value is a parameter, a variable or `:found`. An undeclared name is a fault at the name. A ROWS
@@ -47,7 +47,7 @@ type_of_binding (Variable t) = t
 type_of_binding (Rows fields) = Unknown
 type_of_binding (Turn fields) = Unknown
 
-abbrev pub reading_faults : ℕ → Binding → List Fault
+abbrev pub reading_faults : ℕ → Binding → List TokenFault
 reading_faults token (Fixed t) = []
 reading_faults token (Variable t) = []
 reading_faults token (Rows fields) = wrong token ∷ []
@@ -57,7 +57,7 @@ abbrev pub read_type : Option Entry → ValueType
 read_type None = Unknown
 read_type (Some e) = type_of_binding e.binding
 
-abbrev pub read_faults : Name → ℕ → Option Entry → List Fault
+abbrev pub read_faults : Name → ℕ → Option Entry → List TokenFault
 read_faults n token None = unknown n.token ∷ []
 read_faults n token (Some e) = reading_faults token e.binding
 
@@ -73,7 +73,7 @@ abbrev pub field_type : Option Field → ValueType
 field_type None = Unknown
 field_type (Some f) = f.kind
 
-abbrev pub missing_field : ℕ → Option Field → List Fault
+abbrev pub missing_field : ℕ → Option Field → List TokenFault
 missing_field token None = unknown token ∷ []
 missing_field token (Some f) = []
 
@@ -84,7 +84,7 @@ abbrev pub turn_type : Binding → Name → ValueType
 turn_type (Turn fields) n = field_type (field_named fields n)
 turn_type m n = Unknown
 
-abbrev pub turn_faults : ℕ → Binding → Name → List Fault
+abbrev pub turn_faults : ℕ → Binding → Name → List TokenFault
 turn_faults token (Turn fields) n = missing_field n.token (field_named fields n)
 turn_faults token m n = wrong token ∷ []
 
@@ -92,7 +92,7 @@ abbrev pub of_turn_type : Option Entry → Name → ValueType
 of_turn_type None n = Unknown
 of_turn_type (Some e) n = turn_type e.binding n
 
-abbrev pub of_turn_faults : Name → ℕ → Option Entry → Name → List Fault
+abbrev pub of_turn_faults : Name → ℕ → Option Entry → Name → List TokenFault
 of_turn_faults r token None n = unknown r.token ∷ []
 of_turn_faults r token (Some e) n = turn_faults token e.binding n
 
@@ -104,11 +104,11 @@ judged_field scope r n token = record {
 }
 
 -- an unknown column is a fault, unless its table is unknown too
-abbrev pub missing_column : ℕ → Option ColDef → List Fault
+abbrev pub missing_column : ℕ → Option ColDef → List TokenFault
 missing_column token None = unknown token ∷ []
 missing_column token (Some c) = []
 
-abbrev pub column_faults : Option (List ColDef) → Name → List Fault
+abbrev pub column_faults : Option (List ColDef) → Name → List TokenFault
 column_faults None n = []
 column_faults (Some columns) n = missing_column n.token (first_named (λ (c : ColDef). c.name.text) columns n.text)
 
@@ -197,9 +197,9 @@ judged = fold-Expr (ℕ → Judges) Judges kind_step expr_step
 abbrev pub type_of : List Entry → Option (List ColDef) → Expr → ValueType
 type_of scope columns e = (judged e scope columns).type
 
-abbrev pub faults_of : List Entry → Option (List ColDef) → Expr → List Fault
+abbrev pub faults_of : List Entry → Option (List ColDef) → Expr → List TokenFault
 faults_of scope columns e = (judged e scope columns).faults
 
 -- an expression in a place of this type, without bare columns
-abbrev pub placed : ValueType → List Entry → Expr → List Fault
+abbrev pub placed : ValueType → List Entry → Expr → List TokenFault
 placed place scope e = in_place place (judged e scope (Some []))

@@ -5,11 +5,11 @@ use Rattle.mv_ast.specs.declared.tree.Stmt.{Stmt}
 use Rattle.mv_ast.specs.declared.tree.Stmt.TheOpen.{Stmt-F, Assign, Select, Total, ForSelect, ForRows, Branch, Insert, Update, Delete, Print, Rollback}
 use Rattle.mv_ast.specs.declared.tree.Stmt.TheFolds.{fold-Stmt}
 use Rattle.mv_ast.specs.Limits.{together}
-use Rattle.mv_names.specs.declared.fault.Fault.{Fault}
+use Rattle.mv_names.specs.declared.fault.TokenFault.{TokenFault}
 use Rattle.mv_names.specs.First.{writing}
 
 -- a fault for each change of a table, given those in the statements that it contains
-abbrev pub writes_step : Stmt-F (List Fault) → List Fault
+abbrev pub writes_step : Stmt-F (List TokenFault) → List TokenFault
 writes_step (Assign token to right) = []
 writes_step (Select token columns to table conds sorts offset) = []
 writes_step (Total token agg to table conds) = []
@@ -22,13 +22,13 @@ writes_step (Delete token table conds) = writing table.token ∷ []
 writes_step (Print token values) = []
 writes_step (Rollback token reason) = []
 
-abbrev pub writes_of : Stmt → List Fault
-writes_of = fold-Stmt (List Fault) writes_step
+abbrev pub writes_of : Stmt → List TokenFault
+writes_of = fold-Stmt (List TokenFault) writes_step
 
 -- those of a statement list
-abbrev pub all_writes : List Stmt → List Fault
+abbrev pub all_writes : List Stmt → List TokenFault
 all_writes ss = together (map writes_of ss)
 
 -- only a READ ONLY procedure has them
-abbrev pub writes : ProcDef → List Fault
+abbrev pub writes : ProcDef → List TokenFault
 writes p = if p.read_only then all_writes p.body else []

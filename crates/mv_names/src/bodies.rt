@@ -4,7 +4,7 @@ ghost use Rattle.std.specs.Prelude.{◌≡◌, ◌∷◌, ◌++◌, [], OnOk};
 ghost use Rattle.mv_names.specs.Statements.{table_named, statements, statement_faults, for_select, for_rows};
 
 use crate::exprs::check_placed;
-use crate::fault::Fault;
+use crate::fault::TokenFault;
 use crate::index::Index;
 use crate::nested::Scope;
 use crate::scope::{Entry, ValueType};
@@ -12,7 +12,7 @@ use crate::statements::{
     check_assign, check_delete, check_insert, check_rows, check_select, check_selected,
     check_total, check_turn_name, check_update, check_values, fields_of, turn_with,
 };
-use crate::tables::Table;
+use crate::tables::TableNames;
 use mv_ast::tree::{Name, Selection, Stmt};
 use mv_values::list::List;
 use mv_values::memory::NoMemory;
@@ -22,10 +22,10 @@ use std::alloc::Global;
 #[cycle(statements)]
 pub(crate) fn check_statements<'a>(
     alloc: Global,
-    tables: &Index<'_, Table<'_>>,
+    tables: &Index<'_, TableNames<'_>>,
     body: &'a [Stmt],
     scope: &mut Scope<'a, Entry>,
-    faults: &mut List<Fault>,
+    faults: &mut List<TokenFault>,
 ) -> Result<(), NoMemory>
     ensures faults { OnOk result (faults.new ≡ faults.old ++ statements tables.now body.now scope.old) }
     ensures scope { OnOk result (scope.new ≡ scope.old) }
@@ -40,10 +40,10 @@ pub(crate) fn check_statements<'a>(
 #[cycle(statements)]
 fn check_statement<'a>(
     alloc: Global,
-    tables: &Index<'_, Table<'_>>,
+    tables: &Index<'_, TableNames<'_>>,
     statement: &'a Stmt,
     scope: &mut Scope<'a, Entry>,
-    faults: &mut List<Fault>,
+    faults: &mut List<TokenFault>,
 ) -> Result<(), NoMemory>
     ensures faults { OnOk result (faults.new ≡ faults.old ++ statement_faults tables.now statement.now scope.old) }
     ensures scope { OnOk result (scope.new ≡ scope.old) }
@@ -164,12 +164,12 @@ fn check_statement<'a>(
 #[cycle(statements)]
 fn check_for_select<'a>(
     alloc: Global,
-    tables: &Index<'_, Table<'_>>,
+    tables: &Index<'_, TableNames<'_>>,
     turn: &'a Name,
     selection: &Selection<'_>,
     body: &'a [Stmt],
     scope: &mut Scope<'a, Entry>,
-    faults: &mut List<Fault>,
+    faults: &mut List<TokenFault>,
 ) -> Result<(), NoMemory>
     ensures faults { OnOk result (faults.new ≡ faults.old ++ for_select (table_named tables.now selection.now.table.now.text) turn.now selection.now.columns.now selection.now.table.now selection.now.conds.now selection.now.sorts.now (statements tables.now body.now) scope.old) }
     ensures scope { OnOk result (scope.new ≡ scope.old) }
@@ -185,12 +185,12 @@ fn check_for_select<'a>(
 #[cycle(statements)]
 fn check_for_rows<'a>(
     alloc: Global,
-    tables: &Index<'_, Table<'_>>,
+    tables: &Index<'_, TableNames<'_>>,
     turn: &'a Name,
     rows: &Name,
     body: &'a [Stmt],
     scope: &mut Scope<'a, Entry>,
-    faults: &mut List<Fault>,
+    faults: &mut List<TokenFault>,
 ) -> Result<(), NoMemory>
     ensures faults { OnOk result (faults.new ≡ faults.old ++ for_rows turn.now rows.now (statements tables.now body.now) scope.old) }
     ensures scope { OnOk result (scope.new ≡ scope.old) }
@@ -206,12 +206,12 @@ fn check_for_rows<'a>(
 #[cycle(statements)]
 fn check_body<'a>(
     alloc: Global,
-    tables: &Index<'_, Table<'_>>,
+    tables: &Index<'_, TableNames<'_>>,
     turn: &'a Name,
     entry: Entry,
     body: &'a [Stmt],
     scope: &mut Scope<'a, Entry>,
-    faults: &mut List<Fault>,
+    faults: &mut List<TokenFault>,
 ) -> Result<(), NoMemory>
     requires { turn.now.text ≡ entry.name }
     ensures faults { OnOk result (faults.new ≡ faults.old ++ statements tables.now body.now (scope.old ++ entry ∷ [])) }

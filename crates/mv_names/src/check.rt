@@ -7,13 +7,13 @@ ghost use Rattle.mv_names.specs.Items.{stage, stage_after, lates};
 ghost use Rattle.mv_names.specs.Faults as meant;
 ghost use Rattle.mv_names.specs.Faults.{parts_faults};
 
-use crate::fault::{Fault, add_if};
+use crate::fault::{TokenFault, add_if};
 use crate::index::Index;
 use crate::items::{check_call, check_copy, check_procedure, check_table_def};
 use crate::labels::check_doubles;
 use crate::nested::Scope;
 use crate::parts::Parts;
-use crate::tables::{Table, with_columns};
+use crate::tables::{TableNames, with_columns};
 use mv_ast::tree::{CallDef, CopyDef, Item, ItemKind, ProcDef, TableDef};
 use mv_values::list::List;
 use mv_values::memory::NoMemory;
@@ -46,19 +46,19 @@ fn stage_behind(kind: &ItemKind) -> u8
 }
 
 /// Reports an item whose kind is below the least kind allowed.
-fn check_item(least: u8, item: &Item, faults: &mut List<Fault>) -> Result<(), NoMemory>
+fn check_item(least: u8, item: &Item, faults: &mut List<TokenFault>) -> Result<(), NoMemory>
     ensures { OnOk result (faults.new ≡ faults.old ++ when (nat_lt (stage item.now.kind) least) (late item.now.token)) }
 {
     add_if(
         faults,
         stage_of(&item.kind) < least,
-        Fault::late(item.token),
+        TokenFault::late(item.token),
     )
 }
 
 /// Adds a fault for each item that follows an item of a later kind, and for each item after a journal. Fails if memory
 /// runs out.
-pub fn check_order(items: &[Item], faults: &mut List<Fault>) -> Result<(), NoMemory>
+pub fn check_order(items: &[Item], faults: &mut List<TokenFault>) -> Result<(), NoMemory>
     ensures { OnOk result (faults.new ≡ faults.old ++ lates 0 items.now) }
 {
     let mut least = 0;
@@ -71,9 +71,9 @@ pub fn check_order(items: &[Item], faults: &mut List<Fault>) -> Result<(), NoMem
 
 fn check_tables(
     alloc: Global,
-    index: &Index<'_, Table<'_>>,
-    tables: &[Table<'_>],
-    faults: &mut List<Fault>,
+    index: &Index<'_, TableNames<'_>>,
+    tables: &[TableNames<'_>],
+    faults: &mut List<TokenFault>,
 ) -> Result<(), NoMemory>
     ensures { OnOk result (faults.new ≡ faults.old ++ flat_map (meant.table index.now) tables.now) }
 {
@@ -85,9 +85,9 @@ fn check_tables(
 
 fn check_procedures(
     alloc: Global,
-    tables: &Index<'_, Table<'_>>,
+    tables: &Index<'_, TableNames<'_>>,
     procedures: &[ProcDef],
-    faults: &mut List<Fault>,
+    faults: &mut List<TokenFault>,
 ) -> Result<(), NoMemory>
     ensures { OnOk result (faults.new ≡ faults.old ++ flat_map (meant.procedure tables.now) procedures.now) }
 {
@@ -98,9 +98,9 @@ fn check_procedures(
 }
 
 fn check_copies(
-    tables: &Index<'_, Table<'_>>,
+    tables: &Index<'_, TableNames<'_>>,
     copies: &[CopyDef],
-    faults: &mut List<Fault>,
+    faults: &mut List<TokenFault>,
 ) -> Result<(), NoMemory>
     ensures { OnOk result (faults.new ≡ faults.old ++ flat_map (meant.copy tables.now) copies.now) }
 {
@@ -114,7 +114,7 @@ fn check_calls(
     alloc: Global,
     procedures: &[ProcDef],
     calls: &[CallDef],
-    faults: &mut List<Fault>,
+    faults: &mut List<TokenFault>,
 ) -> Result<(), NoMemory>
     ensures { OnOk result (faults.new ≡ faults.old ++ flat_map (meant.call procedures.now) calls.now) }
 {
@@ -128,7 +128,7 @@ fn check_calls(
 fn check_table_names(
     alloc: Global,
     tables: &[TableDef],
-    faults: &mut List<Fault>,
+    faults: &mut List<TokenFault>,
 ) -> Result<(), NoMemory>
     ensures { OnOk result (faults.new ≡ faults.old ++ meant.table_doubles tables.now) }
 {
@@ -138,7 +138,7 @@ fn check_table_names(
 fn check_procedure_names(
     alloc: Global,
     procedures: &[ProcDef],
-    faults: &mut List<Fault>,
+    faults: &mut List<TokenFault>,
 ) -> Result<(), NoMemory>
     ensures { OnOk result (faults.new ≡ faults.old ++ meant.procedure_doubles procedures.now) }
 {
@@ -146,7 +146,11 @@ fn check_procedure_names(
 }
 
 /// Adds all faults of the items except those of their order. Fails if memory runs out.
-pub fn check_parts(alloc: Global, parts: &Parts, faults: &mut List<Fault>) -> Result<(), NoMemory>
+pub fn check_parts(
+    alloc: Global,
+    parts: &Parts,
+    faults: &mut List<TokenFault>,
+) -> Result<(), NoMemory>
     ensures { OnOk result (faults.new ≡ faults.old ++ parts_faults parts.now) }
 {
     let tables = parts.tables.as_slice();

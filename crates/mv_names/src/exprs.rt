@@ -5,7 +5,7 @@ ghost use Rattle.std.specs.Option.{option_copied};
 ghost use Rattle.mv_names.specs.Scope.{entry_of, type_in, type_of_value, type_among};
 ghost use Rattle.mv_names.specs.Typing.{clash, misfit, read_type, read_faults, of_turn_type, of_turn_faults, field_type, missing_field, field_named, column_faults, type_of, faults_of, in_place, judged, placed, one_wants, one_gives, left_wants, right_wants, two_gives};
 
-use crate::fault::{Fault, add_if};
+use crate::fault::{TokenFault, add_if};
 use crate::index::Index;
 use crate::named::find;
 use crate::nested::Scope;
@@ -47,14 +47,14 @@ pub(crate) fn do_clash(place: ValueType, kind: ValueType) -> bool
 
 /// Reports a value whose type doesn't fit its place.
 pub(crate) fn check_fit(
-    faults: &mut List<Fault>,
+    faults: &mut List<TokenFault>,
     place: ValueType,
     token: u32,
     kind: ValueType,
 ) -> Result<(), NoMemory>
     ensures { OnOk result (faults.new ≡ faults.old ++ misfit place token kind) }
 {
-    add_if(faults, do_clash(place, kind), Fault::wrong(token))
+    add_if(faults, do_clash(place, kind), TokenFault::wrong(token))
 }
 
 /// Checks a name read as a value, in an expression that begins at this token. Returns its type.
@@ -62,25 +62,25 @@ fn check_variable(
     scope: &Scope<'_, Entry>,
     name: &Name,
     token: u32,
-    faults: &mut List<Fault>,
+    faults: &mut List<TokenFault>,
 ) -> Result<ValueType, NoMemory>
     ensures kind { IfOk result (λ t. t ≡ read_type (entry_of scope.now name.now.text)) }
     ensures faults { OnOk result (faults.new ≡ faults.old ++ read_faults name.now token (entry_of scope.now name.now.text)) }
 {
     match scope.find(&name.text) {
         None => {
-            faults.push(Fault::unknown(name.token))?;
+            faults.push(TokenFault::unknown(name.token))?;
             Ok(ValueType::Unknown)
         }
         Some(entry) => match &entry.binding {
             Binding::Fixed(kind) => Ok(*kind),
             Binding::Variable(kind) => Ok(*kind),
             Binding::Rows(_) => {
-                faults.push(Fault::wrong(token))?;
+                faults.push(TokenFault::wrong(token))?;
                 Ok(ValueType::Unknown)
             }
             Binding::Turn(_) => {
-                faults.push(Fault::wrong(token))?;
+                faults.push(TokenFault::wrong(token))?;
                 Ok(ValueType::Unknown)
             }
         },
@@ -91,14 +91,14 @@ fn check_variable(
 fn check_in_turn(
     fields: &[Field],
     name: &Name,
-    faults: &mut List<Fault>,
+    faults: &mut List<TokenFault>,
 ) -> Result<ValueType, NoMemory>
     ensures kind { IfOk result (λ t. t ≡ field_type (field_named fields.now name.now)) }
     ensures faults { OnOk result (faults.new ≡ faults.old ++ missing_field name.now.token (field_named fields.now name.now)) }
 {
     match find(fields, &name.text) {
         None => {
-            faults.push(Fault::unknown(name.token))?;
+            faults.push(TokenFault::unknown(name.token))?;
             Ok(ValueType::Unknown)
         }
         Some(field) => Ok(field.kind),
@@ -111,20 +111,20 @@ fn check_field(
     row: &Name,
     name: &Name,
     token: u32,
-    faults: &mut List<Fault>,
+    faults: &mut List<TokenFault>,
 ) -> Result<ValueType, NoMemory>
     ensures kind { IfOk result (λ t. t ≡ of_turn_type (entry_of scope.now row.now.text) name.now) }
     ensures faults { OnOk result (faults.new ≡ faults.old ++ of_turn_faults row.now token (entry_of scope.now row.now.text) name.now) }
 {
     match scope.find(&row.text) {
         None => {
-            faults.push(Fault::unknown(row.token))?;
+            faults.push(TokenFault::unknown(row.token))?;
             Ok(ValueType::Unknown)
         }
         Some(entry) => match &entry.binding {
             Binding::Turn(fields) => check_in_turn(fields.as_slice(), name, faults),
             _ => {
-                faults.push(Fault::wrong(token))?;
+                faults.push(TokenFault::wrong(token))?;
                 Ok(ValueType::Unknown)
             }
         },
@@ -136,7 +136,7 @@ fn check_field(
 pub(crate) fn check_column(
     columns: Option<&Index<'_, ColDef>>,
     name: &Name,
-    faults: &mut List<Fault>,
+    faults: &mut List<TokenFault>,
 ) -> Result<ValueType, NoMemory>
     ensures kind { IfOk result (λ t. t ≡ type_among (option_copied columns.entry) name.now.text) }
     ensures faults { OnOk result (faults.new ≡ faults.old ++ column_faults (option_copied columns.entry) name.now) }
@@ -145,7 +145,7 @@ pub(crate) fn check_column(
         None => Ok(ValueType::Unknown),
         Some(columns) => match columns.find(&name.text) {
             None => {
-                faults.push(Fault::unknown(name.token))?;
+                faults.push(TokenFault::unknown(name.token))?;
                 Ok(ValueType::Unknown)
             }
             Some(column) => Ok(column_kind(column.kind)),
@@ -208,7 +208,7 @@ pub(crate) fn check_expr(
     scope: &Scope<'_, Entry>,
     columns: Option<&Index<'_, ColDef>>,
     e: &Expr,
-    faults: &mut List<Fault>,
+    faults: &mut List<TokenFault>,
 ) -> Result<ValueType, NoMemory>
     ensures kind { IfOk result (λ t. t ≡ type_of scope.now (option_copied columns.entry) e.now) }
     ensures faults { OnOk result (faults.new ≡ faults.old ++ faults_of scope.now (option_copied columns.entry) e.now) }
@@ -237,7 +237,7 @@ pub(crate) fn check_operand(
     scope: &Scope<'_, Entry>,
     columns: Option<&Index<'_, ColDef>>,
     e: &Expr,
-    faults: &mut List<Fault>,
+    faults: &mut List<TokenFault>,
 ) -> Result<ValueType, NoMemory>
     ensures kind { IfOk result (λ t. t ≡ type_of scope.now (option_copied columns.entry) e.now) }
     ensures faults { OnOk result (faults.new ≡ faults.old ++ in_place place (judged e.now scope.now (option_copied columns.entry))) }
@@ -252,7 +252,7 @@ pub(crate) fn check_placed(
     place: ValueType,
     scope: &Scope<'_, Entry>,
     e: &Expr,
-    faults: &mut List<Fault>,
+    faults: &mut List<TokenFault>,
 ) -> Result<(), NoMemory>
     ensures { OnOk result (faults.new ≡ faults.old ++ placed place scope.now e.now) }
 {

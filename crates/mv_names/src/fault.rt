@@ -27,7 +27,7 @@ pub enum FaultKind {
 
 /// A fault at a token. `token` is the token's number.
 #[derive(Clone, Copy)]
-pub struct Fault {
+pub struct TokenFault {
     pub token: u32,
     pub kind: FaultKind,
 }
@@ -47,69 +47,69 @@ fn rank_of(kind: FaultKind) -> u8
 }
 
 /// Whether a fault comes before another.
-fn comes_before(fault: Fault, other: Fault) -> bool
+fn comes_before(fault: TokenFault, other: TokenFault) -> bool
     ensures { result ≡ is_before fault other }
 {
     fault.token < other.token
         || (fault.token == other.token && rank_of(fault.kind) < rank_of(other.kind))
 }
 
-impl Fault {
+impl TokenFault {
     /// Returns a fault for a name that isn't declared.
-    pub(crate) fn unknown(token: u32) -> Fault
+    pub(crate) fn unknown(token: u32) -> TokenFault
         ensures { result ≡ kinds.unknown token }
     {
-        Fault {
+        TokenFault {
             token,
             kind: FaultKind::UnknownName,
         }
     }
 
     /// Returns a fault for a name that is already taken.
-    pub(crate) fn double(token: u32) -> Fault
+    pub(crate) fn double(token: u32) -> TokenFault
         ensures { result ≡ kinds.double token }
     {
-        Fault {
+        TokenFault {
             token,
             kind: FaultKind::DoubleName,
         }
     }
 
     /// Returns a fault for a value or list whose type or length doesn't fit its place.
-    pub(crate) fn wrong(token: u32) -> Fault
+    pub(crate) fn wrong(token: u32) -> TokenFault
         ensures { result ≡ kinds.wrong token }
     {
-        Fault {
+        TokenFault {
             token,
             kind: FaultKind::WrongType,
         }
     }
 
     /// Returns a fault for a key column in SET.
-    pub(crate) fn key_set(token: u32) -> Fault
+    pub(crate) fn key_set(token: u32) -> TokenFault
         ensures { result ≡ kinds.key_set token }
     {
-        Fault {
+        TokenFault {
             token,
             kind: FaultKind::KeyAssigned,
         }
     }
 
     /// Returns a fault for an item after an item of a later kind.
-    pub(crate) fn late(token: u32) -> Fault
+    pub(crate) fn late(token: u32) -> TokenFault
         ensures { result ≡ kinds.late token }
     {
-        Fault {
+        TokenFault {
             token,
             kind: FaultKind::Late,
         }
     }
 
     /// Returns a fault for a table that a READ ONLY procedure changes.
-    pub(crate) fn writing(token: u32) -> Fault
+    pub(crate) fn writing(token: u32) -> TokenFault
         ensures { result ≡ kinds.writing token }
     {
-        Fault {
+        TokenFault {
             token,
             kind: FaultKind::Writes,
         }
@@ -117,7 +117,11 @@ impl Fault {
 }
 
 /// Adds a fault if the test holds.
-pub(crate) fn add_if(faults: &mut List<Fault>, holds: bool, fault: Fault) -> Result<(), NoMemory>
+pub(crate) fn add_if(
+    faults: &mut List<TokenFault>,
+    holds: bool,
+    fault: TokenFault,
+) -> Result<(), NoMemory>
     ensures { OnOk result (faults.new ≡ faults.old ++ when holds fault) }
 {
     if holds {
@@ -127,7 +131,7 @@ pub(crate) fn add_if(faults: &mut List<Fault>, holds: bool, fault: Fault) -> Res
 }
 
 /// Returns the earlier of the first fault so far and another one.
-fn earlier(first: Option<Fault>, fault: Fault) -> Fault
+fn earlier(first: Option<TokenFault>, fault: TokenFault) -> TokenFault
     ensures { result ≡ earlier_of first fault }
 {
     match first {
@@ -144,7 +148,7 @@ fn earlier(first: Option<Fault>, fault: Fault) -> Fault
 
 /// Returns the fault that comes first by token, then by kind. Returns `None` only if there are no faults. Costs one
 /// pass over the faults.
-pub fn first_of(faults: &[Fault]) -> Option<Fault>
+pub fn first_of(faults: &[TokenFault]) -> Option<TokenFault>
     ensures { IsFirstOf faults.now result }
 {
     let mut first = None;

@@ -9,13 +9,13 @@ ghost use Rattle.mv_names.specs.Faults.{fits, begins, arg_token, arguments_token
 
 use crate::bodies::check_statements;
 use crate::exprs::{column_kind, do_clash, value_kind};
-use crate::fault::{Fault, add_if};
+use crate::fault::{TokenFault, add_if};
 use crate::index::Index;
 use crate::labels::{Taken, check_doubles};
 use crate::nested::Scope;
 use crate::scope::{Binding, Entry, FOUND, Field, ValueType};
 use crate::statements::check_table;
-use crate::tables::Table;
+use crate::tables::TableNames;
 use crate::writes::check_writes;
 use mv_ast::tree::{
     Arg, CallDef, ColDef, CopyDef, Lit, LitRow, Name, Param, ParamKind, ProcDef, VarDef,
@@ -41,13 +41,17 @@ fn does_fit(kind: ColType, value: &Value) -> bool
     }
 }
 
-fn check_literal(kind: ColType, literal: &Lit, faults: &mut List<Fault>) -> Result<(), NoMemory>
+fn check_literal(
+    kind: ColType,
+    literal: &Lit,
+    faults: &mut List<TokenFault>,
+) -> Result<(), NoMemory>
     ensures { OnOk result (faults.new ≡ faults.old ++ meant.literal kind literal.now) }
 {
     add_if(
         faults,
         !does_fit(kind, &literal.value),
-        Fault::wrong(literal.token),
+        TokenFault::wrong(literal.token),
     )
 }
 
@@ -55,7 +59,7 @@ fn check_literal(kind: ColType, literal: &Lit, faults: &mut List<Fault>) -> Resu
 fn check_literals(
     columns: &[ColDef],
     literals: &[Lit],
-    faults: &mut List<Fault>,
+    faults: &mut List<TokenFault>,
 ) -> Result<(), NoMemory>
     requires { length literals.now ≡ length columns.now }
     ensures { OnOk result (faults.new ≡ faults.old ++ meant.literals columns.now literals.now) }
@@ -66,18 +70,26 @@ fn check_literals(
     Ok(())
 }
 
-fn check_row(columns: &[ColDef], row: &LitRow, faults: &mut List<Fault>) -> Result<(), NoMemory>
+fn check_row(
+    columns: &[ColDef],
+    row: &LitRow,
+    faults: &mut List<TokenFault>,
+) -> Result<(), NoMemory>
     ensures { OnOk result (faults.new ≡ faults.old ++ meant.row columns.now row.now) }
 {
     let values = row.values.as_slice();
     if values.len() == columns.len() {
         check_literals(columns, values, faults)
     } else {
-        faults.push(Fault::wrong(row.token))
+        faults.push(TokenFault::wrong(row.token))
     }
 }
 
-fn check_rows(columns: &[ColDef], rows: &[LitRow], faults: &mut List<Fault>) -> Result<(), NoMemory>
+fn check_rows(
+    columns: &[ColDef],
+    rows: &[LitRow],
+    faults: &mut List<TokenFault>,
+) -> Result<(), NoMemory>
     ensures { OnOk result (faults.new ≡ faults.old ++ meant.rows columns.now rows.now) }
 {
     for row in rows {
@@ -91,7 +103,7 @@ fn check_rows(columns: &[ColDef], rows: &[LitRow], faults: &mut List<Fault>) -> 
 fn check_column_names(
     alloc: Global,
     columns: &[ColDef],
-    faults: &mut List<Fault>,
+    faults: &mut List<TokenFault>,
 ) -> Result<(), NoMemory>
     ensures { OnOk result (faults.new ≡ faults.old ++ meant.column_doubles columns.now) }
 {
@@ -102,18 +114,18 @@ fn check_column_names(
 fn check_key_column(
     columns: &Index<'_, ColDef>,
     name: &Name,
-    faults: &mut List<Fault>,
+    faults: &mut List<TokenFault>,
 ) -> Result<(), NoMemory>
     ensures { OnOk result (faults.new ≡ faults.old ++ meant.missing_key columns.now name.now) }
 {
     let is_there = columns.has(&name.text);
-    add_if(faults, !is_there, Fault::unknown(name.token))
+    add_if(faults, !is_there, TokenFault::unknown(name.token))
 }
 
 fn check_key(
     columns: &Index<'_, ColDef>,
     key: &[Name],
-    faults: &mut List<Fault>,
+    faults: &mut List<TokenFault>,
 ) -> Result<(), NoMemory>
     ensures { OnOk result (faults.new ≡ faults.old ++ flat_map (meant.missing_key columns.now) key.now) }
 {
@@ -123,7 +135,11 @@ fn check_key(
     Ok(())
 }
 
-fn check_key_names(alloc: Global, key: &[Name], faults: &mut List<Fault>) -> Result<(), NoMemory>
+fn check_key_names(
+    alloc: Global,
+    key: &[Name],
+    faults: &mut List<TokenFault>,
+) -> Result<(), NoMemory>
     ensures { OnOk result (faults.new ≡ faults.old ++ meant.key_doubles key.now) }
 {
     let mut taken = Scope::new(alloc);
@@ -142,7 +158,7 @@ fn type_of_key(columns: &Index<'_, ColDef>, name: &Name) -> ValueType
 }
 
 /// Whether a value of this type can be the key of a table: the key is one column, and it isn't of the other type.
-fn can_be_key(kind: ColType, table: &Table<'_>) -> bool
+fn can_be_key(kind: ColType, table: &TableNames<'_>) -> bool
     ensures { result ≡ meant.can_be_key kind table.now.columns table.now.key }
 {
     match table.definition().key.as_slice() {
@@ -155,22 +171,26 @@ fn can_be_key(kind: ColType, table: &Table<'_>) -> bool
 fn check_parent(
     kind: ColType,
     name: &Name,
-    table: Option<&Table<'_>>,
-    faults: &mut List<Fault>,
+    table: Option<&TableNames<'_>>,
+    faults: &mut List<TokenFault>,
 ) -> Result<(), NoMemory>
     ensures { OnOk result (faults.new ≡ faults.old ++ meant.parent kind name.now (option_copied table.entry)) }
 {
     match table {
-        None => faults.push(Fault::unknown(name.token)),
-        Some(table) => add_if(faults, !can_be_key(kind, table), Fault::wrong(name.token)),
+        None => faults.push(TokenFault::unknown(name.token)),
+        Some(table) => add_if(
+            faults,
+            !can_be_key(kind, table),
+            TokenFault::wrong(name.token),
+        ),
     }
 }
 
 /// Checks the REFERENCES of a column, if it has it.
 fn check_reference(
-    tables: &Index<'_, Table<'_>>,
+    tables: &Index<'_, TableNames<'_>>,
     column: &ColDef,
-    faults: &mut List<Fault>,
+    faults: &mut List<TokenFault>,
 ) -> Result<(), NoMemory>
     ensures { OnOk result (faults.new ≡ faults.old ++ meant.column_reference tables.now column.now) }
 {
@@ -181,9 +201,9 @@ fn check_reference(
 }
 
 fn check_references(
-    tables: &Index<'_, Table<'_>>,
+    tables: &Index<'_, TableNames<'_>>,
     columns: &[ColDef],
-    faults: &mut List<Fault>,
+    faults: &mut List<TokenFault>,
 ) -> Result<(), NoMemory>
     ensures { OnOk result (faults.new ≡ faults.old ++ flat_map (meant.column_reference tables.now) columns.now) }
 {
@@ -195,9 +215,9 @@ fn check_references(
 
 pub(crate) fn check_table_def(
     alloc: Global,
-    tables: &Index<'_, Table<'_>>,
-    table: &Table<'_>,
-    faults: &mut List<Fault>,
+    tables: &Index<'_, TableNames<'_>>,
+    table: &TableNames<'_>,
+    faults: &mut List<TokenFault>,
 ) -> Result<(), NoMemory>
     ensures { OnOk result (faults.new ≡ faults.old ++ meant.table tables.now table.now) }
 {
@@ -212,7 +232,11 @@ pub(crate) fn check_table_def(
 
 // Procedures
 
-fn check_param(alloc: Global, kind: &ParamKind, faults: &mut List<Fault>) -> Result<(), NoMemory>
+fn check_param(
+    alloc: Global,
+    kind: &ParamKind,
+    faults: &mut List<TokenFault>,
+) -> Result<(), NoMemory>
     ensures { OnOk result (faults.new ≡ faults.old ++ meant.param_columns kind.now) }
 {
     match kind {
@@ -221,7 +245,11 @@ fn check_param(alloc: Global, kind: &ParamKind, faults: &mut List<Fault>) -> Res
     }
 }
 
-fn check_params(alloc: Global, params: &[Param], faults: &mut List<Fault>) -> Result<(), NoMemory>
+fn check_params(
+    alloc: Global,
+    params: &[Param],
+    faults: &mut List<TokenFault>,
+) -> Result<(), NoMemory>
     ensures { OnOk result (faults.new ≡ faults.old ++ flat_map (λ q. meant.param_columns q.kind) params.now) }
 {
     for param in params {
@@ -243,14 +271,14 @@ fn can_begin(value: &Value) -> bool
     }
 }
 
-fn check_initials(vars: &[VarDef], faults: &mut List<Fault>) -> Result<(), NoMemory>
+fn check_initials(vars: &[VarDef], faults: &mut List<TokenFault>) -> Result<(), NoMemory>
     ensures { OnOk result (faults.new ≡ faults.old ++ flat_map meant.initial vars.now) }
 {
     for var in vars {
         add_if(
             faults,
             !can_begin(&var.initial.value),
-            Fault::wrong(var.initial.token),
+            TokenFault::wrong(var.initial.token),
         )?;
     }
     Ok(())
@@ -266,7 +294,7 @@ fn found_name(alloc: Global) -> Result<Txt, NoMemory>
 fn check_names<'a>(
     taken: &mut Scope<'a, Taken<'a>>,
     procedure: &'a ProcDef,
-    faults: &mut List<Fault>,
+    faults: &mut List<TokenFault>,
 ) -> Result<(), NoMemory>
     ensures { OnOk result (faults.new ≡ faults.old ++ meant.name_doubles taken.old procedure.now) }
 {
@@ -366,7 +394,7 @@ fn names_of_procedure<'a>(
 fn check_declarations(
     alloc: Global,
     procedure: &ProcDef,
-    faults: &mut List<Fault>,
+    faults: &mut List<TokenFault>,
 ) -> Result<(), NoMemory>
     ensures { OnOk result (faults.new ≡ faults.old ++ meant.declarations procedure.now) }
 {
@@ -379,9 +407,9 @@ fn check_declarations(
 
 pub(crate) fn check_procedure(
     alloc: Global,
-    tables: &Index<'_, Table<'_>>,
+    tables: &Index<'_, TableNames<'_>>,
     procedure: &ProcDef,
-    faults: &mut List<Fault>,
+    faults: &mut List<TokenFault>,
 ) -> Result<(), NoMemory>
     ensures { OnOk result (faults.new ≡ faults.old ++ meant.procedure tables.now procedure.now) }
 {
@@ -394,32 +422,40 @@ pub(crate) fn check_procedure(
 // Copies and calls
 
 pub(crate) fn check_copy(
-    tables: &Index<'_, Table<'_>>,
+    tables: &Index<'_, TableNames<'_>>,
     copy: &CopyDef,
-    faults: &mut List<Fault>,
+    faults: &mut List<TokenFault>,
 ) -> Result<(), NoMemory>
     ensures { OnOk result (faults.new ≡ faults.old ++ meant.copy tables.now copy.now) }
 {
     check_table(tables.find(&copy.table.text), copy.table.token, faults)
 }
 
-fn check_argument(kind: &ParamKind, arg: &Arg, faults: &mut List<Fault>) -> Result<(), NoMemory>
+fn check_argument(
+    kind: &ParamKind,
+    arg: &Arg,
+    faults: &mut List<TokenFault>,
+) -> Result<(), NoMemory>
     ensures { OnOk result (faults.new ≡ faults.old ++ meant.argument kind.now arg.now) }
 {
     match kind {
         ParamKind::One(kind) => match arg {
             Arg::One(literal) => check_literal(*kind, literal, faults),
-            Arg::Many(rows) => faults.push(Fault::wrong(rows.token)),
+            Arg::Many(rows) => faults.push(TokenFault::wrong(rows.token)),
         },
         ParamKind::Many(columns) => match arg {
-            Arg::One(literal) => faults.push(Fault::wrong(literal.token)),
+            Arg::One(literal) => faults.push(TokenFault::wrong(literal.token)),
             Arg::Many(rows) => check_rows(columns.as_slice(), rows.rows.as_slice(), faults),
         },
     }
 }
 
 /// Checks an argument for each parameter.
-fn check_arguments(params: &[Param], args: &[Arg], faults: &mut List<Fault>) -> Result<(), NoMemory>
+fn check_arguments(
+    params: &[Param],
+    args: &[Arg],
+    faults: &mut List<TokenFault>,
+) -> Result<(), NoMemory>
     requires { length args.now ≡ length params.now }
     ensures { OnOk result (faults.new ≡ faults.old ++ meant.arguments params.now args.now) }
 {
@@ -451,19 +487,19 @@ fn token_of_args(args: &[Arg], name: &Name) -> u32
 pub(crate) fn check_call(
     procedures: &Index<'_, ProcDef>,
     call: &CallDef,
-    faults: &mut List<Fault>,
+    faults: &mut List<TokenFault>,
 ) -> Result<(), NoMemory>
     ensures { OnOk result (faults.new ≡ faults.old ++ meant.call procedures.now call.now) }
 {
     match procedures.find(&call.name.text) {
-        None => faults.push(Fault::unknown(call.name.token)),
+        None => faults.push(TokenFault::unknown(call.name.token)),
         Some(procedure) => {
             let args = call.arguments.as_slice();
             let params = procedure.params.as_slice();
             if args.len() == params.len() {
                 check_arguments(params, args, faults)
             } else {
-                faults.push(Fault::wrong(token_of_args(args, &call.name)))
+                faults.push(TokenFault::wrong(token_of_args(args, &call.name)))
             }
         }
     }

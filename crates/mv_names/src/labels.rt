@@ -3,7 +3,7 @@
 ghost use Rattle.std.specs.Prelude.{◌≡◌, ◌++◌, map, OnOk};
 ghost use Rattle.mv_names.specs.Statements.{doubles};
 
-use crate::fault::{Fault, add_if};
+use crate::fault::{TokenFault, add_if};
 use crate::named::Named;
 use crate::nested::Scope;
 use mv_ast::tree::{ColDef, Name, Param, ProcDef, SetItem, TableDef, VarDef};
@@ -116,14 +116,18 @@ impl<'a> Taken<'a> {
 pub(crate) fn check_doubles<'a, T: Labelled>(
     taken: &mut Scope<'a, Taken<'a>>,
     items: &'a [T],
-    faults: &mut List<Fault>,
+    faults: &mut List<TokenFault>,
 ) -> Result<(), NoMemory>
     ensures faults { OnOk result (faults.new ≡ faults.old ++ doubles T.label_of taken.old items.now) }
     ensures taken { OnOk result (taken.new ≡ taken.old ++ map (λ x. (T.label_of x).text) items.now) }
 {
     for item in items {
         let name = item.label();
-        add_if(faults, taken.has(&name.text), Fault::double(name.token))?;
+        add_if(
+            faults,
+            taken.has(&name.text),
+            TokenFault::double(name.token),
+        )?;
         taken.push(name.text.as_slice(), Taken::of(&name.text))?;
     }
     Ok(())

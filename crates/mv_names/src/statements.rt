@@ -9,13 +9,13 @@ ghost use Rattle.mv_ast.specs.declared.tree.Agg.TheVariants.{Sum};
 ghost use Rattle.mv_names.specs.Statements.{missing_table, target_type, target_faults, target, targets, names_token, values_token, cond_faults, where_faults, order_faults, offset_faults, agg_type, agg_faults, turn_name, rows_faults, values_faults, is_key, item_faults, assign, select, total, insert, update, delete};
 
 use crate::exprs::{check_column, check_fit, check_operand, check_placed, column_kind};
-use crate::fault::{Fault, add_if};
+use crate::fault::{TokenFault, add_if};
 use crate::index::Index;
 use crate::labels::check_doubles;
 use crate::named::has_name;
 use crate::nested::Scope;
 use crate::scope::{Binding, Entry, Field, ValueType};
-use crate::tables::Table;
+use crate::tables::TableNames;
 use mv_ast::tree::{Agg, ColDef, Cond, Expr, Name, Selection, SetItem, Sort};
 use mv_values::copied::Copied;
 use mv_values::list::List;
@@ -23,7 +23,7 @@ use mv_values::memory::NoMemory;
 use std::alloc::Global;
 
 /// Returns the columns of a table, if the table exists.
-pub(crate) fn columns_in<'a>(table: Option<&'a Table<'_>>) -> Option<&'a Index<'a, ColDef>>
+pub(crate) fn columns_in<'a>(table: Option<&'a TableNames<'_>>) -> Option<&'a Index<'a, ColDef>>
     ensures { option_copied result ≡ columns_of (option_copied table.entry) }
 {
     match table {
@@ -34,14 +34,14 @@ pub(crate) fn columns_in<'a>(table: Option<&'a Table<'_>>) -> Option<&'a Index<'
 
 /// Reports a table that doesn't exist.
 pub(crate) fn check_table(
-    table: Option<&Table<'_>>,
+    table: Option<&TableNames<'_>>,
     token: u32,
-    faults: &mut List<Fault>,
+    faults: &mut List<TokenFault>,
 ) -> Result<(), NoMemory>
     ensures { OnOk result (faults.new ≡ faults.old ++ missing_table token (option_copied table.entry)) }
 {
     if table.is_none() {
-        faults.push(Fault::unknown(token))?;
+        faults.push(TokenFault::unknown(token))?;
     }
     Ok(())
 }
@@ -52,20 +52,20 @@ pub(crate) fn check_table(
 fn check_target(
     scope: &Scope<'_, Entry>,
     name: &Name,
-    faults: &mut List<Fault>,
+    faults: &mut List<TokenFault>,
 ) -> Result<ValueType, NoMemory>
     ensures kind { IfOk result (λ t. t ≡ target_type (entry_of scope.now name.now.text)) }
     ensures faults { OnOk result (faults.new ≡ faults.old ++ target_faults name.now.token (entry_of scope.now name.now.text)) }
 {
     match scope.find(&name.text) {
         None => {
-            faults.push(Fault::unknown(name.token))?;
+            faults.push(TokenFault::unknown(name.token))?;
             Ok(ValueType::Unknown)
         }
         Some(entry) => match &entry.binding {
             Binding::Variable(kind) => Ok(*kind),
             _ => {
-                faults.push(Fault::wrong(name.token))?;
+                faults.push(TokenFault::wrong(name.token))?;
                 Ok(ValueType::Unknown)
             }
         },
@@ -77,7 +77,7 @@ fn check_taking(
     scope: &Scope<'_, Entry>,
     value: ValueType,
     name: &Name,
-    faults: &mut List<Fault>,
+    faults: &mut List<TokenFault>,
 ) -> Result<(), NoMemory>
     ensures { OnOk result (faults.new ≡ faults.old ++ target scope.now value name.now) }
 {
@@ -91,7 +91,7 @@ fn check_targets(
     scope: &Scope<'_, Entry>,
     values: &[ValueType],
     to: &[Name],
-    faults: &mut List<Fault>,
+    faults: &mut List<TokenFault>,
 ) -> Result<(), NoMemory>
     ensures { OnOk result (faults.new ≡ faults.old ++ targets scope.now values.now to.now) }
 {
@@ -131,7 +131,7 @@ fn check_columns(
     alloc: Global,
     columns: Option<&Index<'_, ColDef>>,
     names: &[Name],
-    faults: &mut List<Fault>,
+    faults: &mut List<TokenFault>,
 ) -> Result<List<ValueType>, NoMemory>
     ensures kinds { IfOk result (λ all. all ≡ types_of (option_copied columns.entry) names.now) }
     ensures faults { OnOk result (faults.new ≡ faults.old ++ flat_map (column_faults (option_copied columns.entry)) names.now) }
@@ -148,7 +148,7 @@ fn check_cond(
     scope: &Scope<'_, Entry>,
     columns: Option<&Index<'_, ColDef>>,
     cond: &Cond,
-    faults: &mut List<Fault>,
+    faults: &mut List<TokenFault>,
 ) -> Result<(), NoMemory>
     ensures { OnOk result (faults.new ≡ faults.old ++ cond_faults scope.now (option_copied columns.entry) cond.now) }
 {
@@ -160,7 +160,7 @@ fn check_where(
     scope: &Scope<'_, Entry>,
     columns: Option<&Index<'_, ColDef>>,
     conds: &[Cond],
-    faults: &mut List<Fault>,
+    faults: &mut List<TokenFault>,
 ) -> Result<(), NoMemory>
     ensures { OnOk result (faults.new ≡ faults.old ++ where_faults scope.now (option_copied columns.entry) conds.now) }
 {
@@ -173,7 +173,7 @@ fn check_where(
 fn check_order(
     columns: Option<&Index<'_, ColDef>>,
     sorts: &[Sort],
-    faults: &mut List<Fault>,
+    faults: &mut List<TokenFault>,
 ) -> Result<(), NoMemory>
     ensures { OnOk result (faults.new ≡ faults.old ++ order_faults (option_copied columns.entry) sorts.now) }
 {
@@ -186,7 +186,7 @@ fn check_order(
 fn check_offset(
     scope: &Scope<'_, Entry>,
     offset: &Option<Expr>,
-    faults: &mut List<Fault>,
+    faults: &mut List<TokenFault>,
 ) -> Result<(), NoMemory>
     ensures { OnOk result (faults.new ≡ faults.old ++ offset_faults scope.now offset.now) }
 {
@@ -200,7 +200,7 @@ fn check_offset(
 fn check_sum(
     columns: Option<&Index<'_, ColDef>>,
     name: &Name,
-    faults: &mut List<Fault>,
+    faults: &mut List<TokenFault>,
 ) -> Result<(), NoMemory>
     ensures { OnOk result (faults.new ≡ faults.old ++ agg_faults (option_copied columns.entry) (Sum name.now)) }
 {
@@ -212,7 +212,7 @@ fn check_sum(
 fn check_agg(
     columns: Option<&Index<'_, ColDef>>,
     agg: &Agg,
-    faults: &mut List<Fault>,
+    faults: &mut List<TokenFault>,
 ) -> Result<ValueType, NoMemory>
     ensures kind { IfOk result (λ t. t ≡ agg_type (option_copied columns.entry) agg.now) }
     ensures faults { OnOk result (faults.new ≡ faults.old ++ agg_faults (option_copied columns.entry) agg.now) }
@@ -236,7 +236,7 @@ pub(crate) fn check_values(
     scope: &Scope<'_, Entry>,
     columns: &[ColDef],
     values: &[Expr],
-    faults: &mut List<Fault>,
+    faults: &mut List<TokenFault>,
 ) -> Result<(), NoMemory>
     ensures { OnOk result (faults.new ≡ faults.old ++ values_faults scope.now columns.now values.now) }
 {
@@ -251,7 +251,7 @@ pub(crate) fn check_values(
 }
 
 /// Whether a column is one of a table's key columns.
-fn is_in_key(table: Option<&Table<'_>>, name: &Name) -> bool
+fn is_in_key(table: Option<&TableNames<'_>>, name: &Name) -> bool
     ensures { result ≡ is_key (option_copied table.entry) name.now.text }
 {
     match table {
@@ -263,9 +263,9 @@ fn is_in_key(table: Option<&Table<'_>>, name: &Name) -> bool
 /// Checks an item of SET.
 fn check_item(
     scope: &Scope<'_, Entry>,
-    table: Option<&Table<'_>>,
+    table: Option<&TableNames<'_>>,
     item: &SetItem,
-    faults: &mut List<Fault>,
+    faults: &mut List<TokenFault>,
 ) -> Result<(), NoMemory>
     ensures { OnOk result (faults.new ≡ faults.old ++ item_faults scope.now (option_copied table.entry) item.now) }
 {
@@ -274,7 +274,7 @@ fn check_item(
     add_if(
         faults,
         is_in_key(table, &item.column),
-        Fault::key_set(item.column.token),
+        TokenFault::key_set(item.column.token),
     )?;
     check_operand(place, scope, columns, &item.right, faults)?;
     Ok(())
@@ -282,9 +282,9 @@ fn check_item(
 
 fn check_items(
     scope: &Scope<'_, Entry>,
-    table: Option<&Table<'_>>,
+    table: Option<&TableNames<'_>>,
     items: &[SetItem],
-    faults: &mut List<Fault>,
+    faults: &mut List<TokenFault>,
 ) -> Result<(), NoMemory>
     ensures { OnOk result (faults.new ≡ faults.old ++ flat_map (item_faults scope.now (option_copied table.entry)) items.now) }
 {
@@ -300,26 +300,30 @@ fn check_items(
 pub(crate) fn check_turn_name(
     scope: &Scope<'_, Entry>,
     name: &Name,
-    faults: &mut List<Fault>,
+    faults: &mut List<TokenFault>,
 ) -> Result<(), NoMemory>
     ensures { OnOk result (faults.new ≡ faults.old ++ turn_name scope.now name.now) }
 {
-    add_if(faults, scope.has(&name.text), Fault::double(name.token))
+    add_if(
+        faults,
+        scope.has(&name.text),
+        TokenFault::double(name.token),
+    )
 }
 
 /// Reports a loop's parameter that doesn't exist or isn't a ROWS parameter.
 pub(crate) fn check_rows(
     found: Option<&Entry>,
     token: u32,
-    faults: &mut List<Fault>,
+    faults: &mut List<TokenFault>,
 ) -> Result<(), NoMemory>
     ensures { OnOk result (faults.new ≡ faults.old ++ rows_faults token (option_copied found.entry)) }
 {
     match found {
-        None => faults.push(Fault::unknown(token)),
+        None => faults.push(TokenFault::unknown(token)),
         Some(entry) => match &entry.binding {
             Binding::Rows(_) => Ok(()),
-            _ => faults.push(Fault::wrong(token)),
+            _ => faults.push(TokenFault::wrong(token)),
         },
     }
 }
@@ -329,7 +333,7 @@ fn selected_fields(
     alloc: Global,
     columns: Option<&Index<'_, ColDef>>,
     names: &[Name],
-    faults: &mut List<Fault>,
+    faults: &mut List<TokenFault>,
 ) -> Result<List<Field>, NoMemory>
     ensures fields { IfOk result (λ all. all ≡ map (selected_field (option_copied columns.entry)) names.now) }
     ensures faults { OnOk result (faults.new ≡ faults.old ++ flat_map (column_faults (option_copied columns.entry)) names.now) }
@@ -372,7 +376,7 @@ pub(crate) fn check_assign(
     scope: &Scope<'_, Entry>,
     to: &Name,
     right: &Expr,
-    faults: &mut List<Fault>,
+    faults: &mut List<TokenFault>,
 ) -> Result<(), NoMemory>
     ensures { OnOk result (faults.new ≡ faults.old ++ assign to.now right.now scope.now) }
 {
@@ -383,11 +387,11 @@ pub(crate) fn check_assign(
 pub(crate) fn check_select(
     alloc: Global,
     scope: &Scope<'_, Entry>,
-    table: Option<&Table<'_>>,
+    table: Option<&TableNames<'_>>,
     selection: &Selection<'_>,
     to: &[Name],
     offset: &Option<Expr>,
-    faults: &mut List<Fault>,
+    faults: &mut List<TokenFault>,
 ) -> Result<(), NoMemory>
     ensures { OnOk result (faults.new ≡ faults.old ++ select (option_copied table.entry) selection.now.columns.now to.now selection.now.table.now selection.now.conds.now selection.now.sorts.now offset.now scope.now) }
 {
@@ -399,7 +403,7 @@ pub(crate) fn check_select(
     add_if(
         faults,
         selection.columns.len() != to.len(),
-        Fault::wrong(token),
+        TokenFault::wrong(token),
     )?;
     check_targets(scope, kinds.as_slice(), to, faults)?;
     check_where(scope, own, selection.conds, faults)?;
@@ -411,9 +415,9 @@ pub(crate) fn check_select(
 pub(crate) fn check_selected(
     alloc: Global,
     scope: &Scope<'_, Entry>,
-    table: Option<&Table<'_>>,
+    table: Option<&TableNames<'_>>,
     selection: &Selection<'_>,
-    faults: &mut List<Fault>,
+    faults: &mut List<TokenFault>,
 ) -> Result<List<Field>, NoMemory>
     ensures fields { IfOk result (λ all. all ≡ map (selected_field (columns_of (option_copied table.entry))) selection.now.columns.now) }
     ensures faults { OnOk result (let own = columns_of (option_copied table.entry) in faults.new ≡ faults.old ++ missing_table selection.now.table.now.token (option_copied table.entry) ++ flat_map (column_faults own) selection.now.columns.now ++ where_faults scope.now own selection.now.conds.now ++ order_faults own selection.now.sorts.now) }
@@ -428,12 +432,12 @@ pub(crate) fn check_selected(
 
 pub(crate) fn check_total(
     scope: &Scope<'_, Entry>,
-    table: Option<&Table<'_>>,
+    table: Option<&TableNames<'_>>,
     agg: &Agg,
     to: &Name,
     name: &Name,
     conds: &[Cond],
-    faults: &mut List<Fault>,
+    faults: &mut List<TokenFault>,
 ) -> Result<(), NoMemory>
     ensures { OnOk result (faults.new ≡ faults.old ++ total (option_copied table.entry) agg.now to.now name.now conds.now scope.now) }
 {
@@ -446,22 +450,26 @@ pub(crate) fn check_total(
 
 pub(crate) fn check_insert(
     scope: &Scope<'_, Entry>,
-    table: Option<&Table<'_>>,
+    table: Option<&TableNames<'_>>,
     name: &Name,
     values: &[Expr],
-    faults: &mut List<Fault>,
+    faults: &mut List<TokenFault>,
 ) -> Result<(), NoMemory>
     ensures { OnOk result (faults.new ≡ faults.old ++ insert (option_copied table.entry) name.now values.now scope.now) }
 {
     match table {
         None => {
-            faults.push(Fault::unknown(name.token))?;
+            faults.push(TokenFault::unknown(name.token))?;
             check_values(scope, &[], values, faults)
         }
         Some(table) => {
             let columns = table.definition().columns.as_slice();
             let token = token_of_values(values, name.token);
-            add_if(faults, values.len() != columns.len(), Fault::wrong(token))?;
+            add_if(
+                faults,
+                values.len() != columns.len(),
+                TokenFault::wrong(token),
+            )?;
             check_values(scope, columns, values, faults)
         }
     }
@@ -470,11 +478,11 @@ pub(crate) fn check_insert(
 pub(crate) fn check_update(
     alloc: Global,
     scope: &Scope<'_, Entry>,
-    table: Option<&Table<'_>>,
+    table: Option<&TableNames<'_>>,
     name: &Name,
     items: &[SetItem],
     conds: &[Cond],
-    faults: &mut List<Fault>,
+    faults: &mut List<TokenFault>,
 ) -> Result<(), NoMemory>
     ensures { OnOk result (faults.new ≡ faults.old ++ update (option_copied table.entry) name.now items.now conds.now scope.now) }
 {
@@ -486,10 +494,10 @@ pub(crate) fn check_update(
 
 pub(crate) fn check_delete(
     scope: &Scope<'_, Entry>,
-    table: Option<&Table<'_>>,
+    table: Option<&TableNames<'_>>,
     name: &Name,
     conds: &[Cond],
-    faults: &mut List<Fault>,
+    faults: &mut List<TokenFault>,
 ) -> Result<(), NoMemory>
     ensures { OnOk result (faults.new ≡ faults.old ++ delete (option_copied table.entry) name.now conds.now scope.now) }
 {

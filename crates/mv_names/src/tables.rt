@@ -13,12 +13,12 @@ use std::marker::Model;
 
 /// A table, with its columns by name. Contracts see the table.
 #[derive(Drop)]
-pub struct Table<'a> {
+pub struct TableNames<'a> {
     definition: &'a TableDef,
     columns: Index<'a, ColDef>,
 }
 
-impl<'a> Model for Table<'a> {
+impl<'a> Model for TableNames<'a> {
     ghost use Rattle.std.specs.Prelude.{◌≡◌};
     ghost use Rattle.mv_ast.specs.declared.tree.TableDef.{TableDef as Definition};
 
@@ -29,7 +29,7 @@ impl<'a> Model for Table<'a> {
     ghost invariant = { λ t. t.columns ≡ t.definition.now.columns };
 }
 
-impl<'a> Named for Table<'a> {
+impl<'a> Named for TableNames<'a> {
     ghost name_of = { λ t. t.name.text };
 
     fn name(&self) -> &Txt {
@@ -37,12 +37,12 @@ impl<'a> Named for Table<'a> {
     }
 }
 
-impl<'a> Table<'a> {
+impl<'a> TableNames<'a> {
     /// Returns a table with its columns by name. Costs a hash of each column's name. Fails if memory runs out.
-    fn of(alloc: Global, definition: &'a TableDef) -> Result<Table<'a>, NoMemory>
+    fn of(alloc: Global, definition: &'a TableDef) -> Result<TableNames<'a>, NoMemory>
         ensures { IfOk result (λ t. t ≡ definition.now) }
     {
-        Ok(Table {
+        Ok(TableNames {
             definition,
             columns: Index::of(alloc, definition.columns.as_slice())?,
         })
@@ -64,12 +64,12 @@ impl<'a> Table<'a> {
 }
 
 /// Returns tables with their columns by name. Costs a hash of each column's name. Fails if memory runs out.
-pub fn with_columns(alloc: Global, tables: &[TableDef]) -> Result<List<Table<'_>>, NoMemory>
+pub fn with_columns(alloc: Global, tables: &[TableDef]) -> Result<List<TableNames<'_>>, NoMemory>
     ensures { IfOk result (λ all. all ≡ tables.now) }
 {
     let mut all = List::new(alloc);
     for table in tables {
-        all.push(Table::of(alloc, table)?)?;
+        all.push(TableNames::of(alloc, table)?)?;
     }
     Ok(all)
 }

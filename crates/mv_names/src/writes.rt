@@ -3,14 +3,14 @@
 ghost use Rattle.std.specs.Prelude.{◌≡◌, ◌++◌, OnOk};
 ghost use Rattle.mv_names.specs.Writes.{writes_of, all_writes, writes};
 
-use crate::fault::Fault;
+use crate::fault::TokenFault;
 use mv_ast::tree::{ProcDef, Stmt};
 use mv_values::list::List;
 use mv_values::memory::NoMemory;
 
 /// Adds a fault for each change of a table in statements.
 #[cycle(statements)]
-fn check_all(body: &[Stmt], faults: &mut List<Fault>) -> Result<(), NoMemory>
+fn check_all(body: &[Stmt], faults: &mut List<TokenFault>) -> Result<(), NoMemory>
     ensures { OnOk result (faults.new ≡ faults.old ++ all_writes body.now) }
 {
     for statement in body {
@@ -21,7 +21,7 @@ fn check_all(body: &[Stmt], faults: &mut List<Fault>) -> Result<(), NoMemory>
 
 /// Adds a fault for each change of a table in a statement.
 #[cycle(statements)]
-fn check_one(statement: &Stmt, faults: &mut List<Fault>) -> Result<(), NoMemory>
+fn check_one(statement: &Stmt, faults: &mut List<TokenFault>) -> Result<(), NoMemory>
     ensures { OnOk result (faults.new ≡ faults.old ++ writes_of statement.now) }
 {
     match statement {
@@ -33,7 +33,7 @@ fn check_one(statement: &Stmt, faults: &mut List<Fault>) -> Result<(), NoMemory>
             check_all(no.as_slice(), faults)
         }
         Stmt::Insert { table, .. } | Stmt::Update { table, .. } | Stmt::Delete { table, .. } => {
-            faults.push(Fault::writing(table.token))
+            faults.push(TokenFault::writing(table.token))
         }
         Stmt::Assign { .. }
         | Stmt::Select { .. }
@@ -44,7 +44,10 @@ fn check_one(statement: &Stmt, faults: &mut List<Fault>) -> Result<(), NoMemory>
 }
 
 /// Adds a fault for each change of a table in a READ ONLY procedure.
-pub(crate) fn check_writes(procedure: &ProcDef, faults: &mut List<Fault>) -> Result<(), NoMemory>
+pub(crate) fn check_writes(
+    procedure: &ProcDef,
+    faults: &mut List<TokenFault>,
+) -> Result<(), NoMemory>
     ensures { OnOk result (faults.new ≡ faults.old ++ writes procedure.now) }
 {
     if procedure.read_only {

@@ -1,7 +1,7 @@
 //! The journal of a script in which calls overlap.
 
 ghost use Rattle.std.specs.Prelude.{◌≡◌, ◌<◌, IfOk};
-ghost use Rattle.mv_script.specs.Scripts.{IsScript, work_of};
+ghost use Rattle.mv_script.specs.Scripts.{IsCompiledScript, batch_of};
 ghost use Rattle.mv_lawful.specs.Lawful.{Lawful};
 
 use crate::events::{commit, move_up, try_event};
@@ -9,7 +9,7 @@ use crate::fault::Fault;
 use crate::mix::Mix;
 use mv_core::engine::Core;
 use mv_journal::event::Event;
-use mv_script::script::Script;
+use mv_script::script::CompiledScript;
 use mv_values::list::List;
 use mv_values::memory::NoMemory;
 use rand_core::{Rng, SeedableRng};
@@ -144,9 +144,13 @@ fn end_all(alloc: Global, core: &mut Core, calls: u32) -> Result<(), NoMemory>
 /// Returns a lawful journal of a script in which calls overlap. The same script and mix give the same journal. Each turn
 /// begins a call if fewer are live than the mix says, and otherwise makes an event of a live call that is drawn. Fails with
 /// `NoMemory` if memory runs out.
-pub(crate) fn overlapping(alloc: Global, script: Script, mix: Mix) -> Result<List<Event>, Fault>
-    requires { IsScript script }
-    ensures { IfOk result (Lawful (work_of script)) }
+pub(crate) fn overlapping(
+    alloc: Global,
+    script: CompiledScript,
+    mix: Mix,
+) -> Result<List<Event>, Fault>
+    requires { IsCompiledScript script }
+    ensures { IfOk result (Lawful (batch_of script)) }
 {
     let calls = script.calls.len() as u32;
     let mut core = Core::new(alloc, script)?;

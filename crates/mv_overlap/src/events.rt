@@ -5,7 +5,7 @@ ghost use Rattle.std.specs.Prelude.{◌≡◌};
 use mv_core::drive::DriveFault;
 use mv_core::engine::Core;
 use mv_journal::event::Event;
-use mv_lawful::fault::Fault;
+use mv_lawful::fault::EventFault;
 use mv_values::memory::NoMemory;
 use std::alloc::Global;
 
@@ -15,7 +15,7 @@ pub(crate) fn try_event(
     alloc: Global,
     core: &mut Core,
     event: Event,
-) -> Result<Option<Fault>, NoMemory>
+) -> Result<Option<EventFault>, NoMemory>
     ensures script { core.new.book.script ≡ core.old.book.script }
 {
     match core.event(alloc, &event, 0) {
@@ -61,8 +61,8 @@ pub(crate) fn commit(alloc: Global, core: &mut Core, call: u32) -> Result<bool, 
 {
     match try_event(alloc, core, Event::C(call))? {
         None => Ok(true),
-        Some(Fault::Conflict) => repair(alloc, core, call),
-        Some(Fault::Kind) => answer(alloc, core, call),
+        Some(EventFault::Conflict) => repair(alloc, core, call),
+        Some(EventFault::Kind) => answer(alloc, core, call),
         Some(_) => move_up(alloc, core, call),
     }
 }

@@ -9,13 +9,13 @@ use crate::commits::overlapping;
 use crate::fault::Fault;
 use crate::mix::Mix;
 use mv_accept::accept::{NotAccepted, accept};
-use mv_accept::refusal::Refusal;
+use mv_accept::refusal::ScriptRefusal;
 use mv_catalog::resolved::Program;
 use mv_edge::reading::MOST;
 use mv_journal::event::Event;
 use mv_journal::journal::write_journal;
 use mv_lex::lexer::lex;
-use mv_top::script::{Prepared, prepare};
+use mv_top::script::{CompiledProgram, compile_program};
 use mv_values::list::List;
 use mv_values::memory::NoMemory;
 use std::alloc::Global;
@@ -31,7 +31,7 @@ pub(crate) fn answer(alloc: Global, bytes: &[u8], mix: Mix) -> Result<(List<u8>,
 }
 
 /// Returns the line of a refusal.
-fn line_of(alloc: Global, refusal: &Refusal) -> Result<List<u8>, NoMemory> {
+fn line_of(alloc: Global, refusal: &ScriptRefusal) -> Result<List<u8>, NoMemory> {
     let mut line = List::new(alloc);
     line.append(refusal.line(alloc)?.as_slice())?;
     line.push(b'\n')?;
@@ -45,7 +45,7 @@ fn overlapped(alloc: Global, bytes: &[u8], program: Program, mix: Mix) -> Result
     ensures { IfOk result (IsOverlap bytes.now program mix.options) }
 {
     let front = front_of(alloc, bytes, &program)?;
-    let Prepared { script, .. } = prepare(alloc, program, mix.options)?;
+    let CompiledProgram { script, .. } = compile_program(alloc, program, mix.options)?;
     let events = overlapping(alloc, script, mix)?;
     Ok(with_block(alloc, front, &events)?)
 }

@@ -12,7 +12,7 @@ use Rattle.mv_ast.specs.Parts.{Is, Begins}
 use Rattle.mv_ast.specs.Grammar.{script, inner}
 use Rattle.mv_ast.specs.Lexemes.{lexemes, IsByGrammar, IsScript, PassesLimit, BeginScript, CannotStand}
 use Rattle.mv_ast.specs.Limits.{at_token, first_early, first_late}
-use Rattle.mv_ast.specs.declared.limit.Passed.{Passed}
+use Rattle.mv_ast.specs.declared.limit.PassedLimit.{PassedLimit}
 use Rattle.mv_ast.specs.declared.limit.Which.{Which}
 use Rattle.mv_parser.specs.declared.fault.ParseFault.{ParseFault}
 use Rattle.mv_parser.specs.declared.fault.ParseFault.TheVariants.{Syntax, Limit, NoMemory}
@@ -137,8 +137,8 @@ one_token bytes tokens left t h c =
 abbrev pub IsTold : List ℕ → List Token → Result Script ParseFault → Type 0
 IsTold bytes tokens r = ParsesTo bytes (lexemes bytes tokens) (reading bytes tokens) r
 
-same_passed : (o : Option Passed) (v w : Which) (k token : ℕ) → o ≡ Some (at_token v k) → o ≡ Some (at_token w token) → (v ≡ w) × (k ≡ token)
-same_passed o v w k token h i = let e : at_token v k ≡ at_token w token = cc in (ap (λ (p : Passed). p.which) e, ap (λ (p : Passed). p.token) e)
+same_passed : (o : Option PassedLimit) (v w : Which) (k token : ℕ) → o ≡ Some (at_token v k) → o ≡ Some (at_token w token) → (v ≡ w) × (k ≡ token)
+same_passed o v w k token h i = let e : at_token v k ≡ at_token w token = cc in (ap (λ (p : PassedLimit). p.which) e, ap (λ (p : PassedLimit). p.token) e)
 
 pub tells_found : (bytes : List ℕ) (tokens : List Token) (r : Result Script ParseFault) → IsTold bytes tokens r → IfOk r (λ s. IsScript bytes tokens s)
 tells_found bytes tokens (Ok s) t = record { grammar = read_is bytes tokens s t.1; early = t.0; late = t.2 }
@@ -187,7 +187,7 @@ tells_limit bytes tokens (Err (Limit w k)) t which token h =
       | inr p ↦ inr (p.0, p.1, read_is bytes tokens p.1 p.2, p.3)
     ]))
 
-told_limit : (bytes : List ℕ) (tokens : List Token) (o : Option Passed) (w which : Which) (k token : ℕ) → o ≡ Some (at_token w k) → o ≡ Some (at_token which token)
+told_limit : (bytes : List ℕ) (tokens : List Token) (o : Option PassedLimit) (w which : Which) (k token : ℕ) → o ≡ Some (at_token w k) → o ≡ Some (at_token which token)
     → ◌≡◌ {A = Result Script ParseFault} (Err (Limit w k)) (Err (Limit which token))
 told_limit bytes tokens o w which k token h i = let same = same_passed o w which k token h i in rw (same.0, same.1) refl
 

@@ -11,7 +11,7 @@ ghost use Rattle.mv_parser.specs.Whole.{parsed, Answers, ParsesTo};
 use crate::fault::{Failure, ParseFault};
 use crate::lexing::lexemes_of;
 use crate::reader::Reader;
-use mv_ast::limit::Passed;
+use mv_ast::limit::PassedLimit;
 use mv_ast::tree::Script;
 use mv_lex::token::Token;
 use mv_limits::early::first_early;
@@ -59,7 +59,7 @@ fn read_script(alloc: Global, tokens: &List<Token>, bytes: &[u8]) -> Result<Scri
 {
     let list = lexemes_of(alloc, tokens, bytes)?;
     let lexemes = list.as_slice();
-    if let Some(Passed { which, token }) = first_early(lexemes) {
+    if let Some(PassedLimit { which, token }) = first_early(lexemes) {
         return Err(ParseFault::Limit { which, token });
     }
     let depth = lexemes.len();
@@ -71,7 +71,7 @@ fn read_script(alloc: Global, tokens: &List<Token>, bytes: &[u8]) -> Result<Scri
     };
     match whole_script(&reader) {
         Ok(script) => match first_late(bytes, lexemes, &script) {
-            Some(Passed { which, token }) => Err(ParseFault::Limit { which, token }),
+            Some(PassedLimit { which, token }) => Err(ParseFault::Limit { which, token }),
             None => Ok(script),
         },
         Err(Failure::Memory) => Err(ParseFault::NoMemory),

@@ -5,7 +5,7 @@ use Rattle.std.specs.List.{filter}
 use Rattle.std.specs.Option.{option_map}
 use Rattle.std.proofs.lemmas.List.{map-append}
 use Rattle.std.proofs.lemmas.Option.{slice_get-map}
-use Rattle.mv_ast.specs.declared.limit.Passed.{Passed}
+use Rattle.mv_ast.specs.declared.limit.PassedLimit.{PassedLimit}
 use Rattle.mv_ast.specs.declared.limit.Which.{Which}
 use Rattle.mv_ast.specs.declared.limit.Which.TheVariants as limit
 use Rattle.mv_ast.specs.declared.tree.Agg.{Agg}
@@ -37,7 +37,7 @@ use Rattle.mv_print.proofs.Rules.{same2}
 use Rattle.mv_print.proofs.Sentences.{bare_assign, bare_select, bare_total, bare_for_select, bare_for_rows, bare_branch, bare_insert, bare_update, bare_delete, bare_print, bare_rollback}
 
 -- which limits are passed, wherever
-abbrev pub whiches : List Passed → List Which
+abbrev pub whiches : List PassedLimit → List Which
 whiches ps = map (λ p. p.which) ps
 
 one_same : {A B : Type 0} (w : Which) (f : A → ℕ) (g : B → ℕ) (c : A → B) (o : Option A)
@@ -48,10 +48,10 @@ one_same w f g c (Some x) = refl
 pub many_same : {A B : Type 0} (w : Which) (most : ℕ) (f : A → ℕ) (g : B → ℕ) (c : A → B) (xs : List A) → whiches (too_many w most f xs) ≡ whiches (too_many w most g (map c xs))
 many_same w most f g c xs = one_same w f g c (slice_get xs most) ∙ ap (λ o. whiches (option_to_list (option_map (λ x. at_token w (g x)) o))) (sym (slice_get-map c xs most))
 
-pub both_same : (ps qs rs ss : List Passed) → whiches ps ≡ whiches rs → whiches qs ≡ whiches ss → whiches (ps ++ qs) ≡ whiches (rs ++ ss)
-both_same ps qs rs ss h k = map-append (λ (p : Passed). p.which) ps qs ∙ (same2 (λ x y. x ++ y) h k ∙ sym (map-append (λ (p : Passed). p.which) rs ss))
+pub both_same : (ps qs rs ss : List PassedLimit) → whiches ps ≡ whiches rs → whiches qs ≡ whiches ss → whiches (ps ++ qs) ≡ whiches (rs ++ ss)
+both_same ps qs rs ss h k = map-append (λ (p : PassedLimit). p.which) ps qs ∙ (same2 (λ x y. x ++ y) h k ∙ sym (map-append (λ (p : PassedLimit). p.which) rs ss))
 
-pub together_same : {A : Type 0} (f : A → List Passed) (c : A → A) → ((x : A) → whiches (f x) ≡ whiches (f (c x))) → (xs : List A) → whiches (together (map f xs)) ≡ whiches (together (map f (map c xs)))
+pub together_same : {A : Type 0} (f : A → List PassedLimit) (c : A → A) → ((x : A) → whiches (f x) ≡ whiches (f (c x))) → (xs : List A) → whiches (together (map f xs)) ≡ whiches (together (map f (map c xs)))
 together_same f c h [] = refl
 together_same f c h (x ∷ xs) = both_same (f x) (together (map f xs)) (f (c x)) (together (map f (map c xs))) (h x) (together_same f c h xs)
 
@@ -76,73 +76,73 @@ body_tokens : (ks : List Known) → length (together (map statement_tokens (bodi
 body_tokens [] = refl
 body_tokens (k ∷ ks) = lengths (statement_tokens k.0) (together (map statement_tokens (bodies ks))) (statement_tokens (placeless_statement k.0)) (together (map statement_tokens (map placeless_statement (bodies ks)))) k.1.1 (body_tokens ks)
 
-counted_by : (s : Stmt) (b : Stmt) (ps qs : List Passed) (ts us : List ℕ) → placeless_statement s ≡ b → statement_passes s ≡ ps → statement_passes b ≡ qs → statement_tokens s ≡ ts → statement_tokens b ≡ us
+counted_by : (s : Stmt) (b : Stmt) (ps qs : List PassedLimit) (ts us : List ℕ) → placeless_statement s ≡ b → statement_passes s ≡ ps → statement_passes b ≡ qs → statement_tokens s ≡ ts → statement_tokens b ≡ us
     → whiches ps ≡ whiches qs → length ts ≡ length us → Counted s
 counted_by s b ps qs ts us e p q t u h k =
     (ap whiches p ∙ (h ∙ sym (ap whiches (ap statement_passes e ∙ q))), ap length t ∙ (k ∙ sym (ap length (ap statement_tokens e ∙ u))))
 
 passes_assign : (t : ℕ) (to : Name) (right : Expr) → statement_passes (tree.Assign t to right) ≡ []
-passes_assign t to right = ap statement_passes (sym (tree.rolls-Assign t to right)) ∙ fold-roll-Stmt (List Passed) statement_step (inside.Assign t to right)
+passes_assign t to right = ap statement_passes (sym (tree.rolls-Assign t to right)) ∙ fold-roll-Stmt (List PassedLimit) statement_step (inside.Assign t to right)
 
 tokens_assign : (t : ℕ) (to : Name) (right : Expr) → statement_tokens (tree.Assign t to right) ≡ t ∷ []
 tokens_assign t to right = ap statement_tokens (sym (tree.rolls-Assign t to right)) ∙ fold-roll-Stmt (List ℕ) tokens_step (inside.Assign t to right)
 
 passes_select : (t : ℕ) (columns : List Name) (to : List Name) (table : Name) (conds : List Cond) (sorts : List Sort) (offset : Option Expr) → statement_passes (tree.Select t columns to table conds sorts offset) ≡ too_many limit.Columns columns_most name_token columns ++ (too_many limit.Columns columns_most name_token to ++ too_many limit.Columns columns_most sort_token sorts)
-passes_select t columns to table conds sorts offset = ap statement_passes (sym (tree.rolls-Select t columns to table conds sorts offset)) ∙ fold-roll-Stmt (List Passed) statement_step (inside.Select t columns to table conds sorts offset)
+passes_select t columns to table conds sorts offset = ap statement_passes (sym (tree.rolls-Select t columns to table conds sorts offset)) ∙ fold-roll-Stmt (List PassedLimit) statement_step (inside.Select t columns to table conds sorts offset)
 
 tokens_select : (t : ℕ) (columns : List Name) (to : List Name) (table : Name) (conds : List Cond) (sorts : List Sort) (offset : Option Expr) → statement_tokens (tree.Select t columns to table conds sorts offset) ≡ t ∷ []
 tokens_select t columns to table conds sorts offset = ap statement_tokens (sym (tree.rolls-Select t columns to table conds sorts offset)) ∙ fold-roll-Stmt (List ℕ) tokens_step (inside.Select t columns to table conds sorts offset)
 
 passes_total : (t : ℕ) (f : Agg) (to : Name) (table : Name) (conds : List Cond) → statement_passes (tree.Total t f to table conds) ≡ []
-passes_total t f to table conds = ap statement_passes (sym (tree.rolls-Total t f to table conds)) ∙ fold-roll-Stmt (List Passed) statement_step (inside.Total t f to table conds)
+passes_total t f to table conds = ap statement_passes (sym (tree.rolls-Total t f to table conds)) ∙ fold-roll-Stmt (List PassedLimit) statement_step (inside.Total t f to table conds)
 
 tokens_total : (t : ℕ) (f : Agg) (to : Name) (table : Name) (conds : List Cond) → statement_tokens (tree.Total t f to table conds) ≡ t ∷ []
 tokens_total t f to table conds = ap statement_tokens (sym (tree.rolls-Total t f to table conds)) ∙ fold-roll-Stmt (List ℕ) tokens_step (inside.Total t f to table conds)
 
 passes_for_select : (t : ℕ) (row : Name) (distinct : Bool) (columns : List Name) (table : Name) (conds : List Cond) (sorts : List Sort) (body : List Stmt) → statement_passes (tree.ForSelect t row distinct columns table conds sorts body) ≡ too_many limit.Columns columns_most name_token columns ++ (too_many limit.Columns columns_most sort_token sorts ++ together (map statement_passes body))
-passes_for_select t row distinct columns table conds sorts body = ap statement_passes (sym (tree.rolls-ForSelect t row distinct columns table conds sorts body)) ∙ fold-roll-Stmt (List Passed) statement_step (inside.ForSelect t row distinct columns table conds sorts body)
+passes_for_select t row distinct columns table conds sorts body = ap statement_passes (sym (tree.rolls-ForSelect t row distinct columns table conds sorts body)) ∙ fold-roll-Stmt (List PassedLimit) statement_step (inside.ForSelect t row distinct columns table conds sorts body)
 
 tokens_for_select : (t : ℕ) (row : Name) (distinct : Bool) (columns : List Name) (table : Name) (conds : List Cond) (sorts : List Sort) (body : List Stmt) → statement_tokens (tree.ForSelect t row distinct columns table conds sorts body) ≡ t ∷ together (map statement_tokens body)
 tokens_for_select t row distinct columns table conds sorts body = ap statement_tokens (sym (tree.rolls-ForSelect t row distinct columns table conds sorts body)) ∙ fold-roll-Stmt (List ℕ) tokens_step (inside.ForSelect t row distinct columns table conds sorts body)
 
 passes_for_rows : (t : ℕ) (row : Name) (rows : Name) (body : List Stmt) → statement_passes (tree.ForRows t row rows body) ≡ together (map statement_passes body)
-passes_for_rows t row rows body = ap statement_passes (sym (tree.rolls-ForRows t row rows body)) ∙ fold-roll-Stmt (List Passed) statement_step (inside.ForRows t row rows body)
+passes_for_rows t row rows body = ap statement_passes (sym (tree.rolls-ForRows t row rows body)) ∙ fold-roll-Stmt (List PassedLimit) statement_step (inside.ForRows t row rows body)
 
 tokens_for_rows : (t : ℕ) (row : Name) (rows : Name) (body : List Stmt) → statement_tokens (tree.ForRows t row rows body) ≡ t ∷ together (map statement_tokens body)
 tokens_for_rows t row rows body = ap statement_tokens (sym (tree.rolls-ForRows t row rows body)) ∙ fold-roll-Stmt (List ℕ) tokens_step (inside.ForRows t row rows body)
 
 passes_branch : (t : ℕ) (test : Expr) (ys : List Stmt) (ns : List Stmt) → statement_passes (tree.Branch t test ys ns) ≡ together (map statement_passes ys) ++ together (map statement_passes ns)
-passes_branch t test ys ns = ap statement_passes (sym (tree.rolls-Branch t test ys ns)) ∙ fold-roll-Stmt (List Passed) statement_step (inside.Branch t test ys ns)
+passes_branch t test ys ns = ap statement_passes (sym (tree.rolls-Branch t test ys ns)) ∙ fold-roll-Stmt (List PassedLimit) statement_step (inside.Branch t test ys ns)
 
 tokens_branch : (t : ℕ) (test : Expr) (ys : List Stmt) (ns : List Stmt) → statement_tokens (tree.Branch t test ys ns) ≡ t ∷ (together (map statement_tokens ys) ++ together (map statement_tokens ns))
 tokens_branch t test ys ns = ap statement_tokens (sym (tree.rolls-Branch t test ys ns)) ∙ fold-roll-Stmt (List ℕ) tokens_step (inside.Branch t test ys ns)
 
 passes_insert : (t : ℕ) (table : Name) (values : List Expr) → statement_passes (tree.Insert t table values) ≡ too_many limit.Columns columns_most expr_token values
-passes_insert t table values = ap statement_passes (sym (tree.rolls-Insert t table values)) ∙ fold-roll-Stmt (List Passed) statement_step (inside.Insert t table values)
+passes_insert t table values = ap statement_passes (sym (tree.rolls-Insert t table values)) ∙ fold-roll-Stmt (List PassedLimit) statement_step (inside.Insert t table values)
 
 tokens_insert : (t : ℕ) (table : Name) (values : List Expr) → statement_tokens (tree.Insert t table values) ≡ t ∷ []
 tokens_insert t table values = ap statement_tokens (sym (tree.rolls-Insert t table values)) ∙ fold-roll-Stmt (List ℕ) tokens_step (inside.Insert t table values)
 
 passes_update : (t : ℕ) (table : Name) (items : List SetItem) (conds : List Cond) → statement_passes (tree.Update t table items conds) ≡ too_many limit.Columns columns_most set_token items
-passes_update t table items conds = ap statement_passes (sym (tree.rolls-Update t table items conds)) ∙ fold-roll-Stmt (List Passed) statement_step (inside.Update t table items conds)
+passes_update t table items conds = ap statement_passes (sym (tree.rolls-Update t table items conds)) ∙ fold-roll-Stmt (List PassedLimit) statement_step (inside.Update t table items conds)
 
 tokens_update : (t : ℕ) (table : Name) (items : List SetItem) (conds : List Cond) → statement_tokens (tree.Update t table items conds) ≡ t ∷ []
 tokens_update t table items conds = ap statement_tokens (sym (tree.rolls-Update t table items conds)) ∙ fold-roll-Stmt (List ℕ) tokens_step (inside.Update t table items conds)
 
 passes_delete : (t : ℕ) (table : Name) (conds : List Cond) → statement_passes (tree.Delete t table conds) ≡ []
-passes_delete t table conds = ap statement_passes (sym (tree.rolls-Delete t table conds)) ∙ fold-roll-Stmt (List Passed) statement_step (inside.Delete t table conds)
+passes_delete t table conds = ap statement_passes (sym (tree.rolls-Delete t table conds)) ∙ fold-roll-Stmt (List PassedLimit) statement_step (inside.Delete t table conds)
 
 tokens_delete : (t : ℕ) (table : Name) (conds : List Cond) → statement_tokens (tree.Delete t table conds) ≡ t ∷ []
 tokens_delete t table conds = ap statement_tokens (sym (tree.rolls-Delete t table conds)) ∙ fold-roll-Stmt (List ℕ) tokens_step (inside.Delete t table conds)
 
 passes_print : (t : ℕ) (values : List Expr) → statement_passes (tree.Print t values) ≡ too_many limit.Columns columns_most expr_token values
-passes_print t values = ap statement_passes (sym (tree.rolls-Print t values)) ∙ fold-roll-Stmt (List Passed) statement_step (inside.Print t values)
+passes_print t values = ap statement_passes (sym (tree.rolls-Print t values)) ∙ fold-roll-Stmt (List PassedLimit) statement_step (inside.Print t values)
 
 tokens_print : (t : ℕ) (values : List Expr) → statement_tokens (tree.Print t values) ≡ t ∷ []
 tokens_print t values = ap statement_tokens (sym (tree.rolls-Print t values)) ∙ fold-roll-Stmt (List ℕ) tokens_step (inside.Print t values)
 
 passes_rollback : (t : ℕ) (reason : List ℕ) → statement_passes (tree.Rollback t reason) ≡ []
-passes_rollback t reason = ap statement_passes (sym (tree.rolls-Rollback t reason)) ∙ fold-roll-Stmt (List Passed) statement_step (inside.Rollback t reason)
+passes_rollback t reason = ap statement_passes (sym (tree.rolls-Rollback t reason)) ∙ fold-roll-Stmt (List PassedLimit) statement_step (inside.Rollback t reason)
 
 tokens_rollback : (t : ℕ) (reason : List ℕ) → statement_tokens (tree.Rollback t reason) ≡ t ∷ []
 tokens_rollback t reason = ap statement_tokens (sym (tree.rolls-Rollback t reason)) ∙ fold-roll-Stmt (List ℕ) tokens_step (inside.Rollback t reason)
@@ -251,7 +251,7 @@ bare_of : (bytes : List ℕ) (is : List Item) → map (λ (p : ItemKind × List 
 bare_of bytes [] = refl
 bare_of bytes (i ∷ is) = ap (λ r. bare_item i ∷ r) (bare_of bytes is)
 
-none_passed : (ps : List Passed) → whiches ps ≡ [] → ps ≡ []
+none_passed : (ps : List PassedLimit) → whiches ps ≡ [] → ps ≡ []
 none_passed [] h = refl
 none_passed (p ∷ ps) h = cc
 

@@ -5,7 +5,7 @@ use Rattle.mv_lex.specs.declared.token.Token.{Token}
 use Rattle.mv_ast.specs.declared.tree.Script.{Script}
 use Rattle.mv_ast.specs.Lexemes.{IsScript, lexemes}
 use Rattle.mv_ast.specs.declared.lexeme.Lexeme.{Lexeme}
-use Rattle.mv_ast.specs.declared.limit.Passed.{Passed}
+use Rattle.mv_ast.specs.declared.limit.PassedLimit.{PassedLimit}
 use Rattle.mv_ast.specs.Limits.{first_early, soonest, token_passes, script_passes}
 use Rattle.mv_ast.proofs.Limited.{nothing_left, none_soonest}
 use Rattle.mv_print.specs.Printing.{Piece, printed, script_pieces}
@@ -23,7 +23,7 @@ early_back bytes text ts ls ps l s h =
     first_of [] ls (subst (Keeps (front_at [])) (sym (kinds_spelled text ls ps s)) k.0)
 
 -- no limit is told where none is passed
-none_told : (ps qs : List Passed) → ps ≡ [] → qs ≡ [] → soonest None (ps ++ qs) ≡ None
+none_told : (ps qs : List PassedLimit) → ps ≡ [] → qs ≡ [] → soonest None (ps ++ qs) ≡ None
 unfolding soonest
 none_told ps qs h k = rw (h, k) refl
 

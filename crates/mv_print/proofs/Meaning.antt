@@ -16,7 +16,7 @@ use Rattle.mv_ast.specs.Texts.{spelling, number_from, lower, unquoted, first_lin
 use Rattle.mv_ast.specs.Lexemes.{kind_of, keywords, symbols, listed}
 use Rattle.mv_ast.specs.Grammar.{closed_of, open_of}
 use Rattle.mv_print.specs.Same.{span_bytes}
-use Rattle.mv_ast.specs.declared.limit.Passed.{Passed}
+use Rattle.mv_ast.specs.declared.limit.PassedLimit.{PassedLimit}
 use Rattle.mv_ast.specs.declared.limit.Which.TheVariants as limit
 use Rattle.mv_ast.specs.Limits.{at_token, when, own_passes, is_size_of, is_size}
 use Rattle.std.specs.Char.{to_ascii_lowercase}
@@ -105,7 +105,7 @@ Good bytes = record {
 abbrev GoodOne : List ℕ → Lexeme → Type 0
 GoodOne bytes l = Meant bytes l × (own_passes l.kind (spelling bytes l) l.number ≡ [])
 
-pub never_when : (b : Bool) (p : Passed) → when b p ≡ [] → b ≡ false
+pub never_when : (b : Bool) (p : PassedLimit) → when b p ≡ [] → b ≡ false
 never_when true p h = cc
 never_when false p h = refl
 

@@ -18,7 +18,7 @@ use Rattle.mv_lex.proofs.Parted.{parted_longest}
 use Rattle.mv_ast.specs.declared.lexeme.Terminal.{Terminal}
 use Rattle.mv_ast.specs.declared.lexeme.Terminal.TheVariants as word
 use Rattle.mv_ast.specs.declared.tree.Name.{Name}
-use Rattle.mv_ast.specs.declared.limit.Passed.{Passed}
+use Rattle.mv_ast.specs.declared.limit.PassedLimit.{PassedLimit}
 use Rattle.mv_ast.specs.declared.limit.Which.TheVariants as limit
 use Rattle.mv_ast.specs.Limits.{at_token, when, own_passes}
 use Rattle.mv_ast.specs.Texts.{lower, number, number_from, greatest, undoubled, unquoted}
@@ -138,7 +138,7 @@ pub record IsVariable (t : List ℕ) : Type 0 where
 abbrev pub IsContent : List ℕ → Type 0
 IsContent t = (list_all is_printable t ≡ true) × (nat_lt 4000 (length t) ≡ false)
 
-pub none_when : (b : Bool) (p : Passed) → b ≡ false → when b p ≡ []
+pub none_when : (b : Bool) (p : PassedLimit) → b ≡ false → when b p ≡ []
 none_when b p h = rw h refl
 
 pub sound_name : (n : Name) → IsName n.text → Sound (name_piece n)

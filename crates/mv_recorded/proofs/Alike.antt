@@ -17,11 +17,11 @@ use Rattle.mv_catalog.specs.declared.resolved.RSort.{RSort}
 use Rattle.mv_catalog.specs.declared.resolved.RSetItem.{RSetItem}
 use Rattle.mv_catalog.specs.declared.resolved.RAgg.{RAgg}
 use Rattle.mv_catalog.specs.declared.resolved.RAgg.TheVariants.{CountAll, CountDistinct, Sum, Min, Max}
-use Rattle.mv_alone.specs.declared.state.Env.{Env}
-use Rattle.mv_alone.specs.Outcome.{then_do}
-use Rattle.mv_alone.specs.Value.{value_of}
-use Rattle.mv_alone.specs.Rows.{is_some_row, then_by, sort_order, put_in, ordered, item_at, distinct, projected, column, aggregate, total, sum_of, least, greatest, fit}
-use Rattle.mv_alone.specs.Changes.{with_column, set_row}
+use Rattle.mv_eval.specs.declared.state.Env.{Env}
+use Rattle.mv_eval.specs.Results.{then_do}
+use Rattle.mv_eval.specs.Value.{value_of}
+use Rattle.mv_eval.specs.Rows.{is_some_row, then_by, sort_order, put_in, ordered, item_at, distinct, projected, column, aggregate, total, sum_of, least, greatest, fit}
+use Rattle.mv_eval.specs.Changes.{with_column, set_row}
 use Rattle.mv_recorded.specs.Asking.{with_sorts, column_in, columns_in}
 use Rattle.mv_recorded.specs.Doing.{write, set_patch}
 use Rattle.mv_recorded.specs.Reading.{each_once, variables}

@@ -5,7 +5,7 @@ use Rattle.std.specs.List.{flat_map}
 use Rattle.std.specs.Ordering.{is_eq, ordering_then}
 use Rattle.std.specs.declared.cmp.Ordering.{Ordering}
 use Rattle.std.specs.declared.cmp.Ordering.TheVariants.{Less, Equal, Greater}
-use Rattle.mv_alone.proofs.Standing.{New, goes_to}
+use Rattle.mv_eval.proofs.Standing.{New, goes_to}
 use Rattle.mv_values.specs.Preds.{meets}
 use Rattle.mv_values.specs.declared.op.Op.TheVariants.{Eq}
 use Rattle.mv_values.specs.declared.pred.Test.{Test}
@@ -18,9 +18,9 @@ use Rattle.mv_values.specs.Columns.{column_of, columns_of}
 use Rattle.mv_values.specs.Order.{value_order, key_order}
 use Rattle.mv_values.proofs.KeyOrder.{turned}
 use Rattle.mv_catalog.specs.declared.resolved.RSetItem.{RSetItem}
-use Rattle.mv_alone.specs.Outcome.{then_do}
-use Rattle.mv_alone.specs.Rows.{matching, test_on}
-use Rattle.mv_alone.specs.Changes.{updated, put_row, put_row_by, keyed}
+use Rattle.mv_eval.specs.Results.{then_do}
+use Rattle.mv_eval.specs.Rows.{matching, test_on}
+use Rattle.mv_eval.specs.Changes.{updated, put_row, put_row_by, keyed}
 use Rattle.mv_record.proofs.Rising.{Above, Rises, lower}
 use Rattle.mv_recorded.specs.Asking.{on, same_key}
 use Rattle.mv_recorded.specs.Doing.{write, set_patch}

@@ -13,10 +13,10 @@ use Rattle.mv_catalog.specs.declared.resolved.ParamInfo.TheVariants as param
 use Rattle.mv_catalog.specs.declared.resolved.ProcInfo.{ProcInfo}
 use Rattle.mv_catalog.specs.Types.{int, Var, fixed, declared, kind_of_value, kind_of_column}
 use Rattle.mv_catalog.specs.Text.{IsRow, param_var, own_vars, vars_of, Suits}
-use Rattle.mv_alone.specs.declared.state.Content.{Content}
-use Rattle.mv_alone.specs.declared.state.Content.TheVariants.{Scalar}
-use Rattle.mv_alone.specs.Env.{unset}
-use Rattle.mv_alone.specs.TableAfter.{argument_held, entered}
+use Rattle.mv_eval.specs.declared.state.Content.{Content}
+use Rattle.mv_eval.specs.declared.state.Content.TheVariants.{Scalar}
+use Rattle.mv_eval.specs.Env.{unset}
+use Rattle.mv_eval.specs.TableAfter.{argument_held, entered}
 use Rattle.mv_recorded.specs.Typed.{OfKinds, Holds, IsEnvOf}
 use Rattle.mv_recorded.proofs.RowsTyped.{kind_is, row_kinds}
 

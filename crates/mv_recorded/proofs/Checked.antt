@@ -26,13 +26,13 @@ use Rattle.mv_values.specs.References.{Reference, parent_of, references_to, has_
 use Rattle.mv_values.specs.Tables.{rows_at, columns_at, key_columns, KeysStand, Tables}
 use Rattle.mv_values.proofs.KeyOrder.{turned, same_key}
 use Rattle.mv_catalog.specs.declared.resolved.RSetItem.{RSetItem}
-use Rattle.mv_alone.specs.declared.state.Env.{Env}
-use Rattle.mv_alone.specs.Outcome.{then_do}
-use Rattle.mv_alone.specs.Value.{value_of}
-use Rattle.mv_alone.specs.Rows.{matching, is_some_row, test_on, fit}
-use Rattle.mv_alone.specs.Changes.{with_column, set_row_by, without}
-use Rattle.mv_alone.specs.References.{is_own_parent, has_parents, with_parent, fit_in, holds_key, left_in, has_children}
-use Rattle.mv_alone.proofs.Holding.{child_meets, filter_same}
+use Rattle.mv_eval.specs.declared.state.Env.{Env}
+use Rattle.mv_eval.specs.Results.{then_do}
+use Rattle.mv_eval.specs.Value.{value_of}
+use Rattle.mv_eval.specs.Rows.{matching, is_some_row, test_on, fit}
+use Rattle.mv_eval.specs.Changes.{with_column, set_row_by, without}
+use Rattle.mv_eval.specs.References.{is_own_parent, has_parents, with_parent, fit_in, holds_key, left_in, has_children}
+use Rattle.mv_eval.proofs.Holding.{child_meets, filter_same}
 use Rattle.mv_record.proofs.Rising.{Above, Rises}
 use Rattle.mv_recorded.specs.Asking.{Check, faults, needs, forbids, is_among, fault_of, first_fault, asked_in, if_none, preds_up_to, parent_pred, child_pred, value_checks, item_checks, update_checks, delete_checks, columns_in}
 use Rattle.mv_recorded.specs.Doing.{write, set_patch}

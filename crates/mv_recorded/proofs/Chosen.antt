@@ -1,7 +1,7 @@
 -- What statements do that look at a table and change none.
 use Rattle.std.proofs.Common.{◌≡◌, ℕ, ℤ, Bool, true, false, ◌||◌, List, [], ◌∷◌, ◌++◌, Option, Some, None, Result, Ok, Err, refl, sym, ap, ◌∙◌}
 use Rattle.std.specs.Option.{is_some}
-use Rattle.mv_alone.proofs.Standing.{goes_to}
+use Rattle.mv_eval.proofs.Standing.{goes_to}
 use Rattle.mv_values.specs.declared.pred.Test.{Test}
 use Rattle.mv_values.specs.declared.value.Value.{Value}
 use Rattle.mv_values.specs.declared.pred.Pred.{Pred}
@@ -17,12 +17,12 @@ use Rattle.mv_catalog.specs.declared.resolved.RSort.{RSort}
 use Rattle.mv_catalog.specs.declared.resolved.RAgg.{RAgg}
 use Rattle.mv_catalog.specs.declared.resolved.RStmt.{RStmt}
 use Rattle.mv_catalog.specs.declared.resolved.RStmt.TheOpen.{Select, Total, ForSelect}
-use Rattle.mv_alone.specs.declared.state.Env.{Env}
-use Rattle.mv_alone.specs.Outcome.{then_do}
-use Rattle.mv_alone.specs.Env.{scalar_at, with_value, with_values, with_found}
-use Rattle.mv_alone.specs.Value.{is_so}
-use Rattle.mv_alone.specs.Rows.{matching, ordered, item_at, aggregate, is_some_row, tests_of}
-use Rattle.mv_alone.specs.Alone.{offset_of, with_selected, totalled, fixed}
+use Rattle.mv_eval.specs.declared.state.Env.{Env}
+use Rattle.mv_eval.specs.Results.{then_do}
+use Rattle.mv_eval.specs.Env.{scalar_at, with_value, with_values, with_found}
+use Rattle.mv_eval.specs.Value.{is_so}
+use Rattle.mv_eval.specs.Rows.{matching, ordered, item_at, aggregate, is_some_row, tests_of}
+use Rattle.mv_eval.specs.Alone.{offset_of, with_selected, totalled, fixed}
 use Rattle.mv_record.specs.declared.record.Slot.{Slot}
 use Rattle.mv_recorded.specs.Asking.{pred_of, with_sorts, column_in}
 use Rattle.mv_recorded.specs.Doing.{when, gives_always, effect_of}

@@ -19,15 +19,15 @@ use Rattle.mv_catalog.specs.declared.resolved.RSort.{RSort}
 use Rattle.mv_catalog.specs.declared.resolved.RSetItem.{RSetItem}
 use Rattle.mv_catalog.specs.declared.resolved.RStmt.{RStmt}
 use Rattle.mv_catalog.specs.declared.resolved.RStmt.TheOpen.{RStmt-F, Assign, Select, Total, ForSelect, ForRows, Branch, Insert, Update, Delete, Print, Rollback}
-use Rattle.mv_alone.specs.declared.state.Env.{Env}
-use Rattle.mv_alone.specs.declared.state.Content.TheVariants.{Scalar}
-use Rattle.mv_alone.specs.declared.state.State.{State}
-use Rattle.mv_alone.specs.Outcome.{then_do}
-use Rattle.mv_alone.specs.Env.{held_at, scalar_in, scalar_at, turns_in, truth, with_held, with_value, with_values, with_found, turns_at}
-use Rattle.mv_alone.specs.Value.{value_of, values_of}
-use Rattle.mv_alone.specs.Rows.{ordered, item_at, matching, aggregate, is_some_row, distinct, tests_of}
-use Rattle.mv_alone.specs.Changes.{new_row}
-use Rattle.mv_alone.specs.Alone.{fixed, is_turn}
+use Rattle.mv_eval.specs.declared.state.Env.{Env}
+use Rattle.mv_eval.specs.declared.state.Content.TheVariants.{Scalar}
+use Rattle.mv_eval.specs.declared.state.State.{State}
+use Rattle.mv_eval.specs.Results.{then_do}
+use Rattle.mv_eval.specs.Env.{held_at, scalar_in, scalar_at, turns_in, truth, with_held, with_value, with_values, with_found, turns_at}
+use Rattle.mv_eval.specs.Value.{value_of, values_of}
+use Rattle.mv_eval.specs.Rows.{ordered, item_at, matching, aggregate, is_some_row, distinct, tests_of}
+use Rattle.mv_eval.specs.Changes.{new_row}
+use Rattle.mv_eval.specs.Alone.{fixed, is_turn}
 use Rattle.mv_recorded.specs.Asking.{pred_of, with_sorts, column_in, columns_in, preds_of}
 use Rattle.mv_recorded.specs.Effect.{HasColumns}
 use Rattle.mv_recorded.specs.Reading.{each_once, variables, rights}
@@ -38,9 +38,9 @@ use Rattle.mv_recorded.proofs.Chosen.{asked_of, both_asked, select_goes, select_
 use Rattle.mv_recorded.proofs.Checked.{checks_same, delete_checks_same, update_checks_same}
 use Rattle.mv_recorded.proofs.Told.{delete_told, update_told, insert_told}
 use Rattle.mv_record.proofs.Rising.{rises_from}
-use Rattle.mv_alone.specs.Alone.{matching_in}
-use Rattle.mv_alone.specs.Rows.{fit}
-use Rattle.mv_alone.specs.Changes.{set_row_by}
+use Rattle.mv_eval.specs.Alone.{matching_in}
+use Rattle.mv_eval.specs.Rows.{fit}
+use Rattle.mv_eval.specs.Changes.{set_row_by}
 use Rattle.mv_recorded.specs.Asking.{Check, first_fault, preds_up_to, insert_checks, update_checks, delete_checks, on}
 use Rattle.mv_recorded.proofs.Matching.{matching_all}
 use Rattle.mv_recorded.specs.Own.{Bare, Each, Within, SetSuits}

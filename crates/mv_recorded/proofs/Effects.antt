@@ -7,9 +7,9 @@ use Rattle.std.specs.Result.{result_ok, result_err}
 use Rattle.mv_record.proofs.Rising.{rises_from}
 use Rattle.mv_values.specs.References.{references, references_to}
 use Rattle.mv_values.specs.declared.calls.End.TheVariants.{MissingParent, HasChildren}
-use Rattle.mv_alone.specs.References.{has_parents, has_children, fit_in}
-use Rattle.mv_alone.proofs.Standing.{goes_to, whenever, unless}
-use Rattle.mv_alone.specs.Line.{line_of}
+use Rattle.mv_eval.specs.References.{has_parents, has_children, fit_in}
+use Rattle.mv_eval.proofs.Standing.{goes_to, whenever, unless}
+use Rattle.mv_eval.specs.Line.{line_of}
 use Rattle.mv_values.specs.declared.value.Value.{Value}
 use Rattle.mv_values.specs.declared.rows.Keyed.{Keyed}
 use Rattle.mv_values.specs.declared.schema.TableInfo.{TableInfo}
@@ -24,14 +24,14 @@ use Rattle.mv_catalog.specs.Statements.{Well, stmt_step}
 use Rattle.mv_catalog.specs.Types.{Vars}
 use Rattle.mv_catalog.specs.declared.resolved.RStmt.{RStmt}
 use Rattle.mv_catalog.specs.declared.resolved.RStmt.TheOpen.{RStmt-F, Assign, Select, Total, ForSelect, ForRows, Branch, Insert, Update, Delete, Print, Rollback}
-use Rattle.mv_alone.specs.declared.state.Env.{Env}
-use Rattle.mv_alone.specs.declared.state.State.{State}
-use Rattle.mv_alone.specs.Outcome.{then_do}
-use Rattle.mv_alone.specs.Env.{scalar_at, turns_at, with_value, with_values, with_found, truth}
-use Rattle.mv_alone.specs.Value.{value_of, values_of, fitted, is_so}
-use Rattle.mv_alone.specs.Rows.{aggregate, total, sum_of, distinct, projected, column, is_some_row, ordered, item_at, tests_of}
-use Rattle.mv_alone.specs.Changes.{new_row, put_row, keyed, updated, set_row_by, without}
-use Rattle.mv_alone.specs.Alone.{matching_in, offset_of, with_selected, totalled, is_turn, with_rows}
+use Rattle.mv_eval.specs.declared.state.Env.{Env}
+use Rattle.mv_eval.specs.declared.state.State.{State}
+use Rattle.mv_eval.specs.Results.{then_do}
+use Rattle.mv_eval.specs.Env.{scalar_at, turns_at, with_value, with_values, with_found, truth}
+use Rattle.mv_eval.specs.Value.{value_of, values_of, fitted, is_so}
+use Rattle.mv_eval.specs.Rows.{aggregate, total, sum_of, distinct, projected, column, is_some_row, ordered, item_at, tests_of}
+use Rattle.mv_eval.specs.Changes.{new_row, put_row, keyed, updated, set_row_by, without}
+use Rattle.mv_eval.specs.Alone.{matching_in, offset_of, with_selected, totalled, is_turn, with_rows}
 use Rattle.mv_record.specs.declared.record.Record.{Record}
 use Rattle.mv_recorded.specs.Asking.{on}
 use Rattle.mv_recorded.specs.Doing.{itself, fixed_rows, before_turns, writes_of, printed_line, gives_always, when, set_variables, sets_of}

@@ -19,12 +19,12 @@ use Rattle.mv_catalog.specs.Types as types
 use Rattle.mv_catalog.specs.Statements.{size, Well, IsWell, all_well, with_turn, stmt_step}
 use Rattle.mv_catalog.specs.Text.{Suits, IsCall, IsProcedure, vars_of}
 use Rattle.mv_catalog.proofs.Typed.{well_by}
-use Rattle.mv_alone.specs.declared.state.State.{State}
-use Rattle.mv_alone.specs.declared.state.Content.TheVariants.{Turn}
-use Rattle.mv_alone.specs.Env.{with_found, with_held, turns_at}
-use Rattle.mv_alone.specs.Value.{value_of, is_so}
-use Rattle.mv_alone.specs.Alone.{Does, alone, does, is_turn}
-use Rattle.mv_alone.specs.TableAfter.{begun, outcome, outcome_at, outcome_in, tables_left, table_after}
+use Rattle.mv_eval.specs.declared.state.State.{State}
+use Rattle.mv_eval.specs.declared.state.Content.TheVariants.{Turn}
+use Rattle.mv_eval.specs.Env.{with_found, with_held, turns_at}
+use Rattle.mv_eval.specs.Value.{value_of, is_so}
+use Rattle.mv_eval.specs.Alone.{Does, alone, does, is_turn}
+use Rattle.mv_eval.specs.TableAfter.{begun, result_of, result_at, result_in, tables_left, table_after}
 use Rattle.mv_record.specs.declared.record.Record.{Record}
 use Rattle.mv_record.specs.Databases.{IsDatabaseOf}
 use Rattle.mv_record.specs.Writes.{AreRising}
@@ -268,15 +268,15 @@ left_is tables proc call db whole suits h = by (alone tables proc.body (begun pr
 pub after_is : TablesAfterAre
 after_is p whole order = after
   where
-    called : (call : Call) (db : Tables) → IsCall p.resolved.procedures call → IsDatabaseOf p.resolved.tables db → IsDatabaseOf p.resolved.tables (tables_left db (outcome_in p (slice_get p.resolved.procedures call.procedure) call db))
+    called : (call : Call) (db : Tables) → IsCall p.resolved.procedures call → IsDatabaseOf p.resolved.tables db → IsDatabaseOf p.resolved.tables (tables_left db (result_in p (slice_get p.resolved.procedures call.procedure) call db))
     called call db is h =
         let proc : IsProcedure p.resolved.tables is.0 = all_get (IsProcedure p.resolved.tables) p.resolved.procedures call.procedure is.0 whole.text.procedures is.1 in
-        subst (λ o. IsDatabaseOf p.resolved.tables (tables_left db (outcome_in p o call db))) (sym is.1) (left_is p.resolved.tables is.0 call db proc is.2 h)
+        subst (λ o. IsDatabaseOf p.resolved.tables (tables_left db (result_in p o call db))) (sym is.1) (left_is p.resolved.tables is.0 call db proc is.2 h)
 
-    left : (c : ℕ) (db : Tables) → IsDatabaseOf p.resolved.tables db → IsDatabaseOf p.resolved.tables (tables_left db (outcome p c db))
+    left : (c : ℕ) (db : Tables) → IsDatabaseOf p.resolved.tables db → IsDatabaseOf p.resolved.tables (tables_left db (result_of p c db))
     left c db h = by (slice_get p.resolved.calls c) refl
       where
-        by : (o : Option Call) → slice_get p.resolved.calls c ≡ o → IsDatabaseOf p.resolved.tables (tables_left db (outcome_at p o db))
+        by : (o : Option Call) → slice_get p.resolved.calls c ≡ o → IsDatabaseOf p.resolved.tables (tables_left db (result_at p o db))
         by None at' = h
         by (Some call) at' = called call db (all_get (IsCall p.resolved.procedures) p.resolved.calls c call whole.text.calls at') h
 

@@ -13,14 +13,14 @@ use Rattle.mv_catalog.specs.declared.resolved.RStmt.{RStmt}
 use Rattle.mv_catalog.specs.declared.resolved.RStmt.TheOpen as open'
 use Rattle.mv_catalog.specs.declared.resolved.RStmt.TheViews.{roll-RStmt}
 use Rattle.mv_catalog.specs.declared.resolved.RStmt.TheFolds.{fold-roll-RStmt, map-RStmt, ind-RStmt}
-use Rattle.mv_alone.specs.declared.state.Content.TheVariants.{Turn}
-use Rattle.mv_alone.specs.declared.state.State.{State}
-use Rattle.mv_alone.specs.Env.{with_held, with_found, turns_at}
-use Rattle.mv_alone.specs.Value.{value_of, is_so}
-use Rattle.mv_alone.specs.Rows.{tests_of}
-use Rattle.mv_alone.specs.Alone.{Does, all_of, each_turn, matching_in, fixed, is_turn, loop_over, does, alone, stmt_step}
-use Rattle.mv_alone.specs.Alone as alone'
-use Rattle.mv_alone.specs.TableAfter.{begun, outcome, outcome_in, outcome_at, tables_left, table_after}
+use Rattle.mv_eval.specs.declared.state.Content.TheVariants.{Turn}
+use Rattle.mv_eval.specs.declared.state.State.{State}
+use Rattle.mv_eval.specs.Env.{with_held, with_found, turns_at}
+use Rattle.mv_eval.specs.Value.{value_of, is_so}
+use Rattle.mv_eval.specs.Rows.{tests_of}
+use Rattle.mv_eval.specs.Alone.{Does, all_of, each_turn, matching_in, fixed, is_turn, loop_over, does, alone, stmt_step}
+use Rattle.mv_eval.specs.Alone as alone'
+use Rattle.mv_eval.specs.TableAfter.{begun, result_of, result_in, result_at, tables_left, table_after}
 use Rattle.mv_recorded.specs.Doing.{itself}
 use Rattle.mv_recorded.specs.Parents.{ReferencesStand, CallsKeepReferences}
 use Rattle.mv_recorded.proofs.Parents.{references_kept}
@@ -103,11 +103,11 @@ left_stands tables db (Ok st) h k = k
 left_stands tables db (Err e) h k = h
 
 module _ (p : Program) where
-  in_stands : (o : Option ProcInfo) (call : Call) (db : Tables) → ReferencesStand p.resolved.tables db → IfOk (outcome_in p o call db) (λ (next : State). ReferencesStand p.resolved.tables next.tables)
+  in_stands : (o : Option ProcInfo) (call : Call) (db : Tables) → ReferencesStand p.resolved.tables db → IfOk (result_in p o call db) (λ (next : State). ReferencesStand p.resolved.tables next.tables)
   in_stands None call db h = h
   in_stands (Some proc) call db h = alone_stands p.resolved.tables proc.body (begun proc call db) h
 
-  at_stands : (o : Option Call) (db : Tables) → ReferencesStand p.resolved.tables db → IfOk (outcome_at p o db) (λ (next : State). ReferencesStand p.resolved.tables next.tables)
+  at_stands : (o : Option Call) (db : Tables) → ReferencesStand p.resolved.tables db → IfOk (result_at p o db) (λ (next : State). ReferencesStand p.resolved.tables next.tables)
   at_stands None db h = h
   at_stands (Some call) db h = in_stands (slice_get p.resolved.procedures call.procedure) call db h
 
@@ -116,7 +116,7 @@ module _ (p : Program) where
   after_stands h order (suc k) =
       let db = table_after p order k in
       let before = after_stands h order k in
-      left_stands p.resolved.tables db (outcome p (slice_index order k) db) before (at_stands (slice_get p.resolved.calls (slice_index order k)) db before)
+      left_stands p.resolved.tables db (result_of p (slice_index order k) db) before (at_stands (slice_get p.resolved.calls (slice_index order k)) db before)
 
 pub calls_keep : CallsKeepReferences
 calls_keep p h order k = after_stands p h order k

@@ -9,8 +9,8 @@ use Rattle.mv_values.specs.declared.schema.TableInfo.{TableInfo}
 use Rattle.mv_values.specs.Columns.{column_of, columns_of}
 use Rattle.mv_values.specs.Preds.{matches, admits}
 use Rattle.mv_values.specs.Tables.{key_columns, rows_at, KeysStand}
-use Rattle.mv_alone.specs.Rows.{test_on, IsPlaced, matching}
-use Rattle.mv_alone.proofs.Spanning.{tests_admit}
+use Rattle.mv_eval.specs.Rows.{test_on, IsPlaced, matching}
+use Rattle.mv_eval.proofs.Spanning.{tests_admit}
 use Rattle.mv_record.specs.Admitting.{Admitted}
 use Rattle.mv_recorded.specs.Asking.{same_key, KnowsKey}
 

@@ -7,9 +7,9 @@ use Rattle.mv_values.specs.declared.calls.End.{End}
 use Rattle.mv_values.specs.Keys.{IsRising}
 use Rattle.mv_values.specs.Tables.{rows_at, Tables}
 use Rattle.mv_catalog.specs.declared.resolved.ProcInfo.{ProcInfo}
-use Rattle.mv_alone.specs.declared.state.State.{State}
-use Rattle.mv_alone.specs.Alone.{alone}
-use Rattle.mv_alone.specs.TableAfter.{begun, reply_in, tables_left}
+use Rattle.mv_eval.specs.declared.state.State.{State}
+use Rattle.mv_eval.specs.Alone.{alone}
+use Rattle.mv_eval.specs.TableAfter.{begun, reply_in, tables_left}
 use Rattle.mv_record.specs.declared.record.Record.{Record}
 use Rattle.mv_record.specs.Runs.{TellsAll, writes_in, lines_in}
 use Rattle.mv_recorded.specs.Recorded.{recorded, meaning, outside}

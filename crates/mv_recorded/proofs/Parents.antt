@@ -25,15 +25,15 @@ use Rattle.mv_values.proofs.KeyOrder.{value_order_total}
 use Rattle.mv_catalog.specs.declared.resolved.RSetItem.{RSetItem}
 use Rattle.mv_catalog.specs.declared.resolved.RStmt.{RStmt}
 use Rattle.mv_catalog.specs.declared.resolved.RStmt.TheOpen.{Assign, Select, Total, ForSelect, ForRows, Branch, Insert, Update, Delete, Print, Rollback}
-use Rattle.mv_alone.specs.declared.state.Env.{Env}
-use Rattle.mv_alone.specs.declared.state.State.{State}
-use Rattle.mv_alone.specs.Outcome.{then_do}
-use Rattle.mv_alone.specs.Value.{value_of, values_of}
-use Rattle.mv_alone.specs.Rows.{matching, is_some_row, tests_of, fit, aggregate}
-use Rattle.mv_alone.specs.Changes.{with_column, set_row_by, updated, without, new_row, put_row, put_row_by, keyed}
-use Rattle.mv_alone.specs.Alone.{matching_in, with_rows, offset_of, fixed}
-use Rattle.mv_alone.specs.References.{is_own_parent, has_parents, with_parent, fit_in, holds_key, left_in, has_children}
-use Rattle.mv_alone.proofs.Standing.{New, goes_to, whenever, unless}
+use Rattle.mv_eval.specs.declared.state.Env.{Env}
+use Rattle.mv_eval.specs.declared.state.State.{State}
+use Rattle.mv_eval.specs.Results.{then_do}
+use Rattle.mv_eval.specs.Value.{value_of, values_of}
+use Rattle.mv_eval.specs.Rows.{matching, is_some_row, tests_of, fit, aggregate}
+use Rattle.mv_eval.specs.Changes.{with_column, set_row_by, updated, without, new_row, put_row, put_row_by, keyed}
+use Rattle.mv_eval.specs.Alone.{matching_in, with_rows, offset_of, fixed}
+use Rattle.mv_eval.specs.References.{is_own_parent, has_parents, with_parent, fit_in, holds_key, left_in, has_children}
+use Rattle.mv_eval.proofs.Standing.{New, goes_to, whenever, unless}
 use Rattle.mv_recorded.specs.Doing.{itself}
 use Rattle.mv_recorded.specs.Own.{Each}
 use Rattle.mv_recorded.specs.Parents.{HasParents, ReferencesStand, ReferencesKept}

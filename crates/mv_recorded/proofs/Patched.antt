@@ -17,8 +17,8 @@ use Rattle.mv_values.specs.Order.{key_order}
 use Rattle.mv_values.specs.Patching.{row_of, patched, standing, placed, placed_by, patched_rows, applied}
 use Rattle.mv_values.specs.Tables.{rows_at, Tables}
 use Rattle.mv_values.proofs.KeyOrder.{key_order_total}
-use Rattle.mv_alone.specs.Rows.{matching}
-use Rattle.mv_alone.specs.Changes.{without, put_row, put_row_by}
+use Rattle.mv_eval.specs.Rows.{matching}
+use Rattle.mv_eval.specs.Changes.{without, put_row, put_row_by}
 use Rattle.mv_recorded.specs.Doing.{write}
 
 -- One change

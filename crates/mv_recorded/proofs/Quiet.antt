@@ -14,14 +14,14 @@ use Rattle.mv_catalog.specs.declared.resolved.RAgg.{RAgg}
 use Rattle.mv_catalog.specs.declared.resolved.RStmt.{RStmt, roll-RStmt, map-RStmt, ind-RStmt, fold-roll-RStmt}
 use Rattle.mv_catalog.specs.declared.resolved.RStmt.TheOpen.{RStmt-F, Assign, Select, Total, ForSelect, ForRows, Branch, Insert, Update, Delete, Print, Rollback}
 use Rattle.mv_catalog.specs.Statements.{any, changes_step, may_change, any_change}
-use Rattle.mv_alone.specs.declared.state.State.{State}
-use Rattle.mv_alone.specs.declared.state.Content.TheVariants.{Turn}
-use Rattle.mv_alone.specs.Outcome.{then_do}
-use Rattle.mv_alone.specs.Env.{with_held, with_found, turns_at}
-use Rattle.mv_alone.specs.Rows.{is_some_row, ordered, item_at, aggregate, tests_of}
-use Rattle.mv_alone.specs.Value.{value_of, is_so}
-use Rattle.mv_alone.specs.Alone.{Does, all_of, each_turn, is_turn, loop_over, matching_in, offset_of, with_selected, totalled, fixed, select, sum_up, for_select, stmt_step, does, alone}
-use Rattle.mv_alone.specs.TableAfter.{begun, tables_left}
+use Rattle.mv_eval.specs.declared.state.State.{State}
+use Rattle.mv_eval.specs.declared.state.Content.TheVariants.{Turn}
+use Rattle.mv_eval.specs.Results.{then_do}
+use Rattle.mv_eval.specs.Env.{with_held, with_found, turns_at}
+use Rattle.mv_eval.specs.Rows.{is_some_row, ordered, item_at, aggregate, tests_of}
+use Rattle.mv_eval.specs.Value.{value_of, is_so}
+use Rattle.mv_eval.specs.Alone.{Does, all_of, each_turn, is_turn, loop_over, matching_in, offset_of, with_selected, totalled, fixed, select, sum_up, for_select, stmt_step, does, alone}
+use Rattle.mv_eval.specs.TableAfter.{begun, tables_left}
 use Rattle.mv_recorded.specs.Laws.{ReadersChangeNothing}
 
 -- what goes through leaves the database as it was

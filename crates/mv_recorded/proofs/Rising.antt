@@ -9,12 +9,12 @@ use Rattle.mv_values.specs.Tables.{Tables}
 use Rattle.mv_catalog.specs.declared.resolved.ProcInfo.{ProcInfo}
 use Rattle.mv_catalog.specs.declared.resolved.RStmt.{RStmt, roll-RStmt, map-RStmt, ind-RStmt, para-roll-RStmt, fold-roll-RStmt}
 use Rattle.mv_catalog.specs.declared.resolved.RStmt.TheOpen.{RStmt-F, Assign, Select, Total, ForSelect, ForRows, Branch, Insert, Update, Delete, Print, Rollback}
-use Rattle.mv_alone.specs.declared.state.State.{State}
-use Rattle.mv_alone.specs.declared.state.Content.TheVariants.{Turn}
-use Rattle.mv_alone.specs.Env.{with_held, with_found}
-use Rattle.mv_alone.specs.Value.{value_of, is_so}
-use Rattle.mv_alone.specs.Alone.{Does, does, is_turn}
-use Rattle.mv_alone.specs.TableAfter.{begun}
+use Rattle.mv_eval.specs.declared.state.State.{State}
+use Rattle.mv_eval.specs.declared.state.Content.TheVariants.{Turn}
+use Rattle.mv_eval.specs.Env.{with_held, with_found}
+use Rattle.mv_eval.specs.Value.{value_of, is_so}
+use Rattle.mv_eval.specs.Alone.{Does, does, is_turn}
+use Rattle.mv_eval.specs.TableAfter.{begun}
 use Rattle.mv_record.specs.declared.record.Record.{Record}
 use Rattle.mv_record.specs.Paths.{Nest, path, nest_of, nests_behind, paths, IsEarlierPath, PathsRise}
 use Rattle.mv_recorded.specs.Asking.{on}

@@ -31,17 +31,17 @@ use Rattle.mv_catalog.specs.Types.{Kind, int, Vars, kind_of_column}
 use Rattle.mv_catalog.specs.Statements.{kinds_of, IsOfKind, Takes, IsItem, IsTotal}
 use Rattle.mv_catalog.specs.Text.{IsOf, IsRow, types_of}
 use Rattle.mv_catalog.proofs.Maps.{map_map}
-use Rattle.mv_alone.specs.declared.state.Env.{Env}
-use Rattle.mv_alone.specs.Outcome.{then_do}
-use Rattle.mv_alone.specs.Env.{with_value, with_values}
-use Rattle.mv_alone.specs.Value.{value_of, fitted}
-use Rattle.mv_alone.specs.Rows.{sorted, ordered, sort_order, item_at, put_by, put_once, distinct, projected, column, lesser, least, greater, greatest, total, sum_of, aggregate, fit_kind, fit}
-use Rattle.mv_alone.specs.Changes.{with_column, set_row_by, updated, new_row, put_row, put_row_by}
-use Rattle.mv_alone.specs.Alone.{fixed, with_selected}
+use Rattle.mv_eval.specs.declared.state.Env.{Env}
+use Rattle.mv_eval.specs.Results.{then_do}
+use Rattle.mv_eval.specs.Env.{with_value, with_values}
+use Rattle.mv_eval.specs.Value.{value_of, fitted}
+use Rattle.mv_eval.specs.Rows.{sorted, ordered, sort_order, item_at, put_by, put_once, distinct, projected, column, lesser, least, greater, greatest, total, sum_of, aggregate, fit_kind, fit}
+use Rattle.mv_eval.specs.Changes.{with_column, set_row_by, updated, new_row, put_row, put_row_by}
+use Rattle.mv_eval.specs.Alone.{fixed, with_selected}
 use Rattle.mv_record.specs.Databases.{AreTyped, HasRow}
 use Rattle.mv_recorded.specs.Typed.{OfKinds, IsEnvOf}
 use Rattle.mv_recorded.proofs.Typing.{fit_value, fit_found}
-use Rattle.mv_alone.proofs.Ranking.{put_all}
+use Rattle.mv_eval.proofs.Ranking.{put_all}
 use Rattle.mv_recorded.proofs.Valued.{IsKind, fitted_kind, value_kind}
 
 -- going on with a value of which something holds

@@ -4,8 +4,8 @@ use Rattle.std.proofs.lemmas.List.Elements.{All-head, All-tail, All-filter}
 use Rattle.std.specs.Prelude.{not, ◌++◌}
 use Rattle.mv_values.specs.References.{parent_of, references, references_to, is_there}
 use Rattle.mv_values.specs.declared.calls.End.TheVariants.{MissingParent, HasChildren}
-use Rattle.mv_alone.specs.References.{has_parents, has_children, fit_in, with_parent}
-use Rattle.mv_alone.proofs.Standing.{goes_to}
+use Rattle.mv_eval.specs.References.{has_parents, has_children, fit_in, with_parent}
+use Rattle.mv_eval.proofs.Standing.{goes_to}
 use Rattle.mv_values.specs.Preds.{meets}
 use Rattle.mv_values.specs.declared.pred.Test.{Test}
 use Rattle.mv_values.specs.declared.value.Value.{Value}
@@ -29,17 +29,17 @@ use Rattle.mv_recorded.specs.Doing.{itself, fixed_rows}
 use Rattle.mv_catalog.specs.Statements as well
 use Rattle.mv_catalog.specs.Text.{IsRow, types_of}
 use Rattle.mv_catalog.proofs.Typed.{well_by}
-use Rattle.mv_alone.specs.declared.state.Content.TheVariants.{Turn}
-use Rattle.mv_alone.specs.declared.state.State.{State}
-use Rattle.mv_alone.specs.declared.state.Env.{Env}
-use Rattle.mv_alone.specs.Outcome.{then_do}
-use Rattle.mv_alone.specs.Env.{with_held, with_value, with_found, turns_at}
-use Rattle.mv_alone.specs.Value.{value_of, values_of, is_so}
-use Rattle.mv_alone.specs.Rows.{is_some_row, item_at, ordered, aggregate, tests_of, fit}
-use Rattle.mv_alone.specs.Changes.{set_row_by, updated, without, new_row, put_row, keyed}
-use Rattle.mv_alone.specs.Line.{line_of}
-use Rattle.mv_alone.specs.Alone.{Does, all_of, each_turn, matching_in, with_rows, offset_of, with_selected, totalled, fixed, is_turn, loop_over, does, alone, stmt_step}
-use Rattle.mv_alone.specs.Alone as alone'
+use Rattle.mv_eval.specs.declared.state.Content.TheVariants.{Turn}
+use Rattle.mv_eval.specs.declared.state.State.{State}
+use Rattle.mv_eval.specs.declared.state.Env.{Env}
+use Rattle.mv_eval.specs.Results.{then_do}
+use Rattle.mv_eval.specs.Env.{with_held, with_value, with_found, turns_at}
+use Rattle.mv_eval.specs.Value.{value_of, values_of, is_so}
+use Rattle.mv_eval.specs.Rows.{is_some_row, item_at, ordered, aggregate, tests_of, fit}
+use Rattle.mv_eval.specs.Changes.{set_row_by, updated, without, new_row, put_row, keyed}
+use Rattle.mv_eval.specs.Line.{line_of}
+use Rattle.mv_eval.specs.Alone.{Does, all_of, each_turn, matching_in, with_rows, offset_of, with_selected, totalled, fixed, is_turn, loop_over, does, alone, stmt_step}
+use Rattle.mv_eval.specs.Alone as alone'
 use Rattle.mv_record.specs.Databases.{AreTyped, HasRow}
 use Rattle.mv_recorded.specs.Typed.{OfKinds, IsEnvOf}
 use Rattle.mv_recorded.proofs.Typing.{fit_value, fit_found, fit_turn, fit_behind}

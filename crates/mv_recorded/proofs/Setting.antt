@@ -4,7 +4,7 @@ use Rattle.std.proofs.lemmas.Bool.Decides.{eqb_tells}
 use Rattle.std.proofs.lemmas.List.{get_or-set_other, length-set, ext_get_or}
 use Rattle.std.specs.List.{flat_map, list_any}
 use Rattle.mv_record.proofs.Rising.{Above, Rises}
-use Rattle.mv_alone.proofs.Standing.{New, goes_to}
+use Rattle.mv_eval.proofs.Standing.{New, goes_to}
 use Rattle.mv_values.specs.Preds.{meets}
 use Rattle.mv_values.specs.declared.pred.Test.{Test}
 use Rattle.mv_values.specs.declared.value.Value.{Value}
@@ -17,11 +17,11 @@ use Rattle.mv_values.specs.declared.calls.End.{End}
 use Rattle.mv_values.specs.Columns.{column_of}
 use Rattle.mv_values.specs.Patching.{with_columns}
 use Rattle.mv_catalog.specs.declared.resolved.RSetItem.{RSetItem}
-use Rattle.mv_alone.specs.declared.state.Env.{Env}
-use Rattle.mv_alone.specs.Outcome.{then_do}
-use Rattle.mv_alone.specs.Value.{value_of}
-use Rattle.mv_alone.specs.Rows.{matching}
-use Rattle.mv_alone.specs.Changes.{with_column, set_row_by, updated}
+use Rattle.mv_eval.specs.declared.state.Env.{Env}
+use Rattle.mv_eval.specs.Results.{then_do}
+use Rattle.mv_eval.specs.Value.{value_of}
+use Rattle.mv_eval.specs.Rows.{matching}
+use Rattle.mv_eval.specs.Changes.{with_column, set_row_by, updated}
 use Rattle.mv_recorded.specs.Asking.{on}
 use Rattle.mv_recorded.specs.Doing.{write, set_patch}
 use Rattle.mv_recorded.proofs.Patched.{AllPast, all_pass, patched_all, OnTable, on_both, changes_first, row_ok}

@@ -3,10 +3,10 @@ use Rattle.std.proofs.Common.{◌≡◌, ◌⊎◌, inl, inr, ℕ, zero, suc, �
 use Rattle.std.proofs.lemmas.Bool.Decides.{eqb_tells}
 use Rattle.std.specs.List.{filter}
 use Rattle.mv_values.specs.declared.value.Value.{Value}
-use Rattle.mv_alone.specs.declared.state.Env.{Env}
-use Rattle.mv_alone.specs.declared.state.Content.{Content}
-use Rattle.mv_alone.specs.declared.state.Content.TheVariants.{Scalar}
-use Rattle.mv_alone.specs.Env.{unset, put_at, scalar_in, scalar_at, truth, with_value, with_values, with_found}
+use Rattle.mv_eval.specs.declared.state.Env.{Env}
+use Rattle.mv_eval.specs.declared.state.Content.{Content}
+use Rattle.mv_eval.specs.declared.state.Content.TheVariants.{Scalar}
+use Rattle.mv_eval.specs.Env.{unset, put_at, scalar_in, scalar_at, truth, with_value, with_values, with_found}
 use Rattle.mv_recorded.specs.Effect.{with_slots}
 use Rattle.mv_recorded.specs.Own.{Within}
 use Rattle.mv_recorded.specs.Reading.{each_once}

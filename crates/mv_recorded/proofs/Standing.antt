@@ -4,12 +4,12 @@ use Rattle.mv_values.specs.declared.calls.End.{End}
 use Rattle.mv_values.specs.declared.schema.TableInfo.{TableInfo}
 use Rattle.mv_values.specs.Tables.{KeysStand, key_columns}
 use Rattle.mv_catalog.specs.declared.resolved.RStmt.TheOpen.{RStmt-F, Assign, Select, Total, ForSelect, ForRows, Branch, Insert, Update, Delete, Print, Rollback}
-use Rattle.mv_alone.specs.declared.state.State.{State}
-use Rattle.mv_alone.specs.Outcome.{then_do}
-use Rattle.mv_alone.specs.Value.{value_of, values_of}
-use Rattle.mv_alone.specs.Rows.{tests_of, aggregate}
-use Rattle.mv_alone.specs.Alone.{matching_in, offset_of, fixed}
-use Rattle.mv_alone.proofs.Standing.{insert_keeps, update_keeps, delete_keeps}
+use Rattle.mv_eval.specs.declared.state.State.{State}
+use Rattle.mv_eval.specs.Results.{then_do}
+use Rattle.mv_eval.specs.Value.{value_of, values_of}
+use Rattle.mv_eval.specs.Rows.{tests_of, aggregate}
+use Rattle.mv_eval.specs.Alone.{matching_in, offset_of, fixed}
+use Rattle.mv_eval.proofs.Standing.{insert_keeps, update_keeps, delete_keeps}
 use Rattle.mv_recorded.specs.Doing.{itself}
 use Rattle.mv_recorded.proofs.Leading.{KeepsTables, then_keeps}
 

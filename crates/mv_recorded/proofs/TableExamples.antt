@@ -4,9 +4,9 @@ use Rattle.mv_values.specs.declared.value.Value.TheVariants.{Int, Text}
 use Rattle.mv_values.specs.declared.rows.Keyed.{Keyed}
 use Rattle.mv_ast.specs.declared.tree.TwoOp.TheVariants.{Div}
 use Rattle.mv_catalog.specs.declared.resolved.RStmt.{RStmt, roll-RStmt}
-use Rattle.mv_alone.specs.declared.state.State.{State}
-use Rattle.mv_alone.specs.declared.state.Content.{Content}
-use Rattle.mv_alone.specs.declared.state.Content.TheVariants.{Turn}
+use Rattle.mv_eval.specs.declared.state.State.{State}
+use Rattle.mv_eval.specs.declared.state.Content.{Content}
+use Rattle.mv_eval.specs.declared.state.Content.TheVariants.{Turn}
 use Rattle.mv_record.specs.Samples.{account}
 use Rattle.mv_recorded.specs.Examples.{var, constant, acc, delete_found, over_accounts, sum_up_balances, open_account, for_record, deleted, sum_record, opened, Closes, read_twice, ReadsTwice, delete_wrong, DividesByZero}
 use Rattle.mv_recorded.specs.Recorded.{tell_statements, outside}

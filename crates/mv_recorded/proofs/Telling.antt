@@ -13,16 +13,16 @@ use Rattle.mv_catalog.specs.declared.resolved.RStmt.{RStmt}
 use Rattle.mv_catalog.specs.declared.resolved.RStmt.TheOpen.{RStmt-F, Assign, Select, Total, ForSelect, ForRows, Branch, Insert, Update, Delete, Print, Rollback}
 use Rattle.mv_values.specs.References.{references, references_to}
 use Rattle.mv_values.specs.declared.calls.End.TheVariants.{MissingParent, HasChildren}
-use Rattle.mv_alone.specs.References.{has_parents, has_children, fit_in}
-use Rattle.mv_alone.specs.declared.state.Env.{Env}
-use Rattle.mv_alone.specs.declared.state.State.{State}
-use Rattle.mv_alone.specs.Outcome.{then_do}
-use Rattle.mv_alone.specs.Value.{value_of, values_of}
-use Rattle.mv_alone.specs.Rows.{tests_of, aggregate, is_some_row}
-use Rattle.mv_alone.specs.Changes.{new_row, put_row, keyed, updated, set_row_by, without}
-use Rattle.mv_alone.specs.Line.{line_of}
-use Rattle.mv_alone.specs.Alone.{alone, matching_in, offset_of, fixed, with_rows}
-use Rattle.mv_alone.specs.TableAfter.{begun}
+use Rattle.mv_eval.specs.References.{has_parents, has_children, fit_in}
+use Rattle.mv_eval.specs.declared.state.Env.{Env}
+use Rattle.mv_eval.specs.declared.state.State.{State}
+use Rattle.mv_eval.specs.Results.{then_do}
+use Rattle.mv_eval.specs.Value.{value_of, values_of}
+use Rattle.mv_eval.specs.Rows.{tests_of, aggregate, is_some_row}
+use Rattle.mv_eval.specs.Changes.{new_row, put_row, keyed, updated, set_row_by, without}
+use Rattle.mv_eval.specs.Line.{line_of}
+use Rattle.mv_eval.specs.Alone.{alone, matching_in, offset_of, fixed, with_rows}
+use Rattle.mv_eval.specs.TableAfter.{begun}
 use Rattle.mv_record.specs.declared.record.Record.{Record}
 use Rattle.mv_record.specs.Runs.{lines_in, end_in, StopsWith}
 use Rattle.mv_recorded.specs.Doing.{itself}

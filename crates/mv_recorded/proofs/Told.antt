@@ -21,13 +21,13 @@ use Rattle.mv_catalog.specs.declared.resolved.RCond.{RCond}
 use Rattle.mv_catalog.specs.declared.resolved.RSetItem.{RSetItem}
 use Rattle.mv_catalog.specs.declared.resolved.RStmt.{RStmt}
 use Rattle.mv_catalog.specs.declared.resolved.RStmt.TheOpen.{Insert, Update, Delete}
-use Rattle.mv_alone.specs.declared.state.State.{State}
-use Rattle.mv_alone.specs.declared.state.Env.{Env}
-use Rattle.mv_alone.specs.Rows.{matching, is_some_row, tests_of, fit}
-use Rattle.mv_alone.specs.Changes.{new_row, put_row, keyed, updated, set_row_by}
-use Rattle.mv_alone.specs.Alone.{matching_in}
-use Rattle.mv_alone.specs.References.{is_own_parent, has_parents, has_children, fit_in}
-use Rattle.mv_alone.proofs.Standing.{New}
+use Rattle.mv_eval.specs.declared.state.State.{State}
+use Rattle.mv_eval.specs.declared.state.Env.{Env}
+use Rattle.mv_eval.specs.Rows.{matching, is_some_row, tests_of, fit}
+use Rattle.mv_eval.specs.Changes.{new_row, put_row, keyed, updated, set_row_by}
+use Rattle.mv_eval.specs.Alone.{matching_in}
+use Rattle.mv_eval.specs.References.{is_own_parent, has_parents, has_children, fit_in}
+use Rattle.mv_eval.proofs.Standing.{New}
 use Rattle.mv_record.proofs.Rising.{Rises, rises_from}
 use Rattle.mv_record.specs.declared.effect.Effect.{Effect}
 use Rattle.mv_recorded.specs.Asking.{Check, needs, is_among, first_fault, preds_up_to, parent_pred, insert_checks, update_checks, delete_checks, pred_of, same_key, columns_in, on}

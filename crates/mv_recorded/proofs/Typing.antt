@@ -4,12 +4,12 @@ use Rattle.std.proofs.lemmas.Bool.{eqb-false, cases_eq}
 use Rattle.mv_values.specs.declared.value.Value.{Value}
 use Rattle.mv_catalog.specs.Types.{Kind, int, Var, fixed, declared, turn, Vars, kind_of_value}
 use Rattle.mv_catalog.specs.Statements.{with_turn}
-use Rattle.mv_alone.specs.declared.state.Content.{Content}
-use Rattle.mv_alone.specs.declared.state.Content.TheVariants.{Scalar, Turn}
-use Rattle.mv_alone.specs.declared.state.Env.{Env}
+use Rattle.mv_eval.specs.declared.state.Content.{Content}
+use Rattle.mv_eval.specs.declared.state.Content.TheVariants.{Scalar, Turn}
+use Rattle.mv_eval.specs.declared.state.Env.{Env}
 use Rattle.mv_recorded.specs.Typed.{OfKinds, Holds, IsEnvOf}
 use Rattle.mv_recorded.proofs.Slots.{get_same, get_other}
-use Rattle.mv_alone.specs.Env.{held_at, with_held, with_value, with_found, truth}
+use Rattle.mv_eval.specs.Env.{held_at, with_held, with_value, with_found, truth}
 
 same_var : (o : Option Var) (v w : Var) → o ≡ Some v → o ≡ Some w → v ≡ w
 same_var o v w h k = cc

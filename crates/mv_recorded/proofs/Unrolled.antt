@@ -13,11 +13,11 @@ use Rattle.mv_catalog.specs.declared.resolved.RExprKind.TheOpen.{RExprKind-F}
 use Rattle.mv_catalog.specs.declared.resolved.RExprKind.TheOpen as open'
 use Rattle.mv_catalog.specs.declared.resolved.RStmt.{RStmt, roll-RStmt, map-RStmt, fold-roll-RStmt, para-roll-RStmt}
 use Rattle.mv_catalog.specs.declared.resolved.RStmt.TheOpen.{RStmt-F}
-use Rattle.mv_alone.specs.declared.state.State.{State}
-use Rattle.mv_alone.specs.declared.state.Env.{Env}
-use Rattle.mv_alone.specs.Env.{scalar_at, turn_at}
-use Rattle.mv_alone.specs.Value.{Evaluation, kind_step, expr_step, value_of, two_of}
-use Rattle.mv_alone.specs.Alone.{Does, does, stmt_step}
+use Rattle.mv_eval.specs.declared.state.State.{State}
+use Rattle.mv_eval.specs.declared.state.Env.{Env}
+use Rattle.mv_eval.specs.Env.{scalar_at, turn_at}
+use Rattle.mv_eval.specs.Value.{Evaluation, kind_step, expr_step, value_of, two_of}
+use Rattle.mv_eval.specs.Alone.{Does, does, stmt_step}
 use Rattle.mv_record.specs.declared.record.Record.{Record}
 use Rattle.mv_recorded.specs.Asking.{on, columns_in, kind_columns}
 use Rattle.mv_recorded.specs.Examples.{expr, var, two, constant, field, col}

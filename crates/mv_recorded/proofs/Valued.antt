@@ -20,12 +20,12 @@ use Rattle.mv_catalog.specs.declared.resolved.RExprKind.TheOpen as open'
 use Rattle.mv_catalog.specs.Types.{Kind, int, text, Var, fixed, declared, rows, turn, Vars, kind_of_value, HasType, read, field, one_gives, two_gives}
 use Rattle.mv_catalog.specs.Types as types
 use Rattle.mv_catalog.proofs.Typed.{typed_by, HasKind}
-use Rattle.mv_alone.specs.declared.state.Env.{Env}
-use Rattle.mv_alone.specs.declared.state.Content.{Content}
-use Rattle.mv_alone.specs.Outcome.{then_do}
-use Rattle.mv_alone.specs.Env.{held_at, scalar_in, turn_in, truth}
-use Rattle.mv_alone.specs.Value as value
-use Rattle.mv_alone.specs.Value.{value_of, is_so, Evaluation, kind_step, expr_step, fitted, quotient, remainder, joined, one_of, both_of, two_of, needs_right}
+use Rattle.mv_eval.specs.declared.state.Env.{Env}
+use Rattle.mv_eval.specs.declared.state.Content.{Content}
+use Rattle.mv_eval.specs.Results.{then_do}
+use Rattle.mv_eval.specs.Env.{held_at, scalar_in, turn_in, truth}
+use Rattle.mv_eval.specs.Value as value
+use Rattle.mv_eval.specs.Value.{value_of, is_so, Evaluation, kind_step, expr_step, fitted, quotient, remainder, joined, one_of, both_of, two_of, needs_right}
 use Rattle.mv_recorded.specs.Typed.{OfKinds, Holds, IsEnvOf}
 
 abbrev pub IsKind : Kind → Value → Type 0

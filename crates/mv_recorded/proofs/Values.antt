@@ -13,13 +13,13 @@ use Rattle.mv_catalog.specs.declared.resolved.RExprKind.TheViews.{roll-RExprKind
 use Rattle.mv_catalog.specs.declared.resolved.RExprKind.TheOpen.{RExprKind-F}
 use Rattle.mv_catalog.specs.declared.resolved.RExprKind.TheOpen as kind
 use Rattle.mv_catalog.specs.declared.resolved.RCond.{RCond}
-use Rattle.mv_alone.specs.declared.state.Env.{Env}
-use Rattle.mv_alone.specs.Outcome.{then_do}
-use Rattle.mv_alone.specs.Env.{held_at, scalar_in, turn_in}
-use Rattle.mv_alone.specs.Value.{Evaluation, kind_step, expr_step, value_of, values_of, one_of, two_of}
-use Rattle.mv_alone.specs.Rows.{tests_of, fit_kind, test_on}
-use Rattle.mv_alone.specs.Changes.{new_row}
-use Rattle.mv_alone.specs.Alone.{offset_of}
+use Rattle.mv_eval.specs.declared.state.Env.{Env}
+use Rattle.mv_eval.specs.Results.{then_do}
+use Rattle.mv_eval.specs.Env.{held_at, scalar_in, turn_in}
+use Rattle.mv_eval.specs.Value.{Evaluation, kind_step, expr_step, value_of, values_of, one_of, two_of}
+use Rattle.mv_eval.specs.Rows.{tests_of, fit_kind, test_on}
+use Rattle.mv_eval.specs.Changes.{new_row}
+use Rattle.mv_eval.specs.Alone.{offset_of}
 use Rattle.mv_recorded.specs.Asking.{kind_columns, columns_in}
 use Rattle.mv_recorded.specs.Reading.{kind_variables, variables, rights}
 use Rattle.mv_recorded.specs.Alike.{Agree, AgreeIn}

@@ -8,9 +8,9 @@ use Rattle.mv_values.specs.declared.schema.TableInfo.{TableInfo}
 use Rattle.mv_values.specs.Columns.{column_of}
 use Rattle.mv_values.specs.Patching.{found_by}
 use Rattle.mv_catalog.specs.declared.resolved.RStmt.TheOpen.{ForRows}
-use Rattle.mv_alone.specs.declared.state.Env.{Env}
-use Rattle.mv_alone.specs.declared.state.State.{State}
-use Rattle.mv_alone.specs.Env.{held_at}
+use Rattle.mv_eval.specs.declared.state.Env.{Env}
+use Rattle.mv_eval.specs.declared.state.State.{State}
+use Rattle.mv_eval.specs.Env.{held_at}
 use Rattle.mv_record.specs.Databases.{IsDatabaseOf}
 use Rattle.mv_recorded.specs.Asking.{preds_of}
 use Rattle.mv_recorded.specs.Own.{Bare, Each}

@@ -27,14 +27,14 @@ use Rattle.mv_catalog.specs.declared.resolved.RCond.{RCond}
 use Rattle.mv_catalog.specs.declared.resolved.RSort.{RSort}
 use Rattle.mv_catalog.specs.declared.resolved.RSetItem.{RSetItem}
 use Rattle.mv_catalog.specs.declared.resolved.RStmt.TheOpen.{RStmt-F, Assign, Select, Total, ForSelect, ForRows, Branch, Insert, Update, Delete, Print, Rollback}
-use Rattle.mv_alone.specs.declared.state.State.{State}
-use Rattle.mv_alone.specs.declared.state.Env.{Env}
-use Rattle.mv_alone.specs.Outcome.{then_do}
-use Rattle.mv_alone.specs.Value.{value_of}
-use Rattle.mv_alone.specs.Alone.{offset_of, matching_in}
-use Rattle.mv_alone.specs.Rows.{tests_of, test_on, IsPlaced, is_some_row, fit}
-use Rattle.mv_alone.specs.Changes.{new_row, keyed}
-use Rattle.mv_alone.specs.References.{is_own_parent}
+use Rattle.mv_eval.specs.declared.state.State.{State}
+use Rattle.mv_eval.specs.declared.state.Env.{Env}
+use Rattle.mv_eval.specs.Results.{then_do}
+use Rattle.mv_eval.specs.Value.{value_of}
+use Rattle.mv_eval.specs.Alone.{offset_of, matching_in}
+use Rattle.mv_eval.specs.Rows.{tests_of, test_on, IsPlaced, is_some_row, fit}
+use Rattle.mv_eval.specs.Changes.{new_row, keyed}
+use Rattle.mv_eval.specs.References.{is_own_parent}
 use Rattle.mv_recorded.specs.Reading.{each_once}
 
 -- continues with the value; empty after a fault

@@ -16,15 +16,15 @@ use Rattle.mv_catalog.specs.declared.resolved.RAgg.{RAgg}
 use Rattle.mv_catalog.specs.declared.resolved.RAgg.TheVariants.{CountAll, CountDistinct, Sum, Min, Max}
 use Rattle.mv_catalog.specs.declared.resolved.RSetItem.{RSetItem}
 use Rattle.mv_catalog.specs.declared.resolved.RStmt.TheOpen.{RStmt-F, Assign, Select, Total, ForSelect, ForRows, Branch, Insert, Update, Delete, Print, Rollback}
-use Rattle.mv_alone.specs.declared.state.State.{State}
-use Rattle.mv_alone.specs.Outcome.{then_do}
-use Rattle.mv_alone.specs.Env.{scalar_at, with_found, turns_at}
-use Rattle.mv_alone.specs.Value.{value_of, values_of, is_so}
-use Rattle.mv_alone.specs.Rows.{tests_of}
-use Rattle.mv_alone.specs.Changes.{new_row, set_row_by}
-use Rattle.mv_alone.specs.References.{fit_in}
-use Rattle.mv_alone.specs.Line.{line_of}
-use Rattle.mv_alone.specs.Alone.{matching_in, fixed, is_turn, assign, select, sum_up, insert, update, delete, print}
+use Rattle.mv_eval.specs.declared.state.State.{State}
+use Rattle.mv_eval.specs.Results.{then_do}
+use Rattle.mv_eval.specs.Env.{scalar_at, with_found, turns_at}
+use Rattle.mv_eval.specs.Value.{value_of, values_of, is_so}
+use Rattle.mv_eval.specs.Rows.{tests_of}
+use Rattle.mv_eval.specs.Changes.{new_row, set_row_by}
+use Rattle.mv_eval.specs.References.{fit_in}
+use Rattle.mv_eval.specs.Line.{line_of}
+use Rattle.mv_eval.specs.Alone.{matching_in, fixed, is_turn, assign, select, sum_up, insert, update, delete, print}
 use Rattle.mv_record.specs.declared.record.Slot.{Slot}
 use Rattle.mv_record.specs.declared.effect.Effect.{Effect}
 use Rattle.mv_recorded.specs.Reading.{each_once}

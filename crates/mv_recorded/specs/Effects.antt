@@ -15,12 +15,12 @@ use Rattle.mv_catalog.specs.declared.resolved.RStmt.TheOpen.{RStmt-F}
 use Rattle.mv_catalog.specs.declared.resolved.RExpr.{RExpr}
 use Rattle.mv_catalog.specs.declared.resolved.RSetItem.{RSetItem}
 use Rattle.mv_catalog.specs.declared.resolved.RCond.{RCond}
-use Rattle.mv_alone.specs.Outcome.{then_do}
-use Rattle.mv_alone.specs.declared.state.Env.{Env}
-use Rattle.mv_alone.specs.Env.{scalar_at, with_found}
-use Rattle.mv_alone.specs.Alone.{offset_of, with_selected, totalled, is_turn}
-use Rattle.mv_alone.specs.Rows.{tests_of}
-use Rattle.mv_alone.specs.Changes.{set_row, keyed}
+use Rattle.mv_eval.specs.Results.{then_do}
+use Rattle.mv_eval.specs.declared.state.Env.{Env}
+use Rattle.mv_eval.specs.Env.{scalar_at, with_found}
+use Rattle.mv_eval.specs.Alone.{offset_of, with_selected, totalled, is_turn}
+use Rattle.mv_eval.specs.Rows.{tests_of}
+use Rattle.mv_eval.specs.Changes.{set_row, keyed}
 use Rattle.mv_record.specs.declared.record.Slot.{Slot}
 use Rattle.mv_recorded.specs.Asking.{pred_of}
 use Rattle.mv_recorded.specs.Reading.{each_once}

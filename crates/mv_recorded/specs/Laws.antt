@@ -13,8 +13,8 @@ use Rattle.mv_catalog.specs.declared.resolved.Program.{Program}
 use Rattle.mv_catalog.specs.declared.resolved.ProcInfo.{ProcInfo}
 use Rattle.mv_catalog.specs.declared.resolved.RStmt.{RStmt}
 use Rattle.mv_catalog.specs.declared.resolved.RStmt.TheOpen.{RStmt-F}
-use Rattle.mv_alone.specs.declared.state.State.{State}
-use Rattle.mv_alone.specs.TableAfter.{table_after}
+use Rattle.mv_eval.specs.declared.state.State.{State}
+use Rattle.mv_eval.specs.TableAfter.{table_after}
 use Rattle.mv_record.specs.Runs.{TellsAll, NamesEarlier, writes_in}
 use Rattle.mv_record.specs.Databases.{IsDatabaseOf, IsProgram}
 use Rattle.mv_record.specs.Paths.{PathsRise}

@@ -11,11 +11,11 @@ use Rattle.mv_catalog.specs.declared.resolved.RSetItem.{RSetItem}
 use Rattle.mv_catalog.specs.declared.resolved.RStmt.{RStmt}
 use Rattle.mv_catalog.specs.declared.resolved.RStmt.TheOpen.{RStmt-F, Assign, Select, Total, ForSelect, ForRows, Branch, Update}
 use Rattle.mv_catalog.specs.declared.resolved.RStmt.TheFolds.{fold-RStmt, map-RStmt}
-use Rattle.mv_alone.specs.declared.state.Env.{Env}
-use Rattle.mv_alone.specs.declared.state.Content.TheVariants.{Turn}
-use Rattle.mv_alone.specs.declared.state.State.{State}
-use Rattle.mv_alone.specs.Env.{held_at}
-use Rattle.mv_alone.specs.TableAfter.{entered}
+use Rattle.mv_eval.specs.declared.state.Env.{Env}
+use Rattle.mv_eval.specs.declared.state.Content.TheVariants.{Turn}
+use Rattle.mv_eval.specs.declared.state.State.{State}
+use Rattle.mv_eval.specs.Env.{held_at}
+use Rattle.mv_eval.specs.TableAfter.{entered}
 use Rattle.mv_record.specs.Writes.{AreRising}
 use Rattle.mv_record.specs.declared.record.Slot.{Slot}
 use Rattle.mv_record.specs.declared.record.Record.{Record}

@@ -14,11 +14,11 @@ use Rattle.mv_catalog.specs.declared.resolved.RCond.{RCond}
 use Rattle.mv_catalog.specs.declared.resolved.RSetItem.{RSetItem}
 use Rattle.mv_catalog.specs.declared.resolved.RStmt.{RStmt}
 use Rattle.mv_catalog.specs.declared.resolved.RStmt.TheOpen.{RStmt-F, Insert, Update, Delete}
-use Rattle.mv_alone.specs.declared.state.State.{State}
-use Rattle.mv_alone.specs.Changes.{new_row}
-use Rattle.mv_alone.specs.Alone.{matching_in}
-use Rattle.mv_alone.specs.Rows.{tests_of}
-use Rattle.mv_alone.specs.TableAfter.{table_after}
+use Rattle.mv_eval.specs.declared.state.State.{State}
+use Rattle.mv_eval.specs.Changes.{new_row}
+use Rattle.mv_eval.specs.Alone.{matching_in}
+use Rattle.mv_eval.specs.Rows.{tests_of}
+use Rattle.mv_eval.specs.TableAfter.{table_after}
 use Rattle.mv_record.specs.Databases.{IsDatabaseOf}
 use Rattle.mv_recorded.specs.Asking.{first_fault, insert_checks, update_checks, delete_checks}
 use Rattle.mv_recorded.specs.Doing.{effect_of, itself}

@@ -12,12 +12,12 @@ use Rattle.mv_catalog.specs.declared.resolved.RStmt.{RStmt}
 use Rattle.mv_catalog.specs.declared.resolved.RStmt.TheOpen.{RStmt-F, ForSelect, ForRows, Branch}
 use Rattle.mv_catalog.specs.declared.resolved.RStmt.TheFolds.{para-RStmt}
 use Rattle.mv_catalog.specs.Statements.{size, total_size}
-use Rattle.mv_alone.specs.declared.state.State.{State}
-use Rattle.mv_alone.specs.declared.state.Content.TheVariants.{Turn}
-use Rattle.mv_alone.specs.Env.{with_found, with_held}
-use Rattle.mv_alone.specs.Value.{value_of, is_so}
-use Rattle.mv_alone.specs.Alone.{Does, alone, does, is_turn}
-use Rattle.mv_alone.specs.TableAfter.{begun, reply_in, tables_left}
+use Rattle.mv_eval.specs.declared.state.State.{State}
+use Rattle.mv_eval.specs.declared.state.Content.TheVariants.{Turn}
+use Rattle.mv_eval.specs.Env.{with_found, with_held}
+use Rattle.mv_eval.specs.Value.{value_of, is_so}
+use Rattle.mv_eval.specs.Alone.{Does, alone, does, is_turn}
+use Rattle.mv_eval.specs.TableAfter.{begun, reply_in, tables_left}
 use Rattle.mv_record.specs.declared.record.Record.{Record}
 use Rattle.mv_record.specs.Runs.{Behavior}
 use Rattle.mv_record.specs.Effects.{record_of}

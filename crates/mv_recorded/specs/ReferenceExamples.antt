@@ -14,8 +14,8 @@ use Rattle.mv_values.specs.declared.patch.Write.{Write}
 use Rattle.mv_values.specs.declared.calls.End.TheVariants.{Duplicate, MissingParent, HasChildren}
 use Rattle.mv_catalog.specs.declared.resolved.RStmt.{RStmt}
 use Rattle.mv_catalog.specs.declared.resolved.RStmt.TheOpen.{RStmt-F, Insert, Update, Delete}
-use Rattle.mv_alone.specs.declared.state.State.{State}
-use Rattle.mv_alone.specs.declared.state.Content.TheVariants.{Scalar}
+use Rattle.mv_eval.specs.declared.state.State.{State}
+use Rattle.mv_eval.specs.declared.state.Content.TheVariants.{Scalar}
 use Rattle.mv_record.specs.Samples.{sets}
 use Rattle.mv_recorded.specs.Doing.{effect_of}
 use Rattle.mv_recorded.specs.Effects.{empty, only_end}

@@ -3,9 +3,9 @@ use Rattle.std.specs.Prelude.{◌≡◌, ℕ, List, Some, All, slice_get}
 use Rattle.mv_values.specs.declared.value.Value.{Value}
 use Rattle.mv_values.specs.Columns.{column_of}
 use Rattle.mv_catalog.specs.Types.{Kind, int, Var, fixed, declared, rows, turn, Vars, kind_of_value}
-use Rattle.mv_alone.specs.declared.state.Content.{Content}
-use Rattle.mv_alone.specs.declared.state.Env.{Env}
-use Rattle.mv_alone.specs.Env.{held_at, scalar_in, turn_in, turns_in}
+use Rattle.mv_eval.specs.declared.state.Content.{Content}
+use Rattle.mv_eval.specs.declared.state.Env.{Env}
+use Rattle.mv_eval.specs.Env.{held_at, scalar_in, turn_in, turns_in}
 
 -- the row has a value of its type for each column, and perhaps more
 abbrev pub OfKinds : List Kind → List Value → Type 0

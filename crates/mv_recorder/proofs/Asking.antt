@@ -19,12 +19,12 @@ use Rattle.mv_catalog.specs.declared.resolved.RSetItem.{RSetItem}
 use Rattle.mv_catalog.specs.declared.resolved.RSort.{RSort}
 use Rattle.mv_catalog.specs.declared.resolved.RStmt.{RStmt}
 use Rattle.mv_catalog.specs.declared.resolved.RStmt.TheOpen.{Select, Total, ForSelect, Update, Delete}
-use Rattle.mv_alone.specs.declared.state.Env.{Env}
-use Rattle.mv_alone.specs.declared.state.Stop.{Stop}
-use Rattle.mv_alone.specs.declared.state.Stop.TheVariants.{Memory, Ended}
-use Rattle.mv_alone.specs.Outcome.{Fails, then_do}
-use Rattle.mv_alone.specs.Rows.{aggregate, is_some_row, item_at, matching, ordered}
-use Rattle.mv_alone.specs.Alone.{fixed, offset_of}
+use Rattle.mv_eval.specs.declared.state.Env.{Env}
+use Rattle.mv_eval.specs.declared.state.Stop.{Stop}
+use Rattle.mv_eval.specs.declared.state.Stop.TheVariants.{Memory, Ended}
+use Rattle.mv_eval.specs.Results.{Fails, then_do}
+use Rattle.mv_eval.specs.Rows.{aggregate, is_some_row, item_at, matching, ordered}
+use Rattle.mv_eval.specs.Alone.{fixed, offset_of}
 use Rattle.mv_record.specs.declared.effect.Effect.{Effect}
 use Rattle.mv_recorded.specs.Asking.{on, column_in, columns_in, with_sorts, first_fault, preds_up_to, update_checks, delete_checks}
 use Rattle.mv_recorded.specs.Doing.{write}

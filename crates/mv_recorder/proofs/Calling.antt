@@ -8,8 +8,8 @@ use Rattle.mv_values.specs.Tables.{Tables}
 use Rattle.mv_catalog.specs.declared.resolved.Program.{Program}
 use Rattle.mv_catalog.specs.declared.resolved.ProcInfo.{ProcInfo}
 use Rattle.mv_catalog.specs.Text.{IsProcedure, IsCall, Suits}
-use Rattle.mv_alone.specs.Alone.{alone}
-use Rattle.mv_alone.specs.TableAfter.{begun, outcome, outcome_at, outcome_in}
+use Rattle.mv_eval.specs.Alone.{alone}
+use Rattle.mv_eval.specs.TableAfter.{begun, result_of, result_at, result_in}
 use Rattle.mv_record.specs.Databases.{IsDatabaseOf, IsProgram}
 use Rattle.mv_recorded.specs.Recorded.{recorded, records, records_at, records_in}
 use Rattle.mv_recorded.proofs.RowsTyped.{all_get}
@@ -30,8 +30,8 @@ is_called p number call proc h is i are = record {
 pub called_records : (p : Program) (number : ℕ) (call : Call) (proc : ProcInfo) (db : Tables) → IsCalled p number call proc → recorded p.resolved.tables proc call db ≡ records p number db
 called_records p number call proc db c = sym (ap (λ o. records_at p o db) c.call_at ∙ ap (λ o. records_in p o call db) c.proc_at)
 
-pub called_outcome : (p : Program) (number : ℕ) (call : Call) (proc : ProcInfo) (db : Tables) → IsCalled p number call proc → alone p.resolved.tables proc.body (begun proc call db) ≡ outcome p number db
-called_outcome p number call proc db c = sym (ap (λ o. outcome_at p o db) c.call_at ∙ ap (λ o. outcome_in p o call db) c.proc_at)
+pub called_outcome : (p : Program) (number : ℕ) (call : Call) (proc : ProcInfo) (db : Tables) → IsCalled p number call proc → alone p.resolved.tables proc.body (begun proc call db) ≡ result_of p number db
+called_outcome p number call proc db c = sym (ap (λ o. result_at p o db) c.call_at ∙ ap (λ o. result_in p o call db) c.proc_at)
 
 pub called_procedure : (p : Program) (number : ℕ) (call : Call) (proc : ProcInfo) → IsProgram p → IsCalled p number call proc → IsProcedure p.resolved.tables proc
 called_procedure p number call proc whole c = all_get (IsProcedure p.resolved.tables) p.resolved.procedures call.procedure proc whole.text.procedures c.proc_at

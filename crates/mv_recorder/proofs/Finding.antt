@@ -1,7 +1,7 @@
 -- What an attempt finds, by what is said of it.
 use Rattle.std.proofs.Common.{Result, Ok, Err}
-use Rattle.mv_alone.specs.declared.state.Stop.{Stop}
-use Rattle.mv_alone.specs.declared.state.Stop.TheVariants.{Memory, Ended}
+use Rattle.mv_eval.specs.declared.state.Stop.{Stop}
+use Rattle.mv_eval.specs.declared.state.Stop.TheVariants.{Memory, Ended}
 use Rattle.mv_record.specs.declared.effect.Effect.{Effect}
 use Rattle.mv_recorder.specs.Scenes.{Finds}
 

@@ -8,14 +8,14 @@ use Rattle.mv_values.specs.Tables.{key_columns}
 use Rattle.mv_catalog.specs.declared.resolved.RStmt.{RStmt, out-RStmt, roll-out-RStmt, map-RStmt}
 use Rattle.mv_catalog.specs.declared.resolved.RStmt.TheOpen.{RStmt-F, Assign, Select, Total, ForSelect, ForRows, Branch, Insert, Update, Delete, Print, Rollback}
 use Rattle.mv_catalog.specs.Statements.{size, size_of as count_of}
-use Rattle.mv_alone.specs.declared.state.State.{State}
-use Rattle.mv_alone.specs.declared.state.Stop.{Stop}
-use Rattle.mv_alone.specs.declared.state.Stop.TheVariants.{Memory, Ended}
-use Rattle.mv_alone.specs.Env.{turns_at}
-use Rattle.mv_alone.specs.Outcome.{then_do, Fails}
-use Rattle.mv_alone.specs.Value.{value_of, is_so}
-use Rattle.mv_alone.specs.Rows.{tests_of}
-use Rattle.mv_alone.specs.Alone.{Does, does, alone, stmt_step, matching_in, fixed, each_turn, loop_over}
+use Rattle.mv_eval.specs.declared.state.State.{State}
+use Rattle.mv_eval.specs.declared.state.Stop.{Stop}
+use Rattle.mv_eval.specs.declared.state.Stop.TheVariants.{Memory, Ended}
+use Rattle.mv_eval.specs.Env.{turns_at}
+use Rattle.mv_eval.specs.Results.{then_do, Fails}
+use Rattle.mv_eval.specs.Value.{value_of, is_so}
+use Rattle.mv_eval.specs.Rows.{tests_of}
+use Rattle.mv_eval.specs.Alone.{Does, does, alone, stmt_step, matching_in, fixed, each_turn, loop_over}
 use Rattle.mv_record.specs.declared.record.Record.{Record}
 use Rattle.mv_recorded.specs.Asking.{on}
 use Rattle.mv_recorded.specs.Doing.{fixed_rows, itself, before_turns}

@@ -6,11 +6,11 @@ use Rattle.mv_values.specs.declared.value.Value.{Value}
 use Rattle.mv_values.specs.declared.schema.TableInfo.{TableInfo}
 use Rattle.mv_values.proofs.Deciding.{from_place}
 use Rattle.mv_catalog.specs.declared.resolved.RStmt.{RStmt}
-use Rattle.mv_alone.specs.declared.state.State.{State}
-use Rattle.mv_alone.specs.declared.state.Content.TheVariants.{Turn}
-use Rattle.mv_alone.specs.Outcome.{then_do}
-use Rattle.mv_alone.specs.Env.{with_held}
-use Rattle.mv_alone.specs.Alone.{Does, does, alone, each_turn}
+use Rattle.mv_eval.specs.declared.state.State.{State}
+use Rattle.mv_eval.specs.declared.state.Content.TheVariants.{Turn}
+use Rattle.mv_eval.specs.Results.{then_do}
+use Rattle.mv_eval.specs.Env.{with_held}
+use Rattle.mv_eval.specs.Alone.{Does, does, alone, each_turn}
 
 pub done_statement : (tables : List TableInfo) (ss : List RStmt) (k : ℕ) (s : RStmt) (st next : State) (all : Result State End) → k < length ss → s ≡ get_or ss k s
     → does tables s st ≡ Ok next → alone tables (drop k ss) st ≡ all → alone tables (drop (k + 1) ss) next ≡ all

@@ -6,8 +6,8 @@ use Rattle.mv_values.specs.declared.calls.End.{End}
 use Rattle.mv_values.specs.Tables.{Tables}
 use Rattle.mv_catalog.specs.declared.resolved.ProcInfo.{ProcInfo}
 use Rattle.mv_catalog.specs.Text.{IsProcedure, vars_of}
-use Rattle.mv_alone.specs.declared.state.State.{State}
-use Rattle.mv_alone.specs.TableAfter.{begun, reply_in}
+use Rattle.mv_eval.specs.declared.state.State.{State}
+use Rattle.mv_eval.specs.TableAfter.{begun, reply_in}
 use Rattle.mv_recorder.specs.Running.{AreFit, Ends, replied}
 use Rattle.mv_recorder.specs.Scenes.{AreSound, IsSound}
 

@@ -8,12 +8,12 @@ use Rattle.mv_catalog.specs.declared.resolved.RStmt.{RStmt}
 use Rattle.mv_catalog.specs.declared.resolved.RStmt.TheOpen.{RStmt-F, ForSelect, ForRows, Branch}
 use Rattle.mv_catalog.specs.Statements.{all_well, IsWell, size_of}
 use Rattle.mv_catalog.specs.Types.{Vars}
-use Rattle.mv_alone.specs.declared.state.State.{State}
-use Rattle.mv_alone.specs.declared.state.Stop.{Stop}
-use Rattle.mv_alone.specs.declared.state.Stop.TheVariants.{Memory, Ended}
-use Rattle.mv_alone.specs.Outcome.{then_do}
-use Rattle.mv_alone.specs.Value.{value_of, is_so}
-use Rattle.mv_alone.specs.Alone.{Does, alone, each_turn}
+use Rattle.mv_eval.specs.declared.state.State.{State}
+use Rattle.mv_eval.specs.declared.state.Stop.{Stop}
+use Rattle.mv_eval.specs.declared.state.Stop.TheVariants.{Memory, Ended}
+use Rattle.mv_eval.specs.Results.{then_do}
+use Rattle.mv_eval.specs.Value.{value_of, is_so}
+use Rattle.mv_eval.specs.Alone.{Does, alone, each_turn}
 use Rattle.mv_record.specs.declared.record.Record.{Record}
 use Rattle.mv_recorded.specs.Asking.{on}
 use Rattle.mv_recorded.specs.Recorded.{Site, tell_statements, tell_turns, within, within_loop}

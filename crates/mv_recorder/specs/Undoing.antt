@@ -2,8 +2,8 @@
 use Rattle.std.specs.Prelude.{◌≡◌, List, [], ◌∷◌, slice_set, Result, Ok, Err}
 use Rattle.mv_values.specs.Patching.{placed}
 use Rattle.mv_values.specs.Tables.{rows_at, Tables}
-use Rattle.mv_alone.specs.declared.state.Stop.{Stop}
-use Rattle.mv_alone.specs.declared.state.Stop.TheVariants.{Memory, Ended}
+use Rattle.mv_eval.specs.declared.state.Stop.{Stop}
+use Rattle.mv_eval.specs.declared.state.Stop.TheVariants.{Memory, Ended}
 use Rattle.mv_recorder.specs.declared.undo.Was.{Was}
 
 -- the database with the row under a key as it was

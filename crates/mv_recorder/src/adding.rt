@@ -2,7 +2,7 @@
 
 ghost use Rattle.std.specs.Prelude.{◌≡◌, ◌∷◌, ◌++◌, [], List as Seq, IfOk, OnOk, option_to_list};
 ghost use Rattle.mv_catalog.specs.declared.resolved.RStmt.{out-RStmt};
-ghost use Rattle.mv_alone.specs.Outcome.{Leaves};
+ghost use Rattle.mv_eval.specs.Results.{Leaves};
 ghost use Rattle.mv_record.specs.declared.record.Record.{Record as LeftRecord};
 ghost use Rattle.mv_recorded.specs.Doing.{itself};
 ghost use Rattle.mv_recorded.specs.Effect.{behind};
@@ -19,8 +19,8 @@ use crate::scene::Scene;
 use crate::sites::Site;
 use crate::slots::set_slots;
 use crate::undo::{Was, write_all};
-use mv_alone::state::{State, Stop};
 use mv_catalog::resolved::RStmt;
+use mv_eval::state::{State, Stop};
 use mv_record::record::{Record, Spot};
 use mv_values::calls::End;
 use mv_values::copied::Copied;

@@ -3,15 +3,15 @@
 ghost use Rattle.std.specs.Prelude.{◌≡◌, ◌∷◌, [], IfOk, map};
 ghost use Rattle.mv_values.specs.Keys.{IsRising};
 ghost use Rattle.mv_values.specs.Patching.{found_by};
-ghost use Rattle.mv_alone.specs.Rows.{is_some_row};
+ghost use Rattle.mv_eval.specs.Rows.{is_some_row};
 ghost use Rattle.mv_recorded.specs.Asking.{KnowsKey};
 ghost use Rattle.mv_recorded.specs.Effects.{empty, only_asks, only_end};
 ghost use Rattle.mv_recorder.specs.Scenes.{IsSound, EndsBy};
 ghost use Rattle.mv_table.specs.Entries.{seen};
 
 use crate::scene::Scene;
-use mv_alone::find::found_in;
-use mv_alone::state::Stop;
+use mv_eval::find::found_in;
+use mv_eval::state::Stop;
 use mv_record::effect::Effect;
 use mv_record::record::Slot;
 use mv_table::table::Entry;

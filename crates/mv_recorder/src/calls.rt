@@ -1,7 +1,7 @@
 //! Runs the calls of a program.
 
 ghost use Rattle.std.specs.Prelude.{◌≡◌, [], IfOk};
-ghost use Rattle.mv_alone.specs.TableAfter.{no_reply, outcome, reply_in};
+ghost use Rattle.mv_eval.specs.TableAfter.{no_reply, result_of, reply_in};
 ghost use Rattle.mv_record.specs.Databases.{IsDatabaseOf, IsProgram};
 ghost use Rattle.mv_recorded.specs.Recorded.{records};
 
@@ -40,7 +40,7 @@ pub fn run_call(
     requires whole { IsProgram program.now }
     requires database { IsDatabaseOf program.now.resolved.tables tables }
     ensures records { IfOk result (λ r. r.records ≡ records program.now number tables) }
-    ensures reply { IfOk result (λ r. r.reply ≡ reply_in (outcome program.now number tables)) }
+    ensures reply { IfOk result (λ r. r.reply ≡ reply_in (result_of program.now number tables)) }
     ensures tables { IfOk result (λ r. r.tables ≡ tables) }
 {
     let Some(call) = program.resolved.calls.as_slice().get(number as usize) else {

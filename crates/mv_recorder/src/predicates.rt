@@ -2,16 +2,16 @@
 
 ghost use Rattle.std.specs.Prelude.{◌≡◌, ◌<◌, ◌≤◌, ◌++◌, IfOk, OnOk, All, length, []};
 ghost use Rattle.std.specs.List.{flat_map};
-ghost use Rattle.mv_alone.specs.Outcome.{Gives};
+ghost use Rattle.mv_eval.specs.Results.{Gives};
 ghost use Rattle.mv_recorded.specs.Asking.{columns_in, column_in, with_sorts, KnowsKey};
 ghost use Rattle.mv_catalog.specs.Text.{IsTable};
 ghost use Rattle.mv_recorded.specs.Effects.{asks};
 ghost use Rattle.mv_recorded.specs.Naming.{Tests, AreColumns};
 
 use crate::numbers::{narrow, narrow_all};
-use mv_alone::find::tests_from;
-use mv_alone::state::{Env, Stop};
 use mv_catalog::resolved::{Query, RAgg, RCond, RExpr, RExprKind, RSetItem, RSort, Update};
+use mv_eval::find::tests_from;
+use mv_eval::state::{Env, Stop};
 use mv_recorded::reads::once_each;
 use mv_values::list::List;
 use mv_values::memory::NoMemory;

@@ -2,8 +2,8 @@
 
 ghost use Rattle.std.specs.Prelude.{◌≡◌, ◌++◌, [], IfOk, OnOk, length};
 ghost use Rattle.mv_catalog.specs.Text.{IsProcedure};
-ghost use Rattle.mv_alone.specs.Alone.{alone};
-ghost use Rattle.mv_alone.specs.TableAfter.{begun, reply_in};
+ghost use Rattle.mv_eval.specs.Alone.{alone};
+ghost use Rattle.mv_eval.specs.TableAfter.{begun, reply_in};
 ghost use Rattle.mv_recorded.specs.Recorded.{outside, recorded, tell_statements};
 ghost use Rattle.mv_record.specs.Runs.{writes_in};
 ghost use Rattle.mv_values.specs.Patching.{applied};
@@ -15,9 +15,9 @@ use crate::adding::{Run, Text};
 use crate::running::run_all;
 use crate::sites::Site;
 use crate::undo::{put_all_back, write_all};
-use mv_alone::enter::variables_for;
-use mv_alone::state::{State, Stop};
 use mv_catalog::resolved::{ProcInfo, RStmt};
+use mv_eval::enter::variables_for;
+use mv_eval::state::{State, Stop};
 use mv_record::record::Record;
 use mv_table::table::Tables;
 use mv_values::calls::{Call, End, Reply};

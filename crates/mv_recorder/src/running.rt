@@ -3,9 +3,9 @@
 ghost use Rattle.std.specs.Prelude.{◌≡◌, ◌<◌, ◌+◌, ◌^◌, ◌++◌, [], Ok, OnOk, map};
 ghost use Rattle.mv_catalog.specs.declared.resolved.RStmt.{out-RStmt};
 ghost use Rattle.mv_catalog.specs.Statements.{size, total_size};
-ghost use Rattle.mv_alone.specs.Alone.{alone, does, each_turn};
-ghost use Rattle.mv_alone.specs.Outcome.{Gives, Leaves, then_do};
-ghost use Rattle.mv_alone.specs.Value.{value_of, is_so};
+ghost use Rattle.mv_eval.specs.Alone.{alone, does, each_turn};
+ghost use Rattle.mv_eval.specs.Results.{Gives, Leaves, then_do};
+ghost use Rattle.mv_eval.specs.Value.{value_of, is_so};
 ghost use Rattle.mv_recorded.specs.Recorded.{tell, tell_statements, tell_turns};
 ghost use Rattle.mv_recorder.specs.Running.{Leave, AreFit, IsFit, IsBranchFit, HoldsFit, tell_held, does_held};
 ghost use Rattle.mv_recorder.specs.Scenes.{IsSound};
@@ -14,11 +14,11 @@ ghost use Rattle.mv_recorder.specs.Undoing.{StaysBack};
 
 use crate::adding::{Run, Text, add, last_rows};
 use crate::sites::Site;
-use mv_alone::env::set_held;
-use mv_alone::expr::holds;
-use mv_alone::state::{Content, Env, Stop};
 use mv_catalog::resolved::{RExpr, RStmt};
 use mv_catalog::sizes::{size_of, size_of_all};
+use mv_eval::env::set_held;
+use mv_eval::expr::holds;
+use mv_eval::state::{Content, Env, Stop};
 use mv_values::copied::Copied;
 use mv_values::value::Row;
 use std::alloc::Global;

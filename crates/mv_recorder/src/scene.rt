@@ -1,6 +1,6 @@
 //! What a statement is executed on.
 
-use mv_alone::state::Env;
+use mv_eval::state::Env;
 use mv_table::table::Tables;
 use mv_values::schema::TableInfo;
 

@@ -3,8 +3,8 @@
 ghost use Rattle.std.specs.Prelude.{◌≡◌, ◌<◌, ◌^◌, ◌∷◌, ◌++◌, [], IfOk, OnOk};
 ghost use Rattle.std.specs.Option.{is_some, option_copied, option_map};
 ghost use Rattle.mv_values.specs.Columns.{columns_of};
-ghost use Rattle.mv_alone.specs.Alone.{with_selected, totalled};
-ghost use Rattle.mv_alone.specs.Env.{scalar_at, with_found};
+ghost use Rattle.mv_eval.specs.Alone.{with_selected, totalled};
+ghost use Rattle.mv_eval.specs.Env.{scalar_at, with_found};
 ghost use Rattle.mv_record.specs.declared.record.Slot.{Slot};
 ghost use Rattle.mv_recorded.specs.Doing.{when};
 ghost use Rattle.mv_recorded.specs.Effect.{with_slots};
@@ -12,8 +12,8 @@ ghost use Rattle.mv_recorded.specs.Effects.{slots_behind};
 ghost use Rattle.mv_recorded.specs.Reading.{each_once};
 ghost use Rattle.mv_table.specs.Entries.{seen};
 
-use mv_alone::env::{set_columns, set_found, set_value};
-use mv_alone::state::{Content, Env};
+use mv_eval::env::{set_columns, set_found, set_value};
+use mv_eval::state::{Content, Env};
 use mv_record::record::Slot;
 use mv_recorded::reads::once_each;
 use mv_table::table::Entry;

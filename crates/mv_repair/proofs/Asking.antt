@@ -15,7 +15,7 @@ use Rattle.mv_effect.proofs.Different.{different_more}
 use Rattle.mv_history.specs.declared.change.Change.{Change}
 use Rattle.mv_history.specs.Kept.{Path, Placed, with_paths, next_placed, is_path, among, kept_paths}
 use Rattle.mv_repair.specs.Repairing.{queried}
-use Rattle.mv_alike.proofs.Placing.{placed_more}
+use Rattle.mv_soundness.proofs.Placing.{placed_more}
 use Rattle.mv_repair.proofs.Marking.{among_still}
 
 -- Keys

@@ -17,17 +17,17 @@ use Rattle.mv_record.specs.Paths.{paths, IsEarlierPath}
 use Rattle.mv_record.specs.Runs.{IsEarlier, ReadsEarlier, NamesEarlier}
 use Rattle.mv_recorded.specs.Own.{Each}
 use Rattle.mv_recorded.proofs.Held.{get_last}
-use Rattle.mv_exec.specs.Foreseen.{Ahead}
+use Rattle.mv_exec.specs.Peeked.{Ahead}
 use Rattle.mv_history.specs.declared.change.Change.{Change}
 use Rattle.mv_history.specs.Hits.{any_hits, touches}
 use Rattle.mv_history.specs.Kept.{Path, Placed, with_paths, is_path, at, front, path_at, is_kept, reads_stay, other_writes, is_untouched, stays_with, stays}
-use Rattle.mv_alike.proofs.Keeping.{Climbs}
-use Rattle.mv_alike.proofs.Placing.{path_is, path_self, apart_back, its_all, many_placed}
+use Rattle.mv_soundness.proofs.Keeping.{Climbs}
+use Rattle.mv_soundness.proofs.Placing.{path_is, path_self, apart_back, its_all, many_placed}
 use Rattle.mv_repair.specs.declared.walk.OldRun.{OldRun}
 use Rattle.mv_repair.specs.declared.walk.NewRun.{NewRun}
 use Rattle.mv_repair.specs.Walking.{is_before, is_in_place, writes_at, hits_in, is_touched, is_kept_by, reads_by, record_stays, next_stays, stays_at, IsOld, IsNew}
 use Rattle.mv_recorded.proofs.Inverting.{each_join, each_map}
-use Rattle.mv_alike.proofs.Walking.{earlier_then, climbs_parts, at_past}
+use Rattle.mv_soundness.proofs.Walking.{earlier_then, climbs_parts, at_past}
 use Rattle.mv_repair.proofs.Lists.{first_dropped, any_of_all}
 use Rattle.mv_repair.proofs.Marking.{controller_is, definers_are}
 use Rattle.mv_repair.proofs.Passing.{all_apart, coming_paths, next_is, none_comes, old_lower}

@@ -11,8 +11,8 @@ use Rattle.mv_record.specs.Paths.{IsEarlierPath}
 use Rattle.mv_record.specs.Runs.{IsEarlier, ReadsEarlier}
 use Rattle.mv_recorded.specs.Own.{Each}
 use Rattle.mv_history.specs.Kept.{Path, Placed, is_path, among, path_at, is_kept, same_path, reads_stay}
-use Rattle.mv_alike.proofs.Keeping.{Climbs, among_more, one_number}
-use Rattle.mv_alike.proofs.Placing.{path_is, path_self, apart_back}
+use Rattle.mv_soundness.proofs.Keeping.{Climbs, among_more, one_number}
+use Rattle.mv_soundness.proofs.Placing.{path_is, path_self, apart_back}
 use Rattle.mv_repair.specs.Walking.{kept_as, is_number, is_kept_by, is_old, same_definer, reads_by, IsMarked, AreMarked}
 
 -- Paths

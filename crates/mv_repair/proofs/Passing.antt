@@ -15,13 +15,13 @@ use Rattle.mv_recorded.proofs.Held.{get_last}
 use Rattle.mv_history.specs.declared.change.Change.{Change}
 use Rattle.mv_history.specs.Hits.{any_hits}
 use Rattle.mv_history.specs.Kept.{Path, Placed, with_paths, is_path, among, other_writes}
-use Rattle.mv_alike.proofs.Keeping.{Climbs, among_new}
-use Rattle.mv_alike.proofs.Placing.{apart, its, its_all, many_placed, placed_paths}
+use Rattle.mv_soundness.proofs.Keeping.{Climbs, among_new}
+use Rattle.mv_soundness.proofs.Placing.{apart, its, its_all, many_placed, placed_paths}
 use Rattle.mv_repair.specs.declared.walk.OldRun.{OldRun}
 use Rattle.mv_repair.specs.Keys.{TableKeys}
 use Rattle.mv_repair.specs.Walking.{any_write, noted, is_before, hits_in, writes_of, next_writes, next_passed, AreKnown, HasLearnt, IsOld, HasPassed, writes_at}
 use Rattle.mv_recorded.proofs.Inverting.{each_join, each_map}
-use Rattle.mv_alike.proofs.Walking.{earlier_then, climbs_parts}
+use Rattle.mv_soundness.proofs.Walking.{earlier_then, climbs_parts}
 use Rattle.mv_repair.proofs.Lists.{drop_past, first_dropped, none_dropped, next_dropped}
 use Rattle.mv_repair.proofs.Marking.{not_among, among_still}
 

@@ -15,7 +15,7 @@ use Rattle.mv_exec.specs.Running.{IsTaskOf, IsTaskOn, IsSameCall, IsUnchanged}
 use Rattle.mv_exec.proofs.Fronts.{ends_exactly, one_run}
 use Rattle.mv_history.specs.declared.change.Change.{Change}
 use Rattle.mv_history.specs.Kept.{Placed, with_paths, executions, kept_paths}
-use Rattle.mv_alike.proofs.Placing.{its_all}
+use Rattle.mv_soundness.proofs.Placing.{its_all}
 use Rattle.mv_repair.specs.declared.walk.OldRun.{OldRun}
 use Rattle.mv_repair.specs.declared.walk.NewRun.{NewRun}
 use Rattle.mv_repair.specs.Keys.{TableKeys}

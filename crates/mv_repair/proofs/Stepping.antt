@@ -25,18 +25,18 @@ use Rattle.mv_effect.specs.Looking.{AskedFor, different}
 use Rattle.mv_graph.specs.declared.graph.Graph.{Graph}
 use Rattle.mv_graph.specs.Nodes.{meaning_of}
 use Rattle.mv_exec.specs.declared.task.Task.{Task}
-use Rattle.mv_exec.specs.Foreseen.{Ahead}
-use Rattle.mv_exec.specs.Running.{IsTaskOf, IsTaskOn, IsSameCall, IsSameCallOn, HasLeft, Foresees, IsAhead, HasContent, HasRun}
+use Rattle.mv_exec.specs.Peeked.{Ahead}
+use Rattle.mv_exec.specs.Running.{IsTaskOf, IsTaskOn, IsSameCall, IsSameCallOn, HasLeft, Peeks, IsAhead, HasContent, HasRun}
 use Rattle.mv_exec.proofs.Adding.{first_same}
 use Rattle.mv_effect.proofs.Asked.{asked_both}
 use Rattle.mv_exec.proofs.Fronts.{fewer_left}
 use Rattle.mv_history.specs.declared.change.Change.{Change}
 use Rattle.mv_history.specs.Kept.{Path, Placed, with_paths, next_placed, is_path, among, at, stays, keep, kept_paths, other_writes}
 use Rattle.mv_history.proofs.Joining.{placed_front}
-use Rattle.mv_alike.specs.Laws.{AreAlike}
-use Rattle.mv_alike.proofs.Keeping.{Climbs, climbs_of, among_new}
-use Rattle.mv_alike.proofs.Meant.{next_same}
-use Rattle.mv_alike.proofs.Placing.{path_is, path_self, many_placed, placed_more, placed_paths}
+use Rattle.mv_soundness.specs.Laws.{AreAlike}
+use Rattle.mv_soundness.proofs.Keeping.{Climbs, climbs_of, among_new}
+use Rattle.mv_soundness.proofs.Meant.{next_same}
+use Rattle.mv_soundness.proofs.Placing.{path_is, path_self, many_placed, placed_more, placed_paths}
 use Rattle.mv_repair.specs.declared.walk.OldRun.{OldRun}
 use Rattle.mv_repair.specs.declared.walk.NewRun.{NewRun}
 use Rattle.mv_repair.specs.Keys.{TableKeys}
@@ -46,7 +46,7 @@ use Rattle.mv_repair.specs.Stepping.{HasStepped, IsOnWay}
 use Rattle.mv_repair.proofs.Asking.{keys_within, keys_more, executed_asks, kept_asks, still_queried}
 use Rattle.mv_repair.proofs.Deciding.{Decides, Found, decided, found_old, names_at, not_before, in_own_place, in_place_is}
 use Rattle.mv_recorded.proofs.Inverting.{each_join, each_map}
-use Rattle.mv_alike.proofs.Walking.{climbs_parts}
+use Rattle.mv_soundness.proofs.Walking.{climbs_parts}
 use Rattle.mv_repair.proofs.Lists.{writes_before, each_take}
 use Rattle.mv_repair.proofs.Marking.{not_among, marks_more, marks_still}
 use Rattle.mv_repair.proofs.Passing.{all_apart, behind_first, others_both, others_still, one_other, no_other, noted_writes, noted_below, noted_longer, noted_take, old_kept, old_left, old_met, behind_rest}
@@ -79,7 +79,7 @@ pub comes : (g : Graph) (changes : List Change) (db : Tables) (os : List Record)
     → p ≡ path_behind task.log.records ahead.spot ahead.parent → Comes g changes db os task old new u ahead p
 comes g changes db os task old new u ahead p next is = by u.left refl (next u.call db u.left u.is u.runs.new_is.rising u.leaves)
   where
-    by : (l : List Record) → u.left ≡ l → Foresees (Some ahead) l → Comes g changes db os task old new u ahead p
+    by : (l : List Record) → u.left ≡ l → Peeks (Some ahead) l → Comes g changes db os task old new u ahead p
     by [] e f = absurd f
     by (r ∷ tail) e f =
         let all : (meaning_of g u.call db).records ≡ task.log.records ++ r ∷ tail = u.leaves ∙ ap (λ l. task.log.records ++ l) e in

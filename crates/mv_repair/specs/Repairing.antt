@@ -15,7 +15,7 @@ use Rattle.mv_exec.specs.declared.task.Task.{Task}
 use Rattle.mv_exec.specs.Running.{IsTaskOn}
 use Rattle.mv_history.specs.declared.change.Change.{Change}
 use Rattle.mv_history.specs.Kept.{with_paths, among, kept_paths}
-use Rattle.mv_alike.specs.Laws.{AreRuns}
+use Rattle.mv_soundness.specs.Laws.{AreRuns}
 use Rattle.mv_changes.specs.declared.recent.Committed.{Committed}
 use Rattle.mv_changes.specs.Admitting.{AreAdmitted}
 use Rattle.mv_changes.specs.Commits.{changes_in}

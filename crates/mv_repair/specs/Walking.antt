@@ -16,12 +16,12 @@ use Rattle.mv_recorded.specs.Own.{Each}
 use Rattle.mv_graph.specs.declared.graph.Graph.{Graph}
 use Rattle.mv_graph.specs.Nodes.{meaning_of}
 use Rattle.mv_exec.specs.declared.task.Task.{Task}
-use Rattle.mv_exec.specs.Foreseen.{Ahead}
+use Rattle.mv_exec.specs.Peeked.{Ahead}
 use Rattle.mv_exec.specs.Running.{IsTaskOf, HasLeft, HasAdopted, GoesOnWith}
 use Rattle.mv_history.specs.declared.change.Change.{Change}
 use Rattle.mv_history.specs.Hits.{any_hits, touches, touches_predicate}
 use Rattle.mv_history.specs.Kept.{Path, Placed, with_paths, is_path, among, other_writes, kept_paths}
-use Rattle.mv_alike.specs.Laws.{AreRuns}
+use Rattle.mv_soundness.specs.Laws.{AreRuns}
 use Rattle.mv_changes.specs.declared.recent.Committed.{Committed}
 use Rattle.mv_repair.specs.Keys.{TableKeys, has_key}
 use Rattle.mv_repair.specs.declared.walk.OldRun.{OldRun}

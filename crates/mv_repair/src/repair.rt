@@ -84,7 +84,7 @@ fn renew<'s, V: View<'s>>(
     let number = task.records().len();
     new.add_executed(number)?;
     next(alloc, graph, task, view)?;
-    new.settle(has_writes(&task.records(), number));
+    new.retain_last(has_writes(&task.records(), number));
     Ok(())
 }
 

@@ -144,7 +144,7 @@ impl OldRun {
 
     /// Passes the records with paths before that of the record ahead. The new run doesn't keep them. Works paths out only
     /// if the next record isn't in the place ahead. Returns whether the next record is there then.
-    fn come_to(&mut self, alloc: Global, task: &Task, ahead: &Ahead<'_>) -> Result<bool, NoMemory>
+    fn seek(&mut self, alloc: Global, task: &Task, ahead: &Ahead<'_>) -> Result<bool, NoMemory>
         requires { self.old.known ≤ length self.old.others }
         ensures passed { OnOk result (HasPassed task.now.log.past self.old (path_behind task.now.log.records ahead.now.spot ahead.now.parent) self.new) }
         ensures stops { OnOk result (IsComeTo task.now.log.past self.new.at ahead.now.spot (path_behind task.now.log.records ahead.now.spot ahead.now.parent)) }
@@ -176,7 +176,7 @@ impl OldRun {
         ensures on { OnOk result (self.old.at ≤ self.new.at) }
         ensures all { OnOk result (16 < length self.new.others → self.new.known ≡ length self.new.others) }
     {
-        let is_there = self.come_to(alloc, task, ahead)?;
+        let is_there = self.seek(alloc, task, ahead)?;
         let others = self.others.as_slice();
         self.known = learn(alloc, &mut self.keys, self.known, &task.past(), others)?;
         Ok(is_there)
@@ -223,7 +223,7 @@ impl NewRun {
     }
 
     /// Drops the last number noted, if its record made no writes.
-    pub(crate) fn settle(&mut self, writes: bool)
+    pub(crate) fn retain_last(&mut self, writes: bool)
         ensures { (numbers : Seq ℕ) (number : ℕ) → self.old.others ≡ noted true number numbers → self.new ≡ record self.old { others = noted writes number numbers } }
     {
         if !writes {

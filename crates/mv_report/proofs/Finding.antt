@@ -19,7 +19,7 @@ use Rattle.mv_journal.specs.declared.outcome.Mark.TheVariants.{Plain, Exclusive,
 use Rattle.mv_journal.specs.declared.outcome.Round.{Round}
 use Rattle.mv_journal.specs.declared.outcome.HistoryLine.{HistoryLine}
 use Rattle.mv_journal.specs.declared.outcome.Outcome.{Outcome}
-use Rattle.mv_alone.specs.Line.{printed, printed_after, line_of}
+use Rattle.mv_eval.specs.Line.{printed, printed_after, line_of}
 use Rattle.mv_lawful.specs.Rounds.{last_start}
 use Rattle.mv_report.specs.Text.{in_quotes, reason_text, answer_text, reply_text, replies_text, mark_text, count_text, starts_text, counts_text, rounds_text, place_text, line_text, history_text, journal_text, tables_text, text_of}
 use Rattle.mv_report.specs.Shown.{IsPrinted}

@@ -4,10 +4,10 @@ use Rattle.mv_values.specs.declared.calls.Call.{Call}
 use Rattle.mv_values.specs.declared.calls.Options.{Options}
 use Rattle.mv_catalog.specs.declared.resolved.ProcInfo.{ProcInfo}
 use Rattle.mv_catalog.specs.declared.resolved.Program.{Program}
-use Rattle.mv_alone.specs.TableAfter.{outcome, tables_left, reply_in}
+use Rattle.mv_eval.specs.TableAfter.{result_of, tables_left, reply_in}
 use Rattle.mv_recorded.specs.Recorded.{records}
 use Rattle.mv_journal.specs.declared.event.Event.{Event}
-use Rattle.mv_lawful.specs.Work.{Work}
+use Rattle.mv_lawful.specs.Batch.{Batch}
 use Rattle.mv_lawful.specs.Lawful.{Lawful}
 use Rattle.mv_lawful.specs.Rounds.{IsBounded}
 use Rattle.mv_lawful.specs.Outcomes.{outcome_of, shown, in_turn as turns}
@@ -25,11 +25,11 @@ reads_in procedures (Some call) = reads_by (slice_get procedures call.procedure)
 abbrev pub is_read_only : Program → ℕ → Bool
 is_read_only p c = reads_in p.resolved.procedures (slice_get p.resolved.calls c)
 
--- the work of a program: a call leaves the records of its full run, and the reply and the database of the whole-table
+-- the batch of a program: a call leaves the records of its full run, and the reply and the database of the whole-table
 -- machine
-abbrev pub work_of : Program → Options → Work
-work_of p options = record {
-  run = λ c db. record { records = records p c db; reply = reply_in (outcome p c db); tables = tables_left db (outcome p c db) };
+abbrev pub batch_of : Program → Options → Batch
+batch_of p options = record {
+  run = λ c db. record { records = records p c db; reply = reply_in (result_of p c db); tables = tables_left db (result_of p c db) };
   read_only = is_read_only p;
   count = length p.resolved.calls;
   opening = p.opening;
@@ -38,7 +38,7 @@ work_of p options = record {
 
 -- Text: the text of a journal
 abbrev pub text : Program → Options → List Event → List ℕ
-text p options journal = text_of p.resolved.tables (outcome_of (work_of p options) journal)
+text p options journal = text_of p.resolved.tables (outcome_of (batch_of p options) journal)
 
 -- the journal of one worker: each call begins and ends before the next begins
 abbrev pub in_turn : Program → List Event
@@ -49,6 +49,6 @@ in_turn p = turns (is_read_only p) (length p.resolved.calls)
 pub record IsRunText (p : Program) (options : Options) (bytes : List ℕ) : Type 0 where
   pub journal : List Event
   pub printed : shown journal ≡ journal
-  pub lawful : Lawful (work_of p options) journal
-  pub bounded : IsBounded (work_of p options) journal
+  pub lawful : Lawful (batch_of p options) journal
+  pub bounded : IsBounded (batch_of p options) journal
   pub text_is : bytes ≡ text p options journal

@@ -6,7 +6,7 @@ use Rattle.mv_values.specs.declared.schema.TableInfo.{TableInfo}
 use Rattle.mv_journal.specs.declared.outcome.Outcome.{Outcome}
 use Rattle.mv_journal.specs.Events.{IsInRange}
 use Rattle.mv_lawful.specs.Outcomes.{shown}
-use Rattle.mv_alone.specs.Line.{line_of}
+use Rattle.mv_eval.specs.Line.{line_of}
 use Rattle.mv_report.specs.Text.{text_of}
 
 -- PRINT added the line

@@ -26,7 +26,7 @@ use Rattle.mv_names.specs.Named.{Text, place_named}
 use Rattle.mv_names.specs.Scope.{entry_of, type_of_value}
 use Rattle.mv_names.specs.Typing as names
 use Rattle.mv_names.specs.Typing.{Judged, Judges, judged, clash, in_place, misfit, read_type, read_faults, of_turn_type, of_turn_faults, turn_type, turn_faults, field_named, field_type, missing_field, left_wants, right_wants}
-use Rattle.mv_resolve.specs.declared.slot.Slot.{Slot}
+use Rattle.mv_resolve.specs.declared.slot.NamedSlot.{NamedSlot}
 use Rattle.mv_catalog.specs.declared.resolved.RExpr.{RExpr}
 use Rattle.mv_catalog.specs.declared.resolved.RExprKind.{RExprKind}
 use Rattle.mv_catalog.specs.declared.resolved.RExprKind.TheOpen as open'
@@ -42,7 +42,7 @@ use Rattle.mv_catalog.proofs.Typed.{typed}
 
 -- what is judged without faults has the type in the program
 abbrev pub Claim : Judges → Builds RExpr → Type 0
-Claim judges builds = (scope : List Entry) (slots : List Slot) (vars : Vars) (columns : List ColDef) → Matches scope slots vars → length columns ≤ 32
+Claim judges builds = (scope : List Entry) (slots : List NamedSlot) (vars : Vars) (columns : List ColDef) → Matches scope slots vars → length columns ≤ 32
     → (judges scope (Some columns)).faults ≡ [] → (t : Kind) × ((judges scope (Some columns)).type ≡ known t) × HasType vars (kinds_in columns) (builds slots columns) t
 
 abbrev pub KindClaim : (ℕ → Judges) → Builds RExprKind → Type 0
@@ -61,7 +61,7 @@ variable_means (Rows fields) v fs token means h = cc
 variable_means (Turn fields) v fs token means h = cc
 variable_means m v fs token means h = absurd means
 
-variable_same : (e : Option Entry) (s : Option Slot) (vars : Vars) (n : Name) (token : ℕ) → Same vars e s → read_faults n token e ≡ []
+variable_same : (e : Option Entry) (s : Option NamedSlot) (vars : Vars) (n : Name) (token : ℕ) → Same vars e s → read_faults n token e ≡ []
     → (t : Kind) × (read_type e ≡ known t) × (read (vars (number_in s)) ≡ Some t)
 variable_same None s vars n token same h = cc
 variable_same (Some e) None vars n token same h = absurd same
@@ -94,7 +94,7 @@ field_means (Turn fields) (turn ks) fs n token means h = field_by fields ks fs n
 field_means (Turn fields) v fs n token means h = absurd means
 field_means m v fs n token means h = cc
 
-field_same : (e : Option Entry) (s : Option Slot) (vars : Vars) (r n : Name) (token : ℕ) → Same vars e s → of_turn_faults r token e n ≡ []
+field_same : (e : Option Entry) (s : Option NamedSlot) (vars : Vars) (r n : Name) (token : ℕ) → Same vars e s → of_turn_faults r token e n ≡ []
     → (t : Kind) × (of_turn_type e n ≡ known t) × (field (vars (number_in s)) (small (place_named (λ t. t) (fields_in s) n.text)) ≡ Some t)
 field_same None s vars r n token same h = cc
 field_same (Some e) None vars r n token same h = absurd same

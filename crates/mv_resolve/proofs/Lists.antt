@@ -5,7 +5,7 @@ use Rattle.std.specs.List.{flat_map, AllByRecursion}
 use Rattle.mv_ast.proofs.Limited.{nothing_left as neither_left}
 use Rattle.std.proofs.lemmas.List.Elements.{All-nil, All-cons}
 use Rattle.mv_names.specs.Named.{Text, same_text, first_named, place_named}
-use Rattle.mv_names.specs.declared.fault.Fault.{Fault}
+use Rattle.mv_names.specs.declared.fault.TokenFault.{TokenFault}
 use Rattle.mv_names.specs.First.{when}
 use Rattle.mv_resolve.specs.Building.{small, tiny}
 
@@ -16,7 +16,7 @@ nothing_left xs ys h = (neither_left xs ys h).0
 pub nothing_right : {A : Type 0} (xs ys : List A) → xs ++ ys ≡ [] → ys ≡ []
 nothing_right xs ys h = (neither_left xs ys h).1
 
-pub not_when : (b : Bool) (f : Fault) → when b f ≡ [] → b ≡ false
+pub not_when : (b : Bool) (f : TokenFault) → when b f ≡ [] → b ≡ false
 not_when true f h = cc
 not_when false f h = refl
 

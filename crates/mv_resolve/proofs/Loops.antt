@@ -11,7 +11,7 @@ use Rattle.mv_names.specs.Named.{Text, same_text, first_named}
 use Rattle.mv_names.specs.Scope.{entry_of, selected_field, fields_of, rows_in}
 use Rattle.mv_names.specs.Typing.{column_faults}
 use Rattle.mv_names.specs.Statements.{rows_faults, not_rows}
-use Rattle.mv_resolve.specs.declared.slot.Slot.{Slot}
+use Rattle.mv_resolve.specs.declared.slot.NamedSlot.{NamedSlot}
 use Rattle.mv_resolve.specs.Building.{slot_named, number_in, fields_in, names_of, column_number}
 use Rattle.mv_catalog.specs.Types.{Kind, Var, rows, turn, Vars}
 use Rattle.mv_catalog.specs.Statements.{with_turn, CountsFrom}
@@ -57,21 +57,21 @@ fresh_step vars row m ts false e lt none = none
 pub fresh_behind : (vars : Vars) (row : ℕ) (ts : List Kind) → Fresh vars row → Fresh (with_turn vars row ts) (row + 1)
 fresh_behind vars row ts fresh m le = fresh_step vars row m ts (nat_eq m row) refl le (fresh m (omega arith))
 
-one_more : (vars : Vars) (e : Entry) (s : Slot) (v : Var) (b : Bool) → vars s.number ≡ Some v → Means e.binding v s.fields → Same vars (if b then Some e else None) (if b then Some s else None)
+one_more : (vars : Vars) (e : Entry) (s : NamedSlot) (v : Var) (b : Bool) → vars s.number ≡ Some v → Means e.binding v s.fields → Same vars (if b then Some e else None) (if b then Some s else None)
 one_more vars e s v true at means = (v, at, means)
 one_more vars e s v false at means = tt
 
-module _ (scope : List Entry) (slots : List Slot) (vars : Vars) (e : Entry) (s : Slot) (ts : List Kind) where
-  within : (x : Text) (o : Option Entry) (q : Option Slot) → Fresh vars s.number → e.name ≡ s.name → Means e.binding (turn ts) s.fields
+module _ (scope : List Entry) (slots : List NamedSlot) (vars : Vars) (e : Entry) (s : NamedSlot) (ts : List Kind) where
+  within : (x : Text) (o : Option Entry) (q : Option NamedSlot) → Fresh vars s.number → e.name ≡ s.name → Means e.binding (turn ts) s.fields
       → entry_of scope x ≡ o → slot_named slots x ≡ q → Same vars o q → Same (with_turn vars s.number ts) (entry_of (scope ++ e ∷ []) x) (slot_named (slots ++ s ∷ []) x)
   within x None None fresh name means io iq same =
-      subst₂ (Same (with_turn vars s.number ts)) (sym (first_behind (λ (y : Entry). y.name) scope (e ∷ []) x io)) (sym (first_behind (λ (y : Slot). y.name) slots (s ∷ []) x iq))
+      subst₂ (Same (with_turn vars s.number ts)) (sym (first_behind (λ (y : Entry). y.name) scope (e ∷ []) x io)) (sym (first_behind (λ (y : NamedSlot). y.name) slots (s ∷ []) x iq))
       (subst (λ n. Same (with_turn vars s.number ts) (if same_text e.name x then Some e else None) (if same_text n x then Some s else None)) name
       (one_more (with_turn vars s.number ts) e s (turn ts) (same_text e.name x) (turn_here vars s.number ts (nat_eq s.number s.number) refl) means))
   within x None (Some q) fresh name means io iq same = absurd same
   within x (Some o) None fresh name means io iq same = absurd same
   within x (Some o) (Some q) fresh name means io iq same =
-      subst₂ (Same (with_turn vars s.number ts)) (sym (first_before (λ (y : Entry). y.name) scope (e ∷ []) x o io)) (sym (first_before (λ (y : Slot). y.name) slots (s ∷ []) x q iq))
+      subst₂ (Same (with_turn vars s.number ts)) (sym (first_before (λ (y : Entry). y.name) scope (e ∷ []) x o io)) (sym (first_before (λ (y : NamedSlot). y.name) slots (s ∷ []) x q iq))
       (same.0, turn_there vars s.number q.number ts same.0 (nat_eq q.number s.number) refl fresh same.1, same.2)
 
   -- the names with the row of a loop
@@ -100,7 +100,7 @@ chosen columns few (n ∷ ns) h =
     }
 
 -- the columns of a ROWS parameter
-abbrev pub Over : Vars → Option Entry → Option Slot → Type 0
+abbrev pub Over : Vars → Option Entry → Option NamedSlot → Type 0
 Over vars e s = (ts : List Kind) × (vars (number_in s) ≡ Some (rows ts)) × SameFields (fields_of e) ts (fields_in s) × (length ts ≤ 32)
 
 rows_means : (vars : Vars) (m : Binding) (v : Var) (fs : List Text) (token x : ℕ) → vars x ≡ Some v → Means m v fs → not_rows token m ≡ []
@@ -109,7 +109,7 @@ rows_means vars (Rows fields) (rows ks) fs token x at means h = (ks, at, means.0
 rows_means vars (Rows fields) v fs token x at means h = absurd means
 rows_means vars m v fs token x at means h = cc
 
-pub rows_same : (e : Option Entry) (s : Option Slot) (vars : Vars) (token : ℕ) → Same vars e s → rows_faults token e ≡ [] → Over vars e s
+pub rows_same : (e : Option Entry) (s : Option NamedSlot) (vars : Vars) (token : ℕ) → Same vars e s → rows_faults token e ≡ [] → Over vars e s
 rows_same None s vars token same h = cc
 rows_same (Some e) None vars token same h = absurd same
 rows_same (Some e) (Some s) vars token same h = rows_means vars e.binding same.0 s.fields token s.number same.1 same.2 h

@@ -21,7 +21,7 @@ use Rattle.mv_names.specs.Named.{Text}
 use Rattle.mv_names.specs.Scope.{entry_of, type_in, type_among, types_of}
 use Rattle.mv_names.specs.Typing.{clash, misfit, placed, judged, column_faults}
 use Rattle.mv_names.specs.Statements as names
-use Rattle.mv_resolve.specs.declared.slot.Slot.{Slot}
+use Rattle.mv_resolve.specs.declared.slot.NamedSlot.{NamedSlot}
 use Rattle.mv_resolve.specs.Building.{slot_named, number_in, number_of, numbers_of, plain, plains, maybe_plain, cond_of, conds_of, sorts_of, agg_of, column_number}
 use Rattle.mv_catalog.specs.Types.{Kind, int, text, Var, declared, Vars, kind_of_column}
 use Rattle.mv_catalog.specs.Statements.{IsOfKind, Takes, IsTest, IsSort, IsOffset, IsTotal}
@@ -37,20 +37,20 @@ same_kind text int h = cc
 same_kind text text h = refl
 
 -- an expression in a place of any type, of this type, and one in which the columns stand by themselves
-pub gives_some : (scope : List Entry) (slots : List Slot) (vars : Vars) → Matches scope slots vars → (place : ValueType) (e : Expr) → placed place scope e ≡ []
+pub gives_some : (scope : List Entry) (slots : List NamedSlot) (vars : Vars) → Matches scope slots vars → (place : ValueType) (e : Expr) → placed place scope e ≡ []
     → (t : Kind) × (clash place (known t) ≡ false) × IsOfKind vars t (plain slots e)
 gives_some scope slots vars m place e h =
     let r = expr_claim e scope slots vars [] m (omega arith) (nothing_left _ _ h) in
     (r.0, in_its_place place (judged e scope (Some [])) r.0 r.1 h, r.2)
 
-pub gives : (scope : List Entry) (slots : List Slot) (vars : Vars) → Matches scope slots vars → (k : Kind) (place : ValueType) (e : Expr) → place ≡ known k → placed place scope e ≡ []
+pub gives : (scope : List Entry) (slots : List NamedSlot) (vars : Vars) → Matches scope slots vars → (k : Kind) (place : ValueType) (e : Expr) → place ≡ known k → placed place scope e ≡ []
     → IsOfKind vars k (plain slots e)
 gives scope slots vars m k place e is h =
     let r = gives_some scope slots vars m place e h in
     subst (λ t. IsOfKind vars t (plain slots e)) (same_kind k r.0 (subst (λ p. clash p (known r.0) ≡ false) is r.1)) r.2
 
 -- tests, orders and offsets
-test_of : (scope : List Entry) (slots : List Slot) (vars : Vars) (columns : List ColDef) → Matches scope slots vars → length columns ≤ 32 → (c : Cond)
+test_of : (scope : List Entry) (slots : List NamedSlot) (vars : Vars) (columns : List ColDef) → Matches scope slots vars → length columns ≤ 32 → (c : Cond)
     → names.cond_faults scope (Some columns) c ≡ [] → IsTest vars (kinds_in columns) (cond_of slots columns c)
 test_of scope slots vars columns m few c h =
     let place = type_among (Some columns) c.column.text in
@@ -60,7 +60,7 @@ test_of scope slots vars columns m few c h =
     let short : length (kinds_in columns) ≡ length columns = length-map columns (λ (d : ColDef). kind_of_column d.kind) in
     (t.0, rw (tiny_is (column_number columns c.column) (omega (arith, within, short, few))) t.2, gives scope slots vars m t.0 place c.right t.1 (nothing_right own (placed place scope c.right) h))
 
-pub tests_of : (scope : List Entry) (slots : List Slot) (vars : Vars) (columns : List ColDef) → Matches scope slots vars → length columns ≤ 32 → (cs : List Cond)
+pub tests_of : (scope : List Entry) (slots : List NamedSlot) (vars : Vars) (columns : List ColDef) → Matches scope slots vars → length columns ≤ 32 → (cs : List Cond)
     → names.where_faults scope (Some columns) cs ≡ [] → All (IsTest vars (kinds_in columns)) (conds_of slots columns cs)
 tests_of scope slots vars columns m few cs h =
     all_mapped (names.cond_faults scope (Some columns)) (cond_of slots columns)
@@ -75,7 +75,7 @@ sorts_are columns few ss h =
     all_mapped (λ (s : Sort). column_faults (Some columns) s.column) (λ (s : Sort). record { column = column_number columns s.column; descending = s.descending })
     (IsSort (kinds_in columns)) (sort_of columns few) ss h
 
-pub offset_is : (scope : List Entry) (slots : List Slot) (vars : Vars) → Matches scope slots vars → (o : Option Expr) → names.offset_faults scope o ≡ [] → IsOffset vars (maybe_plain slots o)
+pub offset_is : (scope : List Entry) (slots : List NamedSlot) (vars : Vars) → Matches scope slots vars → (o : Option Expr) → names.offset_faults scope o ≡ [] → IsOffset vars (maybe_plain slots o)
 offset_is scope slots vars m None h = tt
 offset_is scope slots vars m (Some e) h = gives scope slots vars m int type'.Int e refl h
 
@@ -85,7 +85,7 @@ set_means (Variable t) (declared k) fs token means h = (k, means, refl)
 set_means (Variable t) v fs token means h = absurd means
 set_means m v fs token means h = cc
 
-set_same : (e : Option Entry) (s : Option Slot) (vars : Vars) (token : ℕ) → Same vars e s → names.target_faults token e ≡ []
+set_same : (e : Option Entry) (s : Option NamedSlot) (vars : Vars) (token : ℕ) → Same vars e s → names.target_faults token e ≡ []
     → (t : Kind) × (names.target_type e ≡ known t) × (vars (number_in s) ≡ Some (declared t))
 set_same None s vars token same h = cc
 set_same (Some e) None vars token same h = absurd same
@@ -93,12 +93,12 @@ set_same (Some e) (Some s) vars token same h =
     let r = set_means e.binding same.0 s.fields token same.2 h in
     (r.0, r.1, same.1 ∙ ap Some r.2)
 
-pub target_is : (scope : List Entry) (slots : List Slot) (vars : Vars) → Matches scope slots vars → (n : Name) → names.target_faults n.token (entry_of scope n.text) ≡ []
+pub target_is : (scope : List Entry) (slots : List NamedSlot) (vars : Vars) → Matches scope slots vars → (n : Name) → names.target_faults n.token (entry_of scope n.text) ≡ []
     → (t : Kind) × (names.target_type (entry_of scope n.text) ≡ known t) × (vars (number_of slots n) ≡ Some (declared t))
 target_is scope slots vars m n h = set_same (entry_of scope n.text) (slot_named slots n.text) vars n.token (m n.text) h
 
 -- a target that takes values of this type
-pub taking : (scope : List Entry) (slots : List Slot) (vars : Vars) → Matches scope slots vars → (k : Kind) (type : ValueType) (n : Name) → type ≡ known k → names.target scope type n ≡ []
+pub taking : (scope : List Entry) (slots : List NamedSlot) (vars : Vars) → Matches scope slots vars → (k : Kind) (type : ValueType) (n : Name) → type ≡ known k → names.target scope type n ≡ []
     → vars (number_of slots n) ≡ Some (declared k)
 taking scope slots vars m k type n is h =
     let own = names.target_faults n.token (entry_of scope n.text) in
@@ -108,7 +108,7 @@ taking scope slots vars m k type n is h =
     let still : clash (known k) (known r.0) ≡ false = subst (λ u. clash u (known r.0) ≡ false) is (subst (λ u. clash type u ≡ false) r.1 no_clash) in
     subst (λ t. vars (number_of slots n) ≡ Some (declared t)) (same_kind k r.0 still) r.2
 
-pub targets_take : (scope : List Entry) (slots : List Slot) (vars : Vars) (columns : List ColDef) → Matches scope slots vars → length columns ≤ 32 → (cs to : List Name) → length cs ≡ length to
+pub targets_take : (scope : List Entry) (slots : List NamedSlot) (vars : Vars) (columns : List ColDef) → Matches scope slots vars → length columns ≤ 32 → (cs to : List Name) → length cs ≡ length to
     → flat_map (column_faults (Some columns)) cs ≡ [] → names.targets scope (types_of (Some columns) cs) to ≡ [] → AllZip (Takes vars (kinds_in columns)) (map (column_number columns) cs) (numbers_of slots to)
 targets_take scope slots vars columns m few [] [] e h k = tt
 targets_take scope slots vars columns m few [] (n ∷ ns) e h k = cc
@@ -143,7 +143,7 @@ total_is columns (Min n) few h = column_typed columns n few h
 total_is columns (Max n) few h = column_typed columns n few h
 
 -- values of INSERT and PRINT
-pub values_are : (scope : List Entry) (slots : List Slot) (vars : Vars) → Matches scope slots vars → (columns : List ColDef) (es : List Expr) → length es ≡ length columns
+pub values_are : (scope : List Entry) (slots : List NamedSlot) (vars : Vars) → Matches scope slots vars → (columns : List ColDef) (es : List Expr) → length es ≡ length columns
     → names.values_faults scope columns es ≡ [] → AllZip (IsOfKind vars) (kinds_in columns) (plains slots es)
 values_are scope slots vars m [] [] e h = tt
 values_are scope slots vars m [] (x ∷ xs) e h = cc
@@ -154,7 +154,7 @@ values_are scope slots vars m (c ∷ cs) (x ∷ xs) e h =
       values_are scope slots vars m cs xs (cc) (nothing_right own (names.values_faults scope cs xs) h),
     )
 
-pub printed : (scope : List Entry) (slots : List Slot) (vars : Vars) → Matches scope slots vars → (es : List Expr) → names.values_faults scope [] es ≡ []
+pub printed : (scope : List Entry) (slots : List NamedSlot) (vars : Vars) → Matches scope slots vars → (es : List Expr) → names.values_faults scope [] es ≡ []
     → All (λ e. (t : Kind) × IsOfKind vars t e) (plains slots es)
 printed scope slots vars m [] h = All-nil (λ e. (t : Kind) × IsOfKind vars t e)
 printed scope slots vars m (x ∷ xs) h =

@@ -29,7 +29,7 @@ use Rattle.mv_names.specs.Statements.{doubles}
 use Rattle.mv_names.specs.Statements as names
 use Rattle.mv_names.specs.Writes.{all_writes, writes}
 use Rattle.mv_names.specs.Faults as faults
-use Rattle.mv_resolve.specs.declared.slot.Slot.{Slot}
+use Rattle.mv_resolve.specs.declared.slot.NamedSlot.{NamedSlot}
 use Rattle.mv_resolve.specs.Building as build
 use Rattle.mv_resolve.specs.Building.{Built, built, loops_in, slot, small, slot_named, param_slots, param_fields, variable_slots, slots_of, found_number, param_of, table_of, procedure_of, column_name}
 use Rattle.mv_catalog.specs.Types.{int, Var, fixed, declared, Vars, kind_of_value, kind_of_column}
@@ -69,17 +69,17 @@ at_right vars i (v ∷ vs) ws h =
 
 -- Entries and slots, one beside the other
 
-abbrev pub Pairs : Vars → List Entry → List Slot → Type 0
+abbrev pub Pairs : Vars → List Entry → List NamedSlot → Type 0
 Pairs vars [] [] = Unit {0}
 Pairs vars (e ∷ es) (s ∷ ss) = (e.name ≡ s.name) × ((v : Var) × (vars s.number ≡ Some v) × Means e.binding v s.fields) × Pairs vars es ss
 Pairs vars es ss = ⊥
 
-pair_step : (vars : Vars) (e : Entry) (s : Slot) (b : Bool) (o : Option Entry) (q : Option Slot) → ((v : Var) × (vars s.number ≡ Some v) × Means e.binding v s.fields) → Same vars o q
+pair_step : (vars : Vars) (e : Entry) (s : NamedSlot) (b : Bool) (o : Option Entry) (q : Option NamedSlot) → ((v : Var) × (vars s.number ≡ Some v) × Means e.binding v s.fields) → Same vars o q
     → Same vars (if b then Some e else o) (if b then Some s else q)
 pair_step vars e s true o q means h = means
 pair_step vars e s false o q means h = h
 
-pairs_match : (vars : Vars) (es : List Entry) (ss : List Slot) → Pairs vars es ss → Matches es ss vars
+pairs_match : (vars : Vars) (es : List Entry) (ss : List NamedSlot) → Pairs vars es ss → Matches es ss vars
 pairs_match vars [] [] h x = tt
 pairs_match vars [] (s ∷ ss) h x = absurd h
 pairs_match vars (e ∷ es) [] h x = absurd h
@@ -87,7 +87,7 @@ pairs_match vars (e ∷ es) (s ∷ ss) h x =
     subst (λ n. Same vars (if same_text e.name x then Some e else entry_of es x) (if same_text n x then Some s else slot_named ss x)) h.0
     (pair_step vars e s (same_text e.name x) (entry_of es x) (slot_named ss x) h.1 (pairs_match vars es ss h.2 x))
 
-pairs_on : (vars : Vars) (es es' : List Entry) (ss ss' : List Slot) → Pairs vars es ss → Pairs vars es' ss' → Pairs vars (es ++ es') (ss ++ ss')
+pairs_on : (vars : Vars) (es es' : List Entry) (ss ss' : List NamedSlot) → Pairs vars es ss → Pairs vars es' ss' → Pairs vars (es ++ es') (ss ++ ss')
 pairs_on vars [] es' [] ss' h k = k
 pairs_on vars [] es' (s ∷ ss) ss' h k = absurd h
 pairs_on vars (e ∷ es) es' [] ss' h k = absurd h
@@ -128,18 +128,18 @@ variable_pairs vars (v ∷ vs) i le at =
 
 -- The names of a procedure outside its loops
 
-no_slot : (vars : Vars) (o : Option Entry) (q : Option Slot) → Same vars o q → o ≡ None → q ≡ None
+no_slot : (vars : Vars) (o : Option Entry) (q : Option NamedSlot) → Same vars o q → o ≡ None → q ≡ None
 no_slot vars None None same h = refl
 no_slot vars None (Some q) same h = absurd same
 no_slot vars (Some e) q same h = cc
 
-module _ (vars : Vars) (es : List Entry) (ss : List Slot) (n : ℕ) where
-  last_other : (x : Text) (o : Option Entry) (q : Option Slot) → same_text found.name x ≡ false → slot_named ss x ≡ q → Same vars o q
+module _ (vars : Vars) (es : List Entry) (ss : List NamedSlot) (n : ℕ) where
+  last_other : (x : Text) (o : Option Entry) (q : Option NamedSlot) → same_text found.name x ≡ false → slot_named ss x ≡ q → Same vars o q
       → Same vars o (slot_named (ss ++ slot n found.name [] ∷ []) x)
   last_other x o None e is same =
       let last : (if same_text found.name x then Some (slot n found.name []) else None) ≡ None = ap (λ c. if c then Some (slot n found.name []) else None) e in
-      subst (Same vars o) (sym (first_behind (λ (s : Slot). s.name) ss (slot n found.name [] ∷ []) x is ∙ last)) same
-  last_other x o (Some q) e is same = subst (Same vars o) (sym (first_before (λ (s : Slot). s.name) ss (slot n found.name [] ∷ []) x q is)) same
+      subst (Same vars o) (sym (first_behind (λ (s : NamedSlot). s.name) ss (slot n found.name [] ∷ []) x is ∙ last)) same
+  last_other x o (Some q) e is same = subst (Same vars o) (sym (first_before (λ (s : NamedSlot). s.name) ss (slot n found.name [] ∷ []) x q is)) same
 
   found_case : Pairs vars es ss → entry_of es found.name ≡ None → vars (small n) ≡ Some (fixed int) → (x : Text) (b : Bool) → same_text found.name x ≡ b
       → Same vars (if b then Some found else entry_of es x) (slot_named (ss ++ slot n found.name [] ∷ []) x)
@@ -148,7 +148,7 @@ module _ (vars : Vars) (es : List Entry) (ss : List Slot) (n : ℕ) where
       let no_entry : entry_of es x ≡ None = subst (λ t. entry_of es t ≡ None) is none in
       let last : (if same_text found.name x then Some (slot n found.name []) else None) ≡ Some (slot n found.name []) = ap (λ c. if c then Some (slot n found.name []) else None) e in
       subst (Same vars (Some found))
-      (sym (first_behind (λ (s : Slot). s.name) ss (slot n found.name [] ∷ []) x (no_slot vars (entry_of es x) (slot_named ss x) (pairs_match vars es ss pairs x) no_entry) ∙ last))
+      (sym (first_behind (λ (s : NamedSlot). s.name) ss (slot n found.name [] ∷ []) x (no_slot vars (entry_of es x) (slot_named ss x) (pairs_match vars es ss pairs x) no_entry) ∙ last))
       (fixed int, at, refl)
   found_case pairs none at x false e = last_other x (entry_of es x) (slot_named ss x) e refl (pairs_match vars es ss pairs x)
 

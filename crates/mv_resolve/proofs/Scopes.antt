@@ -14,7 +14,7 @@ use Rattle.mv_names.specs.declared.scope.Entry.{Entry}
 use Rattle.mv_names.specs.Named.{Text, same_text, first_named, place_named}
 use Rattle.mv_names.specs.Scope.{entry_of, type_in, type_among, type_of_column}
 use Rattle.mv_names.specs.Typing.{missing_column}
-use Rattle.mv_resolve.specs.declared.slot.Slot.{Slot}
+use Rattle.mv_resolve.specs.declared.slot.NamedSlot.{NamedSlot}
 use Rattle.mv_resolve.specs.Building.{slot_named, column_name, column_number}
 use Rattle.mv_catalog.specs.Types.{Kind, int, text, Var, fixed, declared, rows, turn, Vars, kind_of_column}
 use Rattle.mv_resolve.proofs.Lists.{place_found, get_map, small_is}
@@ -38,13 +38,13 @@ Means (Rows fields) (rows ks) names = SameFields fields ks names × (length ks �
 Means (Turn fields) (turn ks) names = SameFields fields ks names × (length ks ≤ 32)
 Means m v names = ⊥
 
-abbrev pub Same : Vars → Option Entry → Option Slot → Type 0
+abbrev pub Same : Vars → Option Entry → Option NamedSlot → Type 0
 Same vars None None = Unit {0}
 Same vars (Some e) (Some s) = (v : Var) × (vars s.number ≡ Some v) × Means e.binding v s.fields
 Same vars e s = ⊥
 
 -- each name stands for the same
-abbrev pub Matches : List Entry → List Slot → Vars → Type 0
+abbrev pub Matches : List Entry → List NamedSlot → Vars → Type 0
 Matches scope slots vars = (x : Text) → Same vars (entry_of scope x) (slot_named slots x)
 
 abbrev pub kinds_in : List ColDef → List Kind

@@ -6,7 +6,7 @@ use Rattle.mv_ast.specs.declared.tree.Stmt.TheOpen as tree
 use Rattle.mv_ast.specs.declared.tree.Stmt.TheViews.{roll-Stmt}
 use Rattle.mv_ast.specs.declared.tree.Stmt.TheFolds.{fold-roll-Stmt, map-Stmt, ind-Stmt}
 use Rattle.mv_ast.specs.Limits.{together, statement_tokens, tokens_step}
-use Rattle.mv_resolve.specs.declared.slot.Slot.{Slot}
+use Rattle.mv_resolve.specs.declared.slot.NamedSlot.{NamedSlot}
 use Rattle.mv_catalog.specs.declared.resolved.RStmt.{RStmt}
 use Rattle.mv_catalog.specs.declared.resolved.RStmt.TheOpen as open'
 use Rattle.mv_catalog.specs.declared.resolved.RStmt.TheViews.{roll-RStmt}
@@ -21,13 +21,13 @@ size_is d s e = subst (λ r. size r ≡ size_step (map-RStmt RStmt ℕ size d)) 
 
 -- what is built is as many statements as there are first tokens
 abbrev Sized : Built → List ℕ → Type 0
-Sized b ts = (slots : List Slot) (n : ℕ) → size (b.build slots n) ≡ length ts
+Sized b ts = (slots : List NamedSlot) (n : ℕ) → size (b.build slots n) ≡ length ts
 
 module _ (tables : List TableDef) where
   abbrev Known : Type 0
   Known = (s : Stmt) × Sized (built tables s) (statement_tokens s)
 
-  known_sized : (ys : List Known) (slots : List Slot) (n : ℕ) → let ss = map (λ p. p.0) ys in size_of (build_all (map (built tables) ss) slots n) ≡ length (together (map statement_tokens ss))
+  known_sized : (ys : List Known) (slots : List NamedSlot) (n : ℕ) → let ss = map (λ p. p.0) ys in size_of (build_all (map (built tables) ss) slots n) ≡ length (together (map statement_tokens ss))
   known_sized [] slots n = refl
   known_sized (p ∷ ps) slots n =
       let ss = map (λ q. q.0) ps in
@@ -66,7 +66,7 @@ module _ (tables : List TableDef) where
   stmt_sized : (s : Stmt) → Sized (built tables s) (statement_tokens s)
   stmt_sized = ind-Stmt (λ s. Sized (built tables s) (statement_tokens s)) rolled_sized
 
-  pub all_sized : (ss : List Stmt) (slots : List Slot) (n : ℕ) → size_of (build_all (map (built tables) ss) slots n) ≡ length (together (map statement_tokens ss))
+  pub all_sized : (ss : List Stmt) (slots : List NamedSlot) (n : ℕ) → size_of (build_all (map (built tables) ss) slots n) ≡ length (together (map statement_tokens ss))
   all_sized [] slots n = refl
   all_sized (s ∷ ss) slots n =
       omega (arith, stmt_sized s slots n, all_sized ss slots (n + (built tables s).loops), length-append (statement_tokens s) (together (map statement_tokens ss)))

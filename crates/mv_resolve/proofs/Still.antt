@@ -7,9 +7,9 @@ use Rattle.mv_ast.specs.declared.tree.Stmt.TheOpen as tree
 use Rattle.mv_ast.specs.declared.tree.Stmt.TheViews.{roll-Stmt}
 use Rattle.mv_ast.specs.declared.tree.Stmt.TheFolds.{fold-roll-Stmt, map-Stmt, ind-Stmt}
 use Rattle.mv_ast.specs.Limits.{together}
-use Rattle.mv_names.specs.declared.fault.Fault.{Fault}
+use Rattle.mv_names.specs.declared.fault.TokenFault.{TokenFault}
 use Rattle.mv_names.specs.Writes.{writes_step, writes_of, all_writes}
-use Rattle.mv_resolve.specs.declared.slot.Slot.{Slot}
+use Rattle.mv_resolve.specs.declared.slot.NamedSlot.{NamedSlot}
 use Rattle.mv_catalog.specs.declared.resolved.RStmt.{RStmt}
 use Rattle.mv_catalog.specs.declared.resolved.RStmt.TheOpen as open'
 use Rattle.mv_catalog.specs.declared.resolved.RStmt.TheViews.{roll-RStmt}
@@ -28,14 +28,14 @@ neither true b h k = cc
 neither false b h k = k
 
 -- what is built changes no table if there are no such faults
-abbrev Still : Built → List Fault → Type 0
-Still b fs = fs ≡ [] → (slots : List Slot) (n : ℕ) → may_change (b.build slots n) ≡ false
+abbrev Still : Built → List TokenFault → Type 0
+Still b fs = fs ≡ [] → (slots : List NamedSlot) (n : ℕ) → may_change (b.build slots n) ≡ false
 
 module _ (tables : List TableDef) where
   abbrev Known : Type 0
   Known = (s : Stmt) × Still (built tables s) (writes_of s)
 
-  known_still : (ys : List Known) (slots : List Slot) (n : ℕ) → let ss = map (λ p. p.0) ys in together (map writes_of ss) ≡ [] → any_change (build_all (map (built tables) ss) slots n) ≡ false
+  known_still : (ys : List Known) (slots : List NamedSlot) (n : ℕ) → let ss = map (λ p. p.0) ys in together (map writes_of ss) ≡ [] → any_change (build_all (map (built tables) ss) slots n) ≡ false
   known_still [] slots n h = refl
   known_still (p ∷ ps) slots n h =
       let ss = map (λ q. q.0) ps in
@@ -44,7 +44,7 @@ module _ (tables : List TableDef) where
       (known_still ps slots (n + (built tables p.0).loops) (nothing_right (writes_of p.0) (together (map writes_of ss)) h))
 
   step_still : (y : tree.Stmt-F Known) → let d = map-Stmt Known Stmt (λ p. p.0) y in
-      Still (build.stmt_step tables (map-Stmt Stmt Built (built tables) d)) (writes_step (map-Stmt Stmt (List Fault) writes_of d))
+      Still (build.stmt_step tables (map-Stmt Stmt Built (built tables) d)) (writes_step (map-Stmt Stmt (List TokenFault) writes_of d))
   step_still (tree.Assign token to right) h slots n = change_is (open'.Assign _ _) _ (rolls-Assign _ _)
   step_still (tree.Select token columns to table conds sorts offset) h slots n = change_is (open'.Select _ _ _ _ _ _) _ (rolls-Select _ _ _ _ _ _)
   step_still (tree.Total token agg to table conds) h slots n = change_is (open'.Total _ _ _ _) _ (rolls-Total _ _ _ _)
@@ -69,12 +69,12 @@ module _ (tables : List TableDef) where
   rolled_still x y is =
       let d = map-Stmt Known Stmt (λ p. p.0) y in
       subst (λ z. Still (built tables (roll-Stmt z)) (writes_of (roll-Stmt z))) is
-      (λ h slots n. ap (λ b. may_change (b.build slots n)) (fold-roll-Stmt Built (build.stmt_step tables) d) ∙ step_still y (sym (fold-roll-Stmt (List Fault) writes_step d) ∙ h) slots n)
+      (λ h slots n. ap (λ b. may_change (b.build slots n)) (fold-roll-Stmt Built (build.stmt_step tables) d) ∙ step_still y (sym (fold-roll-Stmt (List TokenFault) writes_step d) ∙ h) slots n)
 
   stmt_still : (s : Stmt) → Still (built tables s) (writes_of s)
   stmt_still = ind-Stmt (λ s. Still (built tables s) (writes_of s)) rolled_still
 
-  pub all_still : (ss : List Stmt) (slots : List Slot) (n : ℕ) → all_writes ss ≡ [] → any_change (build_all (map (built tables) ss) slots n) ≡ false
+  pub all_still : (ss : List Stmt) (slots : List NamedSlot) (n : ℕ) → all_writes ss ≡ [] → any_change (build_all (map (built tables) ss) slots n) ≡ false
   all_still [] slots n h = refl
   all_still (s ∷ ss) slots n h =
       neither (may_change ((built tables s).build slots n)) (any_change (build_all (map (built tables) ss) slots (n + (built tables s).loops)))

@@ -4,7 +4,7 @@ use mathlib.Core.Path.{subst₃}
 use Rattle.std.specs.List.{flat_map, AllZip}
 use Rattle.std.proofs.lemmas.Bool.{not-false}
 use Rattle.mv_values.specs.declared.schema.TableInfo.{TableInfo}
-use Rattle.mv_ast.specs.declared.limit.Passed.{Passed}
+use Rattle.mv_ast.specs.declared.limit.PassedLimit.{PassedLimit}
 use Rattle.mv_ast.specs.declared.limit.Which.TheVariants as limit
 use Rattle.mv_ast.specs.declared.tree.Name.{Name}
 use Rattle.mv_ast.specs.declared.tree.TableDef.{TableDef}
@@ -19,7 +19,7 @@ use Rattle.mv_ast.specs.declared.tree.Stmt.TheViews.{roll-Stmt}
 use Rattle.mv_ast.specs.declared.tree.Stmt.TheFolds.{fold-roll-Stmt, map-Stmt, ind-Stmt}
 use Rattle.mv_ast.specs.Limits.{too_many, name_token, sort_token, together, statement_step, statement_passes}
 use Rattle.mv_ast.proofs.Limited.{few}
-use Rattle.mv_names.specs.declared.fault.Fault.{Fault}
+use Rattle.mv_names.specs.declared.fault.TokenFault.{TokenFault}
 use Rattle.mv_names.specs.declared.scope.ValueType.TheVariants as type'
 use Rattle.mv_names.specs.declared.scope.Entry.{Entry}
 use Rattle.mv_names.specs.First.{wrong, when}
@@ -27,7 +27,7 @@ use Rattle.mv_names.specs.Scope.{entry_of, types_of, select_turn, rows_turn}
 use Rattle.mv_names.specs.Typing.{column_faults, placed}
 use Rattle.mv_names.specs.Statements as names
 use Rattle.mv_names.specs.Statements.{Faults, table_named, statement_faults}
-use Rattle.mv_resolve.specs.declared.slot.Slot.{Slot}
+use Rattle.mv_resolve.specs.declared.slot.NamedSlot.{NamedSlot}
 use Rattle.mv_catalog.specs.declared.resolved.RStmt.{RStmt}
 use Rattle.mv_catalog.specs.declared.resolved.RStmt.TheOpen as open'
 use Rattle.mv_catalog.specs.declared.resolved.RStmt.TheViews.{roll-RStmt}
@@ -48,10 +48,10 @@ use Rattle.mv_resolve.proofs.Tables.{There, there, same_kinds, items_are, items_
 use Rattle.mv_resolve.proofs.Loops.{Fresh, fresh_behind, matches_within, chosen, rows_same, counts_on}
 
 -- lists of one length
-one_length : {A B : Type 0} (xs : List A) (ys : List B) (f : Fault) → when (not (length xs == length ys)) f ≡ [] → length xs ≡ length ys
+one_length : {A B : Type 0} (xs : List A) (ys : List B) (f : TokenFault) → when (not (length xs == length ys)) f ≡ [] → length xs ≡ length ys
 one_length xs ys f h = eqb-true (length xs) (length ys) (not-false (length xs == length ys) (not_when (not (length xs == length ys)) f h))
 
-module _ (infos : List TableInfo) (scope : List Entry) (slots : List Slot) (vars : Vars) (m : Matches scope slots vars) where
+module _ (infos : List TableInfo) (scope : List Entry) (slots : List NamedSlot) (vars : Vars) (m : Matches scope slots vars) where
   assign_well : (to : Name) (right : Expr) → names.assign to right scope ≡ [] → well.assign (number_of slots to) (plain slots right) vars
   assign_well to right h =
       let t = target_is scope slots vars m to (nothing_left _ _ h) in
@@ -165,18 +165,18 @@ done infos vars n loops d s e allowed counts count = record {
 }
 
 -- the claims, for the faults, the passes of limits and what is built
-abbrev pub Claim : List TableInfo → Faults → List Passed → Built → Type 0
-Claim infos faults passes b = (scope : List Entry) (slots : List Slot) (vars : Vars) (n : ℕ) → Matches scope slots vars → Fresh vars n → n + b.loops ≤ 2 ^ 16 - 1
+abbrev pub Claim : List TableInfo → Faults → List PassedLimit → Built → Type 0
+Claim infos faults passes b = (scope : List Entry) (slots : List NamedSlot) (vars : Vars) (n : ℕ) → Matches scope slots vars → Fresh vars n → n + b.loops ≤ 2 ^ 16 - 1
     → faults scope ≡ [] → passes ≡ [] → Done infos vars n b.loops (b.build slots n)
 
-abbrev pub AllClaim : List TableInfo → Faults → List Passed → List Built → Type 0
-AllClaim infos faults passes bs = (scope : List Entry) (slots : List Slot) (vars : Vars) (n : ℕ) → Matches scope slots vars → Fresh vars n → n + loops_in bs ≤ 2 ^ 16 - 1
+abbrev pub AllClaim : List TableInfo → Faults → List PassedLimit → List Built → Type 0
+AllClaim infos faults passes bs = (scope : List Entry) (slots : List NamedSlot) (vars : Vars) (n : ℕ) → Matches scope slots vars → Fresh vars n → n + loops_in bs ≤ 2 ^ 16 - 1
     → faults scope ≡ [] → passes ≡ [] → AllDone infos vars n (loops_in bs) (build_all bs slots n)
 
-module _ (infos : List TableInfo) (faults : Faults) (passes : List Passed) (bs : List Built) (claim : AllClaim infos faults passes bs) where
+module _ (infos : List TableInfo) (faults : Faults) (passes : List PassedLimit) (bs : List Built) (claim : AllClaim infos faults passes bs) where
   -- a loop over a SELECT
   for_select_done : (o : Option TableDef) (at : ℕ) (turn : Name) (distinct : Bool) (columns : List Name) (table : Name) (conds : List Cond) (sorts : List Sort) → There infos o at
-      → (scope : List Entry) (slots : List Slot) (vars : Vars) (n : ℕ) → Matches scope slots vars → Fresh vars n → n + (1 + loops_in bs) ≤ 2 ^ 16 - 1
+      → (scope : List Entry) (slots : List NamedSlot) (vars : Vars) (n : ℕ) → Matches scope slots vars → Fresh vars n → n + (1 + loops_in bs) ≤ 2 ^ 16 - 1
       → names.for_select o turn columns table conds sorts faults scope ≡ [] → too_many limit.Columns 32 name_token columns ≡ [] → passes ≡ []
       → Done infos vars n (1 + loops_in bs) (variant.ForSelect (small n) distinct (map (column_number (columns_in o)) columns) at (conds_of slots (columns_in o) conds) (sorts_of (columns_in o) sorts)
       (build_all bs (slots ++ slot n turn.text (names_of columns) ∷ []) (n + 1)))
@@ -223,7 +223,7 @@ module _ (infos : List TableInfo) (faults : Faults) (passes : List Passed) (bs :
       (omega (arith, body.count))
 
   -- a loop over a ROWS parameter
-  for_rows_done : (turn over : Name) → (scope : List Entry) (slots : List Slot) (vars : Vars) (n : ℕ) → Matches scope slots vars → Fresh vars n → n + (1 + loops_in bs) ≤ 2 ^ 16 - 1
+  for_rows_done : (turn over : Name) → (scope : List Entry) (slots : List NamedSlot) (vars : Vars) (n : ℕ) → Matches scope slots vars → Fresh vars n → n + (1 + loops_in bs) ≤ 2 ^ 16 - 1
       → names.for_rows turn over faults scope ≡ [] → passes ≡ []
       → Done infos vars n (1 + loops_in bs) (variant.ForRows (small n) (number_of slots over)
       (build_all bs (slots ++ slot n turn.text (fields_in (slot_named slots over.text)) ∷ []) (n + 1)))
@@ -245,7 +245,7 @@ module _ (infos : List TableInfo) (faults : Faults) (passes : List Passed) (bs :
       (rolls-ForRows (small n) (number_of slots over) stmts) (own.0, own.1, fresh_here (small n) (omega arith), body.allowed) (is, body.counts) (omega (arith, body.count))
 
 -- the branches of an IF
-branch_done : (infos : List TableInfo) (fy fn : Faults) (py pn : List Passed) (ys ns : List Built) → AllClaim infos fy py ys → AllClaim infos fn pn ns → (test : Expr)
+branch_done : (infos : List TableInfo) (fy fn : Faults) (py pn : List PassedLimit) (ys ns : List Built) → AllClaim infos fy py ys → AllClaim infos fn pn ns → (test : Expr)
     → Claim infos (names.branch test fy fn) (py ++ pn) (build.branch test ys ns)
 branch_done infos fy fn py pn ys ns cy cn test scope slots vars n m fresh le h p =
     let a = placed type'.Int scope test in
@@ -293,7 +293,7 @@ module _ (tables : List TableDef) (few_tables : length tables ≤ 64) (narrow : 
   here n = there tables n few_tables narrow
 
   step_claim : (y : tree.Stmt-F Known) → let d = map-Stmt Known Stmt (λ p. p.0) y in
-      Claim (map (table_of tables) tables) (names.stmt_step tables (map-Stmt Stmt Faults (statement_faults tables) d)) (statement_step (map-Stmt Stmt (List Passed) statement_passes d))
+      Claim (map (table_of tables) tables) (names.stmt_step tables (map-Stmt Stmt Faults (statement_faults tables) d)) (statement_step (map-Stmt Stmt (List PassedLimit) statement_passes d))
       (build.stmt_step tables (map-Stmt Stmt Built (built tables) d))
   step_claim (tree.Assign token to right) scope slots vars n m fresh le h k =
       without_rows vars n (open'.Assign _ _) _ (rolls-Assign _ _) refl (assign_well (map (table_of tables) tables) scope slots vars m to right h)
@@ -337,7 +337,7 @@ module _ (tables : List TableDef) (few_tables : length tables ≤ 64) (narrow : 
   rolled x y is =
       let d = map-Stmt Known Stmt (λ p. p.0) y in
       subst (λ z. Claim (map (table_of tables) tables) (statement_faults tables (roll-Stmt z)) (statement_passes (roll-Stmt z)) (built tables (roll-Stmt z))) is
-      (subst₃ (Claim (map (table_of tables) tables)) (sym (fold-roll-Stmt Faults (names.stmt_step tables) d)) (sym (fold-roll-Stmt (List Passed) statement_step d))
+      (subst₃ (Claim (map (table_of tables) tables)) (sym (fold-roll-Stmt Faults (names.stmt_step tables) d)) (sym (fold-roll-Stmt (List PassedLimit) statement_step d))
       (sym (fold-roll-Stmt Built (build.stmt_step tables) d)) (step_claim y))
 
   pub stmt_claim : (s : Stmt) → Claim (map (table_of tables) tables) (statement_faults tables s) (statement_passes s) (built tables s)

@@ -16,7 +16,7 @@ use Rattle.mv_names.specs.Scope.{type_among}
 use Rattle.mv_names.specs.Typing.{clash, misfit, in_place, judged, column_faults, missing_column}
 use Rattle.mv_names.specs.Statements as names
 use Rattle.mv_names.specs.Statements.{table_named}
-use Rattle.mv_resolve.specs.declared.slot.Slot.{Slot}
+use Rattle.mv_resolve.specs.declared.slot.NamedSlot.{NamedSlot}
 use Rattle.mv_catalog.specs.declared.resolved.RSetItem.{RSetItem}
 use Rattle.mv_resolve.specs.Building.{small, tiny, table_of, table_place, column_name, column_number, described, expr_of, items_of}
 use Rattle.mv_catalog.specs.Types.{Vars, HasType}
@@ -105,7 +105,7 @@ no_key columns (k ∷ ks) c y few is h found =
     (contains_cases (tiny (place_named column_name columns k.text)) (map (λ (n : Name). tiny (place_named column_name columns n.text)) ks) (column_number columns c) found)
 
 -- an item of SET
-item_of : (scope : List Entry) (slots : List Slot) (vars : Vars) (all : List TableDef) (t : TableDef) → Matches scope slots vars → length t.columns ≤ 32 → (i : SetItem)
+item_of : (scope : List Entry) (slots : List NamedSlot) (vars : Vars) (all : List TableDef) (t : TableDef) → Matches scope slots vars → length t.columns ≤ 32 → (i : SetItem)
     → names.item_faults scope (Some t) i ≡ [] → IsItem vars (table_of all t) (record { column = column_number t.columns i.column; right = expr_of i.right slots t.columns })
 item_of scope slots vars all t m few i h =
     let own = t.columns in
@@ -129,7 +129,7 @@ item_of scope slots vars all t m few i h =
       subst (λ ks. HasType vars ks (expr_of i.right slots own) c.0) (same_kinds all t) right,
     )
 
-pub items_are : (scope : List Entry) (slots : List Slot) (vars : Vars) (all : List TableDef) (t : TableDef) → Matches scope slots vars → length t.columns ≤ 32 → (is : List SetItem)
+pub items_are : (scope : List Entry) (slots : List NamedSlot) (vars : Vars) (all : List TableDef) (t : TableDef) → Matches scope slots vars → length t.columns ≤ 32 → (is : List SetItem)
     → flat_map (names.item_faults scope (Some t)) is ≡ [] → All (IsItem vars (table_of all t)) (items_of slots t.columns is)
 items_are scope slots vars all t m few is h =
     all_mapped (names.item_faults scope (Some t)) (λ (i : SetItem). record { column = column_number t.columns i.column; right = expr_of i.right slots t.columns })
@@ -149,7 +149,7 @@ module _ (columns : List ColDef) (few : length columns ≤ 32) where
 item_stands : (scope : List Entry) (t : TableDef) (i : SetItem) → names.item_faults scope (Some t) i ≡ [] → (c : ColDef) × (first_named column_name t.columns i.column.text ≡ Some c)
 item_stands scope t i h = column_there t.columns i.column (nothing_left _ _ (nothing_left _ _ h))
 
-pub items_once : (scope : List Entry) (slots : List Slot) (t : TableDef) → length t.columns ≤ 32 → (is : List SetItem) → flat_map (names.item_faults scope (Some t)) is ≡ []
+pub items_once : (scope : List Entry) (slots : List NamedSlot) (t : TableDef) → length t.columns ≤ 32 → (is : List SetItem) → flat_map (names.item_faults scope (Some t)) is ≡ []
     → names.doubles (λ (i : SetItem). i.column) [] is ≡ [] → AllPairs (λ (i j : RSetItem). i.column ≢ j.column) (items_of slots t.columns is)
 items_once scope slots t few is h once =
     all_apart (λ (i : SetItem). i.column) (λ (i : SetItem). record { column = column_number t.columns i.column; right = expr_of i.right slots t.columns })

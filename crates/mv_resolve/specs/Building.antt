@@ -38,7 +38,7 @@ use Rattle.mv_names.specs.Named.{Text, first_named, place_named}
 use Rattle.mv_names.specs.Items.{parts_of}
 use Rattle.mv_names.specs.Scope.{found}
 use Rattle.mv_names.specs.Statements.{table_named}
-use Rattle.mv_resolve.specs.declared.slot.Slot.{Slot}
+use Rattle.mv_resolve.specs.declared.slot.NamedSlot.{NamedSlot}
 use Rattle.mv_catalog.specs.declared.resolved.ParamInfo.{ParamInfo}
 use Rattle.mv_catalog.specs.declared.resolved.ParamInfo.TheVariants as param_info
 use Rattle.mv_catalog.specs.declared.resolved.ProcInfo.{ProcInfo}
@@ -84,7 +84,7 @@ columns_named tables n = columns_in (table_named tables n.text)
 
 -- The variables of a procedure: parameters, declared variables, `:found`, and its loop rows in the order of the text
 
-abbrev pub slot : ℕ → Text → List Text → Slot
+abbrev pub slot : ℕ → Text → List Text → NamedSlot
 slot n name fields = record { name = name; number = small n; fields = fields }
 
 abbrev pub param_fields : ParamKind → List Text
@@ -92,11 +92,11 @@ param_fields (param.One kind) = []
 param_fields (param.Many columns) = map column_name columns
 
 -- the slots of parameters, of which the first has this number
-abbrev pub param_slots : ℕ → List Param → List Slot
+abbrev pub param_slots : ℕ → List Param → List NamedSlot
 param_slots n [] = []
 param_slots n (q ∷ qs) = slot n q.name.text (param_fields q.kind) ∷ param_slots (n + 1) qs
 
-abbrev pub variable_slots : ℕ → List VarDef → List Slot
+abbrev pub variable_slots : ℕ → List VarDef → List NamedSlot
 variable_slots n [] = []
 variable_slots n (v ∷ vs) = slot n v.name.text [] ∷ variable_slots (n + 1) vs
 
@@ -104,38 +104,38 @@ variable_slots n (v ∷ vs) = slot n v.name.text [] ∷ variable_slots (n + 1) v
 abbrev pub found_number : ProcDef → ℕ
 found_number p = length p.params + length p.vars
 
-abbrev pub slots_of : ProcDef → List Slot
+abbrev pub slots_of : ProcDef → List NamedSlot
 slots_of p = param_slots 0 p.params ++ variable_slots (length p.params) p.vars ++ slot (found_number p) found.name [] ∷ []
 
-abbrev pub slot_named : List Slot → Text → Option Slot
-slot_named slots n = first_named (λ (s : Slot). s.name) slots n
+abbrev pub slot_named : List NamedSlot → Text → Option NamedSlot
+slot_named slots n = first_named (λ (s : NamedSlot). s.name) slots n
 
-abbrev pub number_in : Option Slot → ℕ
+abbrev pub number_in : Option NamedSlot → ℕ
 number_in None = 0
 number_in (Some s) = s.number
 
-abbrev pub fields_in : Option Slot → List Text
+abbrev pub fields_in : Option NamedSlot → List Text
 fields_in None = []
 fields_in (Some s) = s.fields
 
-abbrev pub number_of : List Slot → Name → ℕ
+abbrev pub number_of : List NamedSlot → Name → ℕ
 number_of slots n = number_in (slot_named slots n.text)
 
-abbrev pub numbers_of : List Slot → List Name → List ℕ
+abbrev pub numbers_of : List NamedSlot → List Name → List ℕ
 numbers_of slots ns = map (number_of slots) ns
 
 -- the index of a column in a loop's row
-abbrev pub field_in : Option Slot → Name → ℕ
+abbrev pub field_in : Option NamedSlot → Name → ℕ
 field_in row c = small (place_named (λ t. t) (fields_in row) c.text)
 
-abbrev pub field_place : List Slot → Name → Name → ℕ
+abbrev pub field_place : List NamedSlot → Name → Name → ℕ
 field_place slots r c = field_in (slot_named slots r.text) c
 
 -- Expressions
 
 -- a construct, given the variables in scope and the columns that may occur bare
 abbrev pub Builds : Type 0 → Type 0
-Builds A = List Slot → List ColDef → A
+Builds A = List NamedSlot → List ColDef → A
 
 abbrev pub kind_step : kind.ExprKind-F (Builds RExprKind) (Builds RExpr) → Builds RExprKind
 kind_step (kind.Const v) slots columns = r_kind.Const v
@@ -152,22 +152,22 @@ abbrev pub expr_of : Expr → Builds RExpr
 expr_of = fold-Expr (Builds RExprKind) (Builds RExpr) kind_step expr_step
 
 -- an expression without bare columns
-abbrev pub plain : List Slot → Expr → RExpr
+abbrev pub plain : List NamedSlot → Expr → RExpr
 plain slots e = expr_of e slots []
 
-abbrev pub plains : List Slot → List Expr → List RExpr
+abbrev pub plains : List NamedSlot → List Expr → List RExpr
 plains slots es = map (plain slots) es
 
-abbrev pub maybe_plain : List Slot → Option Expr → Option RExpr
+abbrev pub maybe_plain : List NamedSlot → Option Expr → Option RExpr
 maybe_plain slots None = None
 maybe_plain slots (Some e) = Some (plain slots e)
 
 -- Clauses
 
-abbrev pub cond_of : List Slot → List ColDef → Cond → RCond
+abbrev pub cond_of : List NamedSlot → List ColDef → Cond → RCond
 cond_of slots columns c = record { column = tiny (column_number columns c.column); op = c.op; right = plain slots c.right }
 
-abbrev pub conds_of : List Slot → List ColDef → List Cond → List RCond
+abbrev pub conds_of : List NamedSlot → List ColDef → List Cond → List RCond
 conds_of slots columns cs = map (cond_of slots columns) cs
 
 abbrev pub sorts_of : List ColDef → List Sort → List RSort
@@ -180,7 +180,7 @@ agg_of columns (agg.Sum c) = r_agg.Sum (column_number columns c)
 agg_of columns (agg.Min c) = r_agg.Min (column_number columns c)
 agg_of columns (agg.Max c) = r_agg.Max (column_number columns c)
 
-abbrev pub items_of : List Slot → List ColDef → List SetItem → List RSetItem
+abbrev pub items_of : List NamedSlot → List ColDef → List SetItem → List RSetItem
 items_of slots columns is = map (λ (i : SetItem). record { column = column_number columns i.column; right = expr_of i.right slots columns }) is
 
 -- Statements
@@ -188,18 +188,18 @@ items_of slots columns is = map (λ (i : SetItem). record { column = column_numb
 -- a statement: the number of loops in it, itself included, and the result if its first loop has this number
 pub record Built : Type 0 where
   pub loops : ℕ
-  pub build : List Slot → ℕ → RStmt
+  pub build : List NamedSlot → ℕ → RStmt
 
 abbrev pub loops_in : List Built → ℕ
 loops_in [] = 0
 loops_in (b ∷ bs) = b.loops + loops_in bs
 
-abbrev pub build_all : List Built → List Slot → ℕ → List RStmt
+abbrev pub build_all : List Built → List NamedSlot → ℕ → List RStmt
 build_all [] slots n = []
 build_all (b ∷ bs) slots n = b.build slots n ∷ build_all bs slots (n + b.loops)
 
 -- a statement without loops
-abbrev pub single : (List Slot → RStmt) → Built
+abbrev pub single : (List NamedSlot → RStmt) → Built
 single f = record { loops = 0; build = λ slots n. f slots }
 
 abbrev pub names_of : List Name → List Text
@@ -256,7 +256,7 @@ abbrev pub loops_of : List TableDef → List Stmt → ℕ
 loops_of tables ss = loops_in (map (built tables) ss)
 
 -- the statements, of which the first loop has this number
-abbrev pub statements_of : List TableDef → List Stmt → List Slot → ℕ → List RStmt
+abbrev pub statements_of : List TableDef → List Stmt → List NamedSlot → ℕ → List RStmt
 statements_of tables ss slots n = build_all (map (built tables) ss) slots n
 
 -- Items

@@ -1,7 +1,7 @@
 -- The result of resolving a script: its program if it has no fault, and otherwise its first fault.
 use Rattle.std.specs.Prelude.{◌≡◌, ℕ, [], Result, Ok, Err}
 use Rattle.mv_ast.specs.declared.tree.Script.{Script}
-use Rattle.mv_names.specs.declared.fault.Fault.{Fault}
+use Rattle.mv_names.specs.declared.fault.TokenFault.{TokenFault}
 use Rattle.mv_names.specs.declared.fault.FaultKind.{FaultKind}
 use Rattle.mv_names.specs.declared.fault.FaultKind.TheVariants as kind
 use Rattle.mv_names.specs.First.{IsFirst}
@@ -13,7 +13,7 @@ use Rattle.mv_resolve.specs.Building.{resolved_of}
 
 -- the first fault has this kind and is at this token
 abbrev pub IsFirstAt : Script → FaultKind → ℕ → Type 0
-IsFirstAt script kind token = let fault : Fault = record { token = token; kind = kind } in IsFirst (faults script) fault
+IsFirstAt script kind token = let fault : TokenFault = record { token = token; kind = kind } in IsFirst (faults script) fault
 
 abbrev pub Refuses : Script → NameFault → Type 0
 Refuses script (UnknownName token) = IsFirstAt script kind.UnknownName token

@@ -17,7 +17,7 @@ use mv_ast::tree::{
 use mv_catalog::resolved::{CopyInfo, ParamInfo, ProcInfo, RStmt, Resolved};
 use mv_names::index::Index;
 use mv_names::parts::Parts;
-use mv_names::tables::{Table, with_columns};
+use mv_names::tables::{TableNames, with_columns};
 use mv_values::calls::{Argument, Call};
 use mv_values::copied::Copied;
 use mv_values::list::List;
@@ -29,7 +29,7 @@ use std::alloc::Global;
 // Tables
 
 /// Returns the number of a column's parent table, if it has REFERENCES.
-fn number_of_parent(tables: &Index<'_, Table<'_>>, parent: &Option<Name>) -> Option<u8>
+fn number_of_parent(tables: &Index<'_, TableNames<'_>>, parent: &Option<Name>) -> Option<u8>
     ensures { result ≡ parent_number tables.now parent.now }
 {
     match parent {
@@ -40,7 +40,7 @@ fn number_of_parent(tables: &Index<'_, Table<'_>>, parent: &Option<Name>) -> Opt
 
 fn described_columns(
     alloc: Global,
-    tables: &Index<'_, Table<'_>>,
+    tables: &Index<'_, TableNames<'_>>,
     columns: &[ColDef],
 ) -> Result<List<Column>, NoMemory>
     ensures { IfOk result (λ all. all ≡ map (described tables.now) columns.now) }
@@ -73,8 +73,8 @@ fn key_places(
 
 fn table_info(
     alloc: Global,
-    tables: &Index<'_, Table<'_>>,
-    table: &Table<'_>,
+    tables: &Index<'_, TableNames<'_>>,
+    table: &TableNames<'_>,
 ) -> Result<TableInfo, NoMemory>
     ensures { IfOk result (λ t. t ≡ table_of tables.now table.now) }
 {
@@ -88,8 +88,8 @@ fn table_info(
 
 fn table_infos(
     alloc: Global,
-    index: &Index<'_, Table<'_>>,
-    tables: &[Table<'_>],
+    index: &Index<'_, TableNames<'_>>,
+    tables: &[TableNames<'_>],
 ) -> Result<List<TableInfo>, NoMemory>
     ensures { IfOk result (λ all. all ≡ map (table_of index.now) tables.now) }
 {
@@ -175,7 +175,7 @@ fn defaults(alloc: Global, vars: &[VarDef]) -> Result<List<Value>, NoMemory>
 /// Builds the body of a procedure. Its first loop has the number after that of `:found`.
 fn body(
     alloc: Global,
-    tables: &Index<'_, Table<'_>>,
+    tables: &Index<'_, TableNames<'_>>,
     definition: &ProcDef,
 ) -> Result<List<RStmt>, NoMemory>
     ensures { IfOk result (λ all. all ≡ (procedure_of tables.now definition.now).body) }
@@ -189,7 +189,7 @@ fn body(
 
 fn procedure(
     alloc: Global,
-    tables: &Index<'_, Table<'_>>,
+    tables: &Index<'_, TableNames<'_>>,
     definition: &ProcDef,
 ) -> Result<ProcInfo, NoMemory>
     ensures { IfOk result (λ p. p ≡ procedure_of tables.now definition.now) }
@@ -205,7 +205,7 @@ fn procedure(
 
 fn procedures(
     alloc: Global,
-    tables: &Index<'_, Table<'_>>,
+    tables: &Index<'_, TableNames<'_>>,
     definitions: &[ProcDef],
 ) -> Result<List<ProcInfo>, NoMemory>
     ensures { IfOk result (λ all. all ≡ map (procedure_of tables.now) definitions.now) }
@@ -231,7 +231,7 @@ fn block_into(table: u8, block: Span) -> CopyInfo
     }
 }
 
-fn copy_into(tables: &Index<'_, Table<'_>>, definition: &CopyDef) -> CopyInfo
+fn copy_into(tables: &Index<'_, TableNames<'_>>, definition: &CopyDef) -> CopyInfo
     ensures { result ≡ copy_of tables.now definition.now }
 {
     let table = tiny_number(tables.place(&definition.table.text));
@@ -240,7 +240,7 @@ fn copy_into(tables: &Index<'_, Table<'_>>, definition: &CopyDef) -> CopyInfo
 
 fn copies(
     alloc: Global,
-    tables: &Index<'_, Table<'_>>,
+    tables: &Index<'_, TableNames<'_>>,
     definitions: &[CopyDef],
 ) -> Result<List<CopyInfo>, NoMemory>
     ensures { IfOk result (λ all. all ≡ map (copy_of tables.now) definitions.now) }

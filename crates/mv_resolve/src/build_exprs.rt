@@ -5,11 +5,11 @@ ghost use Rattle.std.specs.Option.{option_copied};
 ghost use Rattle.mv_resolve.specs.Building.{columns_in, expr_of, plain, plains, maybe_plain, conds_of, sorts_of, agg_of, items_of};
 
 use crate::build_names::{column, field, number_in, tiny_number, variable};
-use crate::slot::Slot;
+use crate::slot::NamedSlot;
 use mv_ast::tree::{Agg, Cond, Expr, ExprKind, SetItem, Sort};
 use mv_catalog::resolved::{RAgg, RCond, RExpr, RExprKind, RSetItem, RSort};
 use mv_names::nested::Scope;
-use mv_names::tables::Table;
+use mv_names::tables::TableNames;
 use mv_values::boxed::Boxed;
 use mv_values::copied::Copied;
 use mv_values::list::List;
@@ -20,8 +20,8 @@ use std::alloc::Global;
 fn expr(
     alloc: Global,
     e: &Expr,
-    slots: &Scope<'_, Slot>,
-    table: Option<&Table<'_>>,
+    slots: &Scope<'_, NamedSlot>,
+    table: Option<&TableNames<'_>>,
 ) -> Result<RExpr, NoMemory>
     ensures { IfOk result (λ r. r ≡ expr_of e.now slots.now (columns_in (option_copied table.entry))) }
 {
@@ -55,7 +55,7 @@ fn of_kind(kind: RExprKind) -> RExpr
 /// Builds an expression without bare columns.
 pub(crate) fn plain_expr(
     alloc: Global,
-    slots: &Scope<'_, Slot>,
+    slots: &Scope<'_, NamedSlot>,
     e: &Expr,
 ) -> Result<RExpr, NoMemory>
     ensures { IfOk result (λ r. r ≡ plain slots.now e.now) }
@@ -65,7 +65,7 @@ pub(crate) fn plain_expr(
 
 pub(crate) fn plain_exprs(
     alloc: Global,
-    slots: &Scope<'_, Slot>,
+    slots: &Scope<'_, NamedSlot>,
     exprs: &[Expr],
 ) -> Result<List<RExpr>, NoMemory>
     ensures { IfOk result (λ all. all ≡ plains slots.now exprs.now) }
@@ -79,7 +79,7 @@ pub(crate) fn plain_exprs(
 
 pub(crate) fn offset(
     alloc: Global,
-    slots: &Scope<'_, Slot>,
+    slots: &Scope<'_, NamedSlot>,
     e: &Option<Expr>,
 ) -> Result<Option<RExpr>, NoMemory>
     ensures { IfOk result (λ r. r ≡ maybe_plain slots.now e.now) }
@@ -93,8 +93,8 @@ pub(crate) fn offset(
 /// Builds the conditions of WHERE.
 pub(crate) fn conds(
     alloc: Global,
-    slots: &Scope<'_, Slot>,
-    table: Option<&Table<'_>>,
+    slots: &Scope<'_, NamedSlot>,
+    table: Option<&TableNames<'_>>,
     conds: &[Cond],
 ) -> Result<List<RCond>, NoMemory>
     ensures { IfOk result (λ all. all ≡ conds_of slots.now (columns_in (option_copied table.entry)) conds.now) }
@@ -114,7 +114,7 @@ pub(crate) fn conds(
 /// Builds the columns of ORDER BY.
 pub(crate) fn sorts(
     alloc: Global,
-    table: Option<&Table<'_>>,
+    table: Option<&TableNames<'_>>,
     sorts: &[Sort],
 ) -> Result<List<RSort>, NoMemory>
     ensures { IfOk result (λ all. all ≡ sorts_of (columns_in (option_copied table.entry)) sorts.now) }
@@ -129,7 +129,7 @@ pub(crate) fn sorts(
     Ok(all)
 }
 
-pub(crate) fn aggregate(table: Option<&Table<'_>>, agg: &Agg) -> RAgg
+pub(crate) fn aggregate(table: Option<&TableNames<'_>>, agg: &Agg) -> RAgg
     ensures { result ≡ agg_of (columns_in (option_copied table.entry)) agg.now }
 {
     match agg {
@@ -144,8 +144,8 @@ pub(crate) fn aggregate(table: Option<&Table<'_>>, agg: &Agg) -> RAgg
 /// Builds the items of an UPDATE's SET. They may contain bare columns.
 pub(crate) fn set_items(
     alloc: Global,
-    slots: &Scope<'_, Slot>,
-    table: Option<&Table<'_>>,
+    slots: &Scope<'_, NamedSlot>,
+    table: Option<&TableNames<'_>>,
     items: &[SetItem],
 ) -> Result<List<RSetItem>, NoMemory>
     ensures { IfOk result (λ all. all ≡ items_of slots.now (columns_in (option_copied table.entry)) items.now) }

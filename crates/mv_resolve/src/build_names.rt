@@ -6,13 +6,13 @@ ghost use Rattle.mv_names.specs.Scope.{found};
 ghost use Rattle.mv_names.specs.Statements.{table_named};
 ghost use Rattle.mv_resolve.specs.Building.{small, tiny, column_number, table_place, columns_in, column_name, slot, param_fields, param_slots, variable_slots, found_number, slots_of, number_in, number_of, numbers_of, fields_in, field_in, names_of};
 
-use crate::slot::Slot;
+use crate::slot::NamedSlot;
 use mv_ast::tree::{ColDef, Name, Param, ParamKind, ProcDef, VarDef};
 use mv_names::index::Index;
 use mv_names::named::place;
 use mv_names::nested::Scope;
 use mv_names::scope::FOUND;
-use mv_names::tables::Table;
+use mv_names::tables::TableNames;
 use mv_values::copied::Copied;
 use mv_values::list::List;
 use mv_values::memory::NoMemory;
@@ -57,7 +57,7 @@ pub(crate) fn push_copy<T: Copied>(
 // Columns and tables
 
 /// Returns the number of a column; 0 if the table doesn't exist. Costs a hash of the name.
-pub(crate) fn column(table: Option<&Table<'_>>, name: &Name) -> u16
+pub(crate) fn column(table: Option<&TableNames<'_>>, name: &Name) -> u16
     ensures { result ≡ column_number (columns_in (option_copied table.entry)) name.now }
 {
     match table {
@@ -69,7 +69,7 @@ pub(crate) fn column(table: Option<&Table<'_>>, name: &Name) -> u16
 /// Returns the numbers of columns.
 pub(crate) fn columns(
     alloc: Global,
-    table: Option<&Table<'_>>,
+    table: Option<&TableNames<'_>>,
     names: &[Name],
 ) -> Result<List<u16>, NoMemory>
     ensures { IfOk result (λ all. all ≡ map (column_number (columns_in (option_copied table.entry))) names.now) }
@@ -83,9 +83,9 @@ pub(crate) fn columns(
 
 /// Returns the number of a table, and the table if it exists. Costs a hash of the name.
 pub(crate) fn numbered_table<'a, 'b>(
-    tables: &Index<'a, Table<'b>>,
+    tables: &Index<'a, TableNames<'b>>,
     name: &Name,
-) -> (u16, Option<&'a Table<'b>>)
+) -> (u16, Option<&'a TableNames<'b>>)
     ensures number { result.0 ≡ small (table_place tables.now name.now) }
     ensures table { option_copied result.1 ≡ table_named tables.now name.now.text }
 {
@@ -101,10 +101,10 @@ pub(crate) fn slot_at(
     number: usize,
     name: &Txt,
     fields: List<Txt>,
-) -> Result<Slot, NoMemory>
+) -> Result<NamedSlot, NoMemory>
     ensures { IfOk result (λ s. s ≡ slot number name.now fields) }
 {
-    Ok(Slot {
+    Ok(NamedSlot {
         name: name.copy(alloc)?,
         number: small_number(number),
         fields,
@@ -146,7 +146,7 @@ fn fields_of_param(alloc: Global, kind: &ParamKind) -> Result<List<Txt>, NoMemor
 fn add_params<'a>(
     alloc: Global,
     params: &'a [Param],
-    slots: &mut Scope<'a, Slot>,
+    slots: &mut Scope<'a, NamedSlot>,
 ) -> Result<(), NoMemory>
     ensures { OnOk result (slots.new ≡ slots.old ++ param_slots 0 params.now) }
 {
@@ -162,7 +162,7 @@ fn add_variables<'a>(
     alloc: Global,
     first: usize,
     vars: &'a [VarDef],
-    slots: &mut Scope<'a, Slot>,
+    slots: &mut Scope<'a, NamedSlot>,
 ) -> Result<(), NoMemory>
     ensures { OnOk result (slots.new ≡ slots.old ++ variable_slots first vars.now) }
 {
@@ -184,7 +184,7 @@ pub(crate) fn number_of_found(definition: &ProcDef) -> Result<usize, NoMemory>
 }
 
 /// Returns the slot of `:found`.
-fn found_slot(alloc: Global, definition: &ProcDef) -> Result<Slot, NoMemory>
+fn found_slot(alloc: Global, definition: &ProcDef) -> Result<NamedSlot, NoMemory>
     ensures { IfOk result (λ s. s ≡ slot (found_number definition.now) found.name []) }
 {
     let name = Txt::of(alloc, FOUND)?;
@@ -192,7 +192,10 @@ fn found_slot(alloc: Global, definition: &ProcDef) -> Result<Slot, NoMemory>
 }
 
 /// Returns the variables of a procedure, without its loop rows.
-pub(crate) fn slots<'a>(alloc: Global, definition: &'a ProcDef) -> Result<Scope<'a, Slot>, NoMemory>
+pub(crate) fn slots<'a>(
+    alloc: Global,
+    definition: &'a ProcDef,
+) -> Result<Scope<'a, NamedSlot>, NoMemory>
     ensures { IfOk result (λ all. all ≡ slots_of definition.now) }
 {
     let mut all = Scope::new(alloc);
@@ -204,7 +207,7 @@ pub(crate) fn slots<'a>(alloc: Global, definition: &'a ProcDef) -> Result<Scope<
 }
 
 /// Returns the number of a variable that was sought; 0 if there is none.
-pub(crate) fn number_in(sought: Option<&Slot>) -> u16
+pub(crate) fn number_in(sought: Option<&NamedSlot>) -> u16
     ensures { result ≡ number_in (option_copied sought.entry) }
 {
     match sought {
@@ -214,7 +217,7 @@ pub(crate) fn number_in(sought: Option<&Slot>) -> u16
 }
 
 /// Returns the number of a variable.
-pub(crate) fn variable(slots: &Scope<'_, Slot>, name: &Name) -> u16
+pub(crate) fn variable(slots: &Scope<'_, NamedSlot>, name: &Name) -> u16
     ensures { result ≡ number_of slots.now name.now }
 {
     number_in(slots.find(&name.text))
@@ -223,7 +226,7 @@ pub(crate) fn variable(slots: &Scope<'_, Slot>, name: &Name) -> u16
 /// Returns the numbers of variables.
 pub(crate) fn variables(
     alloc: Global,
-    slots: &Scope<'_, Slot>,
+    slots: &Scope<'_, NamedSlot>,
     names: &[Name],
 ) -> Result<List<u16>, NoMemory>
     ensures { IfOk result (λ all. all ≡ numbers_of slots.now names.now) }
@@ -236,7 +239,7 @@ pub(crate) fn variables(
 }
 
 /// Returns the column names of a variable that holds rows; empty for any other.
-fn fields_in(sought: Option<&Slot>) -> &[Txt]
+fn fields_in(sought: Option<&NamedSlot>) -> &[Txt]
     ensures { result.now ≡ fields_in (option_copied sought.entry) }
 {
     match sought {
@@ -246,7 +249,7 @@ fn fields_in(sought: Option<&Slot>) -> &[Txt]
 }
 
 /// Returns copies of a variable's column names.
-pub(crate) fn fields(alloc: Global, sought: Option<&Slot>) -> Result<List<Txt>, NoMemory>
+pub(crate) fn fields(alloc: Global, sought: Option<&NamedSlot>) -> Result<List<Txt>, NoMemory>
     ensures { IfOk result (λ all. all ≡ fields_in (option_copied sought.entry)) }
 {
     match sought {
@@ -256,7 +259,7 @@ pub(crate) fn fields(alloc: Global, sought: Option<&Slot>) -> Result<List<Txt>, 
 }
 
 /// Returns the index of a column in a loop's row.
-pub(crate) fn field(row: Option<&Slot>, column: &Name) -> u16
+pub(crate) fn field(row: Option<&NamedSlot>, column: &Name) -> u16
     ensures { result ≡ field_in (option_copied row.entry) column.now }
 {
     small_number(place(fields_in(row), &column.text))

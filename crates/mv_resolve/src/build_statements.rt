@@ -9,12 +9,12 @@ use crate::build_names::{
     columns, fields, number_in, numbered_table, slot_at, small_number, sum, texts, variable,
     variables,
 };
-use crate::slot::Slot;
+use crate::slot::NamedSlot;
 use mv_ast::tree::{Agg, Cond, Expr, Name, Selection, SetItem, Stmt};
 use mv_catalog::resolved::RStmt;
 use mv_names::index::Index;
 use mv_names::nested::Scope;
-use mv_names::tables::Table;
+use mv_names::tables::TableNames;
 use mv_values::copied::Copied;
 use mv_values::list::List;
 use mv_values::memory::NoMemory;
@@ -26,7 +26,7 @@ use std::alloc::Global;
 /// Builds a SET.
 fn assign(
     alloc: Global,
-    slots: &Scope<'_, Slot>,
+    slots: &Scope<'_, NamedSlot>,
     to: &Name,
     right: &Expr,
 ) -> Result<RStmt, NoMemory>
@@ -42,8 +42,8 @@ fn assign(
 /// Builds a SELECT INTO.
 fn select(
     alloc: Global,
-    tables: &Index<'_, Table<'_>>,
-    slots: &Scope<'_, Slot>,
+    tables: &Index<'_, TableNames<'_>>,
+    slots: &Scope<'_, NamedSlot>,
     selection: &Selection<'_>,
     to: &[Name],
     skip: &Option<Expr>,
@@ -64,8 +64,8 @@ fn select(
 /// Builds a SELECT with an aggregate.
 fn total(
     alloc: Global,
-    tables: &Index<'_, Table<'_>>,
-    slots: &Scope<'_, Slot>,
+    tables: &Index<'_, TableNames<'_>>,
+    slots: &Scope<'_, NamedSlot>,
     agg: &Agg,
     to: &Name,
     name: &Name,
@@ -85,8 +85,8 @@ fn total(
 /// Builds an INSERT.
 fn insert(
     alloc: Global,
-    tables: &Index<'_, Table<'_>>,
-    slots: &Scope<'_, Slot>,
+    tables: &Index<'_, TableNames<'_>>,
+    slots: &Scope<'_, NamedSlot>,
     name: &Name,
     values: &[Expr],
 ) -> Result<RStmt, NoMemory>
@@ -102,8 +102,8 @@ fn insert(
 /// Builds an UPDATE.
 fn update(
     alloc: Global,
-    tables: &Index<'_, Table<'_>>,
-    slots: &Scope<'_, Slot>,
+    tables: &Index<'_, TableNames<'_>>,
+    slots: &Scope<'_, NamedSlot>,
     name: &Name,
     items: &[SetItem],
     tests: &[Cond],
@@ -121,8 +121,8 @@ fn update(
 /// Builds a DELETE.
 fn delete(
     alloc: Global,
-    tables: &Index<'_, Table<'_>>,
-    slots: &Scope<'_, Slot>,
+    tables: &Index<'_, TableNames<'_>>,
+    slots: &Scope<'_, NamedSlot>,
     name: &Name,
     tests: &[Cond],
 ) -> Result<RStmt, NoMemory>
@@ -136,7 +136,7 @@ fn delete(
 }
 
 /// Builds a PRINT.
-fn print(alloc: Global, slots: &Scope<'_, Slot>, values: &[Expr]) -> Result<RStmt, NoMemory>
+fn print(alloc: Global, slots: &Scope<'_, NamedSlot>, values: &[Expr]) -> Result<RStmt, NoMemory>
     ensures { IfOk result (λ s. s ≡ r_stmt.Print (plains slots.now values.now)) }
 {
     Ok(RStmt::Print {
@@ -156,7 +156,7 @@ fn rollback(alloc: Global, reason: &Txt) -> Result<RStmt, NoMemory>
 /// Builds an IF with these branches.
 fn branch(
     alloc: Global,
-    slots: &Scope<'_, Slot>,
+    slots: &Scope<'_, NamedSlot>,
     test: &Expr,
     yes: List<RStmt>,
     no: List<RStmt>,
@@ -173,8 +173,8 @@ fn branch(
 /// Builds a FOR over a SELECT with this number and this body.
 fn select_loop(
     alloc: Global,
-    tables: &Index<'_, Table<'_>>,
-    slots: &Scope<'_, Slot>,
+    tables: &Index<'_, TableNames<'_>>,
+    slots: &Scope<'_, NamedSlot>,
     number: usize,
     distinct: bool,
     selection: &Selection<'_>,
@@ -197,8 +197,8 @@ fn select_loop(
 /// Enters a loop: takes the next number, and brings the loop's row into scope.
 fn enter<'a>(
     name: &'a Name,
-    row: Slot,
-    slots: &mut Scope<'a, Slot>,
+    row: NamedSlot,
+    slots: &mut Scope<'a, NamedSlot>,
     next: &mut usize,
 ) -> Result<(), NoMemory>
     requires { name.now.text ≡ row.name }
@@ -216,9 +216,9 @@ fn enter<'a>(
 #[cycle(statements)]
 pub(crate) fn statements<'a>(
     alloc: Global,
-    tables: &Index<'_, Table<'_>>,
+    tables: &Index<'_, TableNames<'_>>,
     body: &'a [Stmt],
-    slots: &mut Scope<'a, Slot>,
+    slots: &mut Scope<'a, NamedSlot>,
     next: &mut usize,
 ) -> Result<List<RStmt>, NoMemory>
     ensures built { IfOk result (λ all. all ≡ statements_of tables.now body.now slots.old next.old) }
@@ -236,9 +236,9 @@ pub(crate) fn statements<'a>(
 #[cycle(statements)]
 fn statement<'a>(
     alloc: Global,
-    tables: &Index<'_, Table<'_>>,
+    tables: &Index<'_, TableNames<'_>>,
     s: &'a Stmt,
-    slots: &mut Scope<'a, Slot>,
+    slots: &mut Scope<'a, NamedSlot>,
     next: &mut usize,
 ) -> Result<RStmt, NoMemory>
     ensures built { IfOk result (λ r. r ≡ (built tables.now s.now).build slots.old next.old) }
@@ -326,11 +326,11 @@ fn statement<'a>(
 #[cycle(statements)]
 fn body_under<'a>(
     alloc: Global,
-    tables: &Index<'_, Table<'_>>,
+    tables: &Index<'_, TableNames<'_>>,
     name: &'a Name,
-    slot: Slot,
+    slot: NamedSlot,
     body: &'a [Stmt],
-    slots: &mut Scope<'a, Slot>,
+    slots: &mut Scope<'a, NamedSlot>,
     next: &mut usize,
 ) -> Result<List<RStmt>, NoMemory>
     requires { name.now.text ≡ slot.name }
@@ -349,12 +349,12 @@ fn body_under<'a>(
 #[cycle(statements)]
 fn over_select<'a>(
     alloc: Global,
-    tables: &Index<'_, Table<'_>>,
+    tables: &Index<'_, TableNames<'_>>,
     row: &'a Name,
     distinct: bool,
     selection: &Selection<'_>,
     body: &'a [Stmt],
-    slots: &mut Scope<'a, Slot>,
+    slots: &mut Scope<'a, NamedSlot>,
     next: &mut usize,
 ) -> Result<RStmt, NoMemory>
     ensures built { IfOk result (λ r. r ≡ (for_select tables.now row.now distinct selection.now.columns.now selection.now.table.now selection.now.conds.now selection.now.sorts.now (map (built tables.now) body.now)).build slots.old next.old) }
@@ -371,11 +371,11 @@ fn over_select<'a>(
 #[cycle(statements)]
 fn over_rows<'a>(
     alloc: Global,
-    tables: &Index<'_, Table<'_>>,
+    tables: &Index<'_, TableNames<'_>>,
     row: &'a Name,
     rows: &Name,
     body: &'a [Stmt],
-    slots: &mut Scope<'a, Slot>,
+    slots: &mut Scope<'a, NamedSlot>,
     next: &mut usize,
 ) -> Result<RStmt, NoMemory>
     ensures built { IfOk result (λ r. r ≡ (for_rows row.now rows.now (map (built tables.now) body.now)).build slots.old next.old) }

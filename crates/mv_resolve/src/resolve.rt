@@ -15,13 +15,13 @@ use crate::refused::NameFault;
 use mv_ast::tree::Script;
 use mv_catalog::resolved::Resolved;
 use mv_names::check::{check_order, check_parts};
-use mv_names::fault::{Fault, FaultKind, first_of};
+use mv_names::fault::{FaultKind, TokenFault, first_of};
 use mv_names::parts::{Parts, part};
 use mv_values::list::List;
 use std::alloc::Global;
 
 /// Converts a fault to an error.
-fn refused(fault: Fault) -> NameFault
+fn refused(fault: TokenFault) -> NameFault
     ensures { (script : ScriptValue) → IsFirst (faults script) fault → Refuses script result }
 {
     let token = fault.token;
@@ -36,7 +36,7 @@ fn refused(fault: Fault) -> NameFault
 }
 
 /// Returns the program of these parts, or the first of these faults.
-fn answer(alloc: Global, parts: &Parts, found: &[Fault]) -> Result<Resolved, NameFault>
+fn answer(alloc: Global, parts: &Parts, found: &[TokenFault]) -> Result<Resolved, NameFault>
     ensures { (script : ScriptValue) → found.now ≡ faults script → parts.now ≡ parts_of script.items → Resolves script result }
 {
     match first_of(found) {

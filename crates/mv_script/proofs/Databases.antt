@@ -9,9 +9,9 @@ use Rattle.mv_record.specs.Writes.{AreRising}
 use Rattle.mv_recorded.proofs.Fronts.{left_is}
 use Rattle.mv_graph.specs.declared.graph.Graph.{Graph}
 use Rattle.mv_graph.specs.Nodes.{meaning_of}
-use Rattle.mv_lawful.specs.Work.{tables_after, table_at}
-use Rattle.mv_script.specs.declared.script.Script.{Script}
-use Rattle.mv_script.specs.Scripts.{work_of, run_in, run_by, CanRun, IsScriptOf, IsScript}
+use Rattle.mv_lawful.specs.Batch.{tables_after, table_at}
+use Rattle.mv_script.specs.declared.script.CompiledScript.{CompiledScript}
+use Rattle.mv_script.specs.Scripts.{batch_of, run_in, run_by, CanRun, IsScriptOf, IsCompiledScript}
 use Rattle.mv_script.specs.Laws.{CallsKeepDatabases, TablesAreDatabases}
 
 -- a call leaves a database of the same tables
@@ -28,17 +28,17 @@ run_database tables s c db k d = by (slice_get s.calls c) refl where
   by None at = d
   by (Some call) at = graph call (slice_get s.graphs call.procedure) at refl
 
-after_database : (tables : List TableInfo) (s : Script) (cs : List ℕ) (db : Tables) → IsScriptOf tables s → IsDatabaseOf tables db → IsDatabaseOf tables (tables_after (work_of s) db cs)
+after_database : (tables : List TableInfo) (s : CompiledScript) (cs : List ℕ) (db : Tables) → IsScriptOf tables s → IsDatabaseOf tables db → IsDatabaseOf tables (tables_after (batch_of s) db cs)
 after_database tables s [] db k d = d
-after_database tables s (c ∷ cs) db k d = after_database tables s cs ((work_of s).run c db).tables k (run_database tables s c db k d)
+after_database tables s (c ∷ cs) db k d = after_database tables s cs ((batch_of s).run c db).tables k (run_database tables s c db k d)
 
 pub table_database : TablesAreDatabases
 table_database tables s order n k = after_database tables s (take n order) s.opening k k.opening
 
 -- the keys of the tables rise after any calls
-pub tables_rise : (s : Script) (order : List ℕ) (n : ℕ) → IsScript s → AreRising (table_at (work_of s) order n)
+pub tables_rise : (s : CompiledScript) (order : List ℕ) (n : ℕ) → IsCompiledScript s → AreRising (table_at (batch_of s) order n)
 tables_rise s order n k = (table_database k.0 s order n k.1).rising
 
 -- there are as many after any calls
-pub same_count : (s : Script) (order : List ℕ) (m n : ℕ) → IsScript s → length (table_at (work_of s) order m) ≡ length (table_at (work_of s) order n)
+pub same_count : (s : CompiledScript) (order : List ℕ) (m n : ℕ) → IsCompiledScript s → length (table_at (batch_of s) order m) ≡ length (table_at (batch_of s) order n)
 same_count s order m n k = (table_database k.0 s order m k.1).size ∙ sym (table_database k.0 s order n k.1).size

@@ -6,9 +6,9 @@ use Rattle.mv_values.specs.declared.schema.TableInfo.{TableInfo}
 use Rattle.mv_values.specs.Tables.{Tables}
 use Rattle.mv_recorded.proofs.Quiet.{readers_change_nothing}
 use Rattle.mv_graph.specs.declared.graph.Graph.{Graph}
-use Rattle.mv_lawful.specs.Work.{ReadersKeepTables}
-use Rattle.mv_script.specs.declared.script.Script.{Script}
-use Rattle.mv_script.specs.Scripts.{work_of, run_in, run_by, reads_in, reads_by, CanRun, IsScriptOf, IsScript}
+use Rattle.mv_lawful.specs.Batch.{ReadersKeepTables}
+use Rattle.mv_script.specs.declared.script.CompiledScript.{CompiledScript}
+use Rattle.mv_script.specs.Scripts.{batch_of, run_in, run_by, reads_in, reads_by, CanRun, IsScriptOf, IsCompiledScript}
 use Rattle.mv_script.specs.Laws.{ReadersAreQuiet}
 
 pub readers_are_quiet : ReadersAreQuiet
@@ -24,5 +24,5 @@ readers_are_quiet tables s k c db reads = by (slice_get s.calls c) refl reads wh
   by (Some call) at is = graph call (slice_get s.graphs call.procedure) at refl is
 
 -- so in any script of one piece
-pub keeps_tables : (s : Script) → IsScript s → ReadersKeepTables (work_of s)
+pub keeps_tables : (s : CompiledScript) → IsCompiledScript s → ReadersKeepTables (batch_of s)
 keeps_tables s k = readers_are_quiet k.0 s k.1

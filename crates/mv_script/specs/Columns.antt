@@ -9,7 +9,7 @@ use Rattle.mv_graph.specs.declared.graph.Keyword.{Keyword}
 use Rattle.mv_graph.specs.declared.graph.Keyword.TheVariants.{Delete}
 use Rattle.mv_graph.specs.declared.graph.Node.{Node}
 use Rattle.mv_graph.specs.Edges.{is_number}
-use Rattle.mv_script.specs.declared.script.Script.{Script}
+use Rattle.mv_script.specs.declared.script.CompiledScript.{CompiledScript}
 
 -- whether a column is the first of a key
 abbrev pub leads : ℕ → List ℕ → Bool
@@ -52,5 +52,5 @@ is_for_children g t c = finds_children g t c && not (leads_key g.tables t c)
 abbrev pub is_looked_up : ℕ → ℕ → Graph → Bool
 is_looked_up t c g = list_any (is_indexed_by g.tables t c) g.tested || is_for_children g t c
 
-abbrev pub are_indexed : Script → ℕ → ℕ → Bool
+abbrev pub are_indexed : CompiledScript → ℕ → ℕ → Bool
 are_indexed script t c = list_any (is_looked_up t c) script.graphs

@@ -9,10 +9,10 @@ use Rattle.mv_record.specs.Databases.{IsDatabaseOf}
 use Rattle.mv_record.specs.Runs.{Run}
 use Rattle.mv_graph.specs.declared.graph.Graph.{Graph}
 use Rattle.mv_graph.specs.Nodes.{IsSound, is_read_only, meaning_of}
-use Rattle.mv_lawful.specs.Work.{Work}
-use Rattle.mv_script.specs.declared.script.Script.{Script}
+use Rattle.mv_lawful.specs.Batch.{Batch}
+use Rattle.mv_script.specs.declared.script.CompiledScript.{CompiledScript}
 
--- Its work
+-- Its batch
 
 -- no records, no lines, and the same tables
 abbrev pub idle : Tables → Run
@@ -38,8 +38,8 @@ reads_in graphs None = false
 reads_in graphs (Some call) = reads_by (slice_get graphs call.procedure)
 
 -- what a script is to the law of journals: each call runs by its graph
-abbrev pub work_of : Script → Work
-work_of s = record {
+abbrev pub batch_of : CompiledScript → Batch
+batch_of s = record {
   run = λ c. run_in s.graphs (slice_get s.calls c);
   read_only = λ c. reads_in s.graphs (slice_get s.calls c);
   count = length s.calls;
@@ -50,7 +50,7 @@ work_of s = record {
 -- Scripts of one piece
 
 -- the call of a number, and its graph
-pub record IsCallOf (s : Script) (c : ℕ) (call : Call) (g : Graph) : Type 0 where
+pub record IsCallOf (s : CompiledScript) (c : ℕ) (call : Call) (g : Graph) : Type 0 where
   pub call_is : slice_get s.calls c ≡ Some call
   pub graph_is : slice_get s.graphs call.procedure ≡ Some g
 
@@ -62,12 +62,12 @@ pub record CanRun (tables : List TableInfo) (call : Call) (g : Graph) : Type 0 w
   pub suits : AllZip Suits g.procedure.params call.arguments
 
 -- each call has a graph by which it can run on databases of these tables, and the opening database is one of them
-pub record IsScriptOf (tables : List TableInfo) (s : Script) : Type 0 where
+pub record IsScriptOf (tables : List TableInfo) (s : CompiledScript) : Type 0 where
   pub there : (c : ℕ) → c < length s.calls → (call : Call) × (g : Graph) × IsCallOf s c call g
   pub runs : (c : ℕ) (call : Call) (g : Graph) → IsCallOf s c call g → CanRun tables call g
   pub few : length s.calls < 2 ^ 32
   pub opening : IsDatabaseOf tables s.opening
 
 -- so for some tables
-abbrev pub IsScript : Script → Type 0
-IsScript s = (tables : List TableInfo) × IsScriptOf tables s
+abbrev pub IsCompiledScript : CompiledScript → Type 0
+IsCompiledScript s = (tables : List TableInfo) × IsScriptOf tables s

@@ -7,7 +7,7 @@ ghost use Rattle.mv_values.specs.References.{parent_in, parent_of};
 ghost use Rattle.mv_values.specs.Testing.{are_tested};
 ghost use Rattle.mv_script.specs.Columns.{leads, leads_key, is_indexed_by, is_delete, deletes, delete_any, finds_children, is_for_children, is_looked_up, are_indexed};
 
-use crate::script::Script;
+use crate::script::CompiledScript;
 use mv_graph::graph::{Graph, Keyword, Node};
 use mv_values::list::List;
 use mv_values::memory::NoMemory;
@@ -184,7 +184,7 @@ fn add_columns(all: &mut List<Tested>, graph: &Graph) -> Result<(), NoMemory>
 
 /// Returns the columns that are indexed, each once. A WHERE of some procedure tests them with `=`, or a DELETE looks for
 /// children by them. Columns that lead the key of their table are left out.
-pub fn indexed_columns(alloc: Global, script: &Script) -> Result<List<Tested>, NoMemory>
+pub fn indexed_columns(alloc: Global, script: &CompiledScript) -> Result<List<Tested>, NoMemory>
     ensures { IfOk result (λ columns. (t c : ℕ) → t < 64 → c < 32 → are_tested columns t c ≡ are_indexed script.now t c) }
 {
     let mut all = List::new(alloc);

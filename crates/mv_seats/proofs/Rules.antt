@@ -8,13 +8,13 @@ use mathlib.Core.Option.{Option, some, some-ne-none, some-injective}
 use lib.ListN.{get_elem?}
 use Rattle.atomic_table.specs.Table.{State, opening}
 use Rattle.atomic_table.proofs.Lists.{at_set, at_snoc, set_else, at_longer}
-use Rattle.mv_seats.specs.Scripts.{Script}
+use Rattle.mv_seats.specs.Scripts.{BoardScript}
 use Rattle.mv_seats.specs.Knowing.{Role, Gate, Spent, has_role, AreCalls}
 use Rattle.mv_seats.specs.Rule.{View, first, BeginsIn, IsBelow, IsExact, Sizes, Ruled}
 use Rattle.mv_seats.proofs.Words.{there_put}
 
 -- what the rule says of one seat
-pub record Fits (script : Script) (words history : List ℕ) (gate : ℕ) (owner : ℕ → ℕ) (seat : ℕ) (v : View) : Type 0 where
+pub record Fits (script : BoardScript) (words history : List ℕ) (gate : ℕ) (owner : ℕ → ℕ) (seat : ℕ) (v : View) : Type 0 where
   pub of_script : v.script ≡ script
   pub is_gate : v.knows.role ≡ Gate → seat ≡ gate
   pub is_owner : (q : ℕ) → has_role v.knows q ≡ true → seat ≡ owner q
@@ -23,7 +23,7 @@ pub record Fits (script : Script) (words history : List ℕ) (gate : ℕ) (owner
   pub exact : (q : ℕ) → has_role v.knows q ≡ true → IsExact words q v.knows
 
 -- what it says of all seats
-abbrev pub EachView : Script → List ℕ → List ℕ → ℕ → (ℕ → ℕ) → List View → Type 0
+abbrev pub EachView : BoardScript → List ℕ → List ℕ → ℕ → (ℕ → ℕ) → List View → Type 0
 EachView script words history gate owner views = (seat : ℕ) (v : View) → get_elem? views seat ≡ some v → v.knows.role ≢ Spent → Fits script words history gate owner seat v
 
 -- the gate's view is there
@@ -33,7 +33,7 @@ HasGate gate views = (v : View) × (get_elem? views gate ≡ some v) × (v.knows
 not_spent : (r : Role) → r ≡ Gate → r ≢ Spent
 not_spent r gated e = absurd (cc (sym gated ∙ e))
 
-pub each_of : (script : Script) (s : State ℕ View) (r : Ruled script s) → EachView script s.words r.history r.gate r.owner s.views
+pub each_of : (script : BoardScript) (s : State ℕ View) (r : Ruled script s) → EachView script s.words r.history r.gate r.owner s.views
 each_of script s r seat v at live = record {
   of_script = r.one_script seat v (at, live);
   is_gate = r.one_of_each.one_gate seat v (at, live);
@@ -43,10 +43,10 @@ each_of script s r seat v at live = record {
   exact = r.own_marks seat v (at, live);
 }
 
-pub gate_of : (script : Script) (s : State ℕ View) (r : Ruled script s) → HasGate r.gate s.views
+pub gate_of : (script : BoardScript) (s : State ℕ View) (r : Ruled script s) → HasGate r.gate s.views
 gate_of script s r = let t = r.one_of_each.there in (t.0, t.1.0, t.2)
 
-pub ruled : (script : Script) (words : List ℕ) (homes : List (Option ℕ)) (views : List View) (history : List ℕ) (gate : ℕ) (owner : ℕ → ℕ)
+pub ruled : (script : BoardScript) (words : List ℕ) (homes : List (Option ℕ)) (views : List View) (history : List ℕ) (gate : ℕ) (owner : ℕ → ℕ)
     → EachView script words history gate owner views → HasGate gate views → AreCalls script history → slice_index words 0 ≡ length history → Sizes script words
     → Ruled script record { words = words; homes = homes; views = views }
 ruled script words homes views history gate owner each there calls count sizes = record {
@@ -67,7 +67,7 @@ ruled script words homes views history gate owner each there calls count sizes =
 }
 
 -- one seat has another view, and the others fit what has become of the board
-pub each_step : (script : Script) (words words' history history' : List ℕ) (gate id : ℕ) (owner : ℕ → ℕ) (views : List View) (w : View) → EachView script words history gate owner views
+pub each_step : (script : BoardScript) (words words' history history' : List ℕ) (gate id : ℕ) (owner : ℕ → ℕ) (views : List View) (w : View) → EachView script words history gate owner views
     → (w.knows.role ≢ Spent → Fits script words' history' gate owner id w)
     → ((j : ℕ) (u : View) → j ≢ id → Fits script words history gate owner j u → Fits script words' history' gate owner j u)
     → EachView script words' history' gate owner (set views id w)
@@ -77,11 +77,11 @@ each_step script words words' history history' gate id owner views w each fits o
     (at_set views id j w u at)
 
 -- the same, where the board stays
-pub each_set : (script : Script) (words history : List ℕ) (gate id : ℕ) (owner : ℕ → ℕ) (views : List View) (w : View) → EachView script words history gate owner views
+pub each_set : (script : BoardScript) (words history : List ℕ) (gate id : ℕ) (owner : ℕ → ℕ) (views : List View) (w : View) → EachView script words history gate owner views
     → (w.knows.role ≢ Spent → Fits script words history gate owner id w) → EachView script words history gate owner (set views id w)
 each_set script words history gate id owner views w each fits = each_step script words words history history gate id owner views w each fits (λ j u n f. f)
 
-pub each_push : (script : Script) (words history : List ℕ) (gate : ℕ) (owner : ℕ → ℕ) (views : List View) (w : View) → EachView script words history gate owner views
+pub each_push : (script : BoardScript) (words history : List ℕ) (gate : ℕ) (owner : ℕ → ℕ) (views : List View) (w : View) → EachView script words history gate owner views
     → ((j : ℕ) → Fits script words history gate owner j w) → EachView script words history gate owner (views ++ w ∷ [])
 each_push script words history gate owner views w each fits j u at live = ⊎_elim
     (λ (t : get_elem? views j ≡ some u). each j u t live)
@@ -114,7 +114,7 @@ none_distinct : IsDistinct eqb []
 unfolding IsDistinct
 none_distinct = tt
 
-first_each : (script : Script) (words : List ℕ) → ((k : ℕ) → slice_index words k ≡ 0) → EachView script words [] 0 (λ q. 0) (first script ∷ [])
+first_each : (script : BoardScript) (words : List ℕ) → ((k : ℕ) → slice_index words k ≡ 0) → EachView script words [] 0 (λ q. 0) (first script ∷ [])
 first_each script words zeros zero v at live = subst (λ (z : View). Fits script words [] 0 (λ q. 0) 0 z) (some-injective (first script) v at) record {
   of_script = refl;
   is_gate = λ e. refl;
@@ -125,7 +125,7 @@ first_each script words zeros zero v at live = subst (λ (z : View). Fits script
 }
 first_each script words zeros (suc j) v at live = absurd (some-ne-none v (sym at))
 
-pub starts : (script : Script) (words : List ℕ) → length script.calls ≤ 1000000 → length words ≡ script.shards + 1 → ((k : ℕ) → slice_index words k ≡ 0) → Ruled script (opening {S = ℕ} words [] (first script))
+pub starts : (script : BoardScript) (words : List ℕ) → length script.calls ≤ 1000000 → length words ≡ script.shards + 1 → ((k : ℕ) → slice_index words k ≡ 0) → Ruled script (opening {S = ℕ} words [] (first script))
 starts script words few wide zeros = ruled script words [] (first script ∷ []) [] 0 (λ q. 0) (first_each script words zeros) (first script, refl, refl)
     record { distinct = none_distinct; there = λ q h. absurd (false≢true h) }
     (zeros 0)

@@ -15,7 +15,7 @@ use mathlib.Core.List.{IsPrefix}
 use lib.ListN.{get_elem?}
 use Rattle.atomic_table.specs.Table.{Me, Step, keeps, step, Allows, Splits, Joins}
 use Rattle.atomic_table.proofs.Lists.{at_set, set_else}
-use Rattle.mv_seats.specs.Scripts.{Script}
+use Rattle.mv_seats.specs.Scripts.{BoardScript}
 use Rattle.mv_seats.specs.Knowing.{Role, Plain, Gate, Shard, Spent, has, has_role, kept, with_mark, AreCalls, IsMark}
 use Rattle.mv_seats.specs.Rule.{View, nobody, copied, handing_out, of_shard, both, settled, with_call, with_mark_of, Ruled, counting, appending, loading, raising}
 use Rattle.mv_seats.proofs.Prefixes.{prefix_self, prefix_none, prefix_more, prefix_length}
@@ -26,7 +26,7 @@ use Rattle.mv_seats.proofs.Rules.{Fits, each_of, gate_of, ruled, each_step, each
 
 -- Split
 
-plain_fits : (script : Script) (words history : List ℕ) (gate id j : ℕ) (owner : ℕ → ℕ) (v : View) → Fits script words history gate owner id v → Fits script words history gate owner j (copied v)
+plain_fits : (script : BoardScript) (words history : List ℕ) (gate id j : ℕ) (owner : ℕ → ℕ) (v : View) → Fits script words history gate owner id v → Fits script words history gate owner j (copied v)
 plain_fits script words history gate id j owner v f = record {
   of_script = f.of_script;
   is_gate = λ (e : Plain ≡ Gate). absurd cc;
@@ -36,7 +36,7 @@ plain_fits script words history gate id j owner v f = record {
   exact = λ q h. absurd (false≢true h);
 }
 
-pub splits : (script : Script) (id : ℕ) (v : View) → v.knows.role ≢ Spent → Splits {S = ℕ} (Ruled script) id v v (copied v)
+pub splits : (script : BoardScript) (id : ℕ) (v : View) → v.knows.role ≢ Spent → Splits {S = ℕ} (Ruled script) id v v (copied v)
 splits script id v live s r at =
     let each = each_of script s r in
     let f : Fits script s.words r.history r.gate r.owner id v = each id v at live in
@@ -49,7 +49,7 @@ splits script id v live s r at =
 
 -- Join
 
-both_fits : (script : Script) (words history : List ℕ) (gate id j : ℕ) (owner : ℕ → ℕ) (v w : View) → Fits script words history gate owner id v → Fits script words history gate owner j w → Fits script words history gate owner id (both v w)
+both_fits : (script : BoardScript) (words history : List ℕ) (gate id j : ℕ) (owner : ℕ → ℕ) (v w : View) → Fits script words history gate owner id v → Fits script words history gate owner j w → Fits script words history gate owner id (both v w)
 both_fits script words history gate id j owner v w f h =
     let seen = kept_fits v.knows.role v.knows.seen w.knows.seen history f.begins.seen h.begins.seen in
     let whole : v.knows.role ≡ Gate → kept v.knows.role v.knows.seen w.knows.seen ≡ history = λ e. ap (λ (r : Role). kept r v.knows.seen w.knows.seen) e ∙ f.begins.whole e in
@@ -66,7 +66,7 @@ both_fits script words history gate id j owner v w f h =
           record { marks = omega (arith, at_greater v.knows.marks w.knows.marks q, c.marks, e.marks); mine = e.marks; seen = omega (arith, e.seen) };
     }
 
-pub joins : (script : Script) (id other : ℕ) (v w : View) → v.knows.role ≢ Spent → w.knows.role ≡ Plain → Joins {S = ℕ} (Ruled script) id v other w (both v w) nobody
+pub joins : (script : BoardScript) (id other : ℕ) (v w : View) → v.knows.role ≢ Spent → w.knows.role ≡ Plain → Joins {S = ℕ} (Ruled script) id v other w (both v w) nobody
 joins script id other v w live plain s r at apart there =
     let each = each_of script s r in
     let f : Fits script s.words r.history r.gate r.owner id v = each id v at live in
@@ -84,10 +84,10 @@ joins script id other v w live plain s r at apart there =
 -- Load of the count
 
 -- the table after a load has the same words
-same_words : (script : Script) (words : List ℕ) (homes : List (Option ℕ)) (i : ℕ) (views : List View) → Ruled script record { words = words; homes = homes; views = views } → Ruled script record { words = set words i (slice_index words i); homes = homes; views = views }
+same_words : (script : BoardScript) (words : List ℕ) (homes : List (Option ℕ)) (i : ℕ) (views : List View) → Ruled script record { words = words; homes = homes; views = views } → Ruled script record { words = set words i (slice_index words i); homes = homes; views = views }
 same_words script words homes i views r = subst (λ (ws : List ℕ). Ruled script record { words = ws; homes = homes; views = views }) (sym (set-get_or words i 0)) r
 
-settled_fits : (script : Script) (words history : List ℕ) (gate id : ℕ) (owner : ℕ → ℕ) (v : View) → Fits script words history gate owner id v → Fits script words history gate owner id (settled v)
+settled_fits : (script : BoardScript) (words history : List ℕ) (gate id : ℕ) (owner : ℕ → ℕ) (v : View) → Fits script words history gate owner id v → Fits script words history gate owner id (settled v)
 settled_fits script words history gate id owner v f = record {
   of_script = f.of_script;
   is_gate = f.is_gate;
@@ -98,10 +98,10 @@ settled_fits script words history gate id owner v f = record {
 }
 
 -- no history has more calls than the script
-pub few_calls : (script : Script) (history : List ℕ) → AreCalls script history → length history ≤ length script.calls
+pub few_calls : (script : BoardScript) (history : List ℕ) → AreCalls script history → length history ≤ length script.calls
 few_calls script history are = length-le_from_distinct_below history (length script.calls) are.distinct are.there
 
-pub counts : (script : Script) (slots id : ℕ) (me : Me ℕ View) (st : Step ℕ) → me.0.knows.role ≢ Spent → Allows (Ruled script) slots id me 0 (λ n. n) (counting st me)
+pub counts : (script : BoardScript) (slots id : ℕ) (me : Me ℕ View) (st : Step ℕ) → me.0.knows.role ≢ Spent → Allows (Ruled script) slots id me 0 (λ n. n) (counting st me)
 counts script slots id me st live s r len at small =
     let each = each_of script s r in
     let f : Fits script s.words r.history r.gate r.owner id me.0 = each id me.0 at live in (
@@ -120,7 +120,7 @@ counts script slots id me st live s r len at small =
           begins = record {
             history = r.history;
             long = sym r.count;
-            calls = subst (λ (z : Script). AreCalls z r.history) (sym f.of_script) r.prefixes.1;
+            calls = subst (λ (z : BoardScript). AreCalls z r.history) (sym f.of_script) r.prefixes.1;
             seen = f.begins.seen;
             whole = f.begins.whole;
           };
@@ -134,7 +134,7 @@ counts script slots id me st live s r len at small =
 -- Marks
 
 -- the own view once word q + 1 is n, and known so
-marked_fits : (script : Script) (words words' history : List ℕ) (gate id q n : ℕ) (owner : ℕ → ℕ) (v : View) → Becomes words words' q n
+marked_fits : (script : BoardScript) (words words' history : List ℕ) (gate id q n : ℕ) (owner : ℕ → ℕ) (v : View) → Becomes words words' q n
     → (has_role v.knows q ≡ true → n ≤ length v.knows.seen) → Fits script words history gate owner id v → Fits script words' history gate owner id (with_mark_of q n v)
 marked_fits script words words' history gate id q n owner v becomes enough f =
     let below : (k : ℕ) → slice_index (with_mark q n v.knows.marks) k ≤ slice_index words' (k + 1) = λ k. marked_below words words' q n k v.knows.marks becomes (f.below k).marks (ℕ_discrete k q) in record {
@@ -149,7 +149,7 @@ marked_fits script words words' history gate id q n owner v becomes enough f =
           record { marks = same; mine = same; seen = words_below words words' q n k (length v.knows.seen) becomes (λ is. enough (subst (λ (z : ℕ). has_role v.knows z ≡ true) is own)) e.seen (ℕ_discrete k q) };
     }
 
-pub loads : (script : Script) (slots id q : ℕ) (me : Me ℕ View) → me.0.knows.role ≢ Spent → Allows (Ruled script) slots id me (q + 1) (λ n. n) (loading (step slots (q + 1) 0 0 none) me)
+pub loads : (script : BoardScript) (slots id q : ℕ) (me : Me ℕ View) → me.0.knows.role ≢ Spent → Allows (Ruled script) slots id me (q + 1) (λ n. n) (loading (step slots (q + 1) 0 0 none) me)
 loads script slots id q me live s r len at small =
     let each = each_of script s r in
     let f : Fits script s.words r.history r.gate r.owner id me.0 = each id me.0 at live in
@@ -174,7 +174,7 @@ loads script slots id q me live s r len at small =
     )
 
 -- another view once the owner of q has raised its mark to n
-others_fit : (script : Script) (words words' history : List ℕ) (gate id j q n : ℕ) (owner : ℕ → ℕ) (u : View) → Becomes words words' q n → slice_index words (q + 1) ≤ n → id ≡ owner q → j ≢ id → Fits script words history gate owner j u → Fits script words' history gate owner j u
+others_fit : (script : BoardScript) (words words' history : List ℕ) (gate id j q n : ℕ) (owner : ℕ → ℕ) (u : View) → Becomes words words' q n → slice_index words (q + 1) ≤ n → id ≡ owner q → j ≢ id → Fits script words history gate owner j u → Fits script words' history gate owner j u
 others_fit script words words' history gate id j q n owner u becomes up is apart f = record {
   of_script = f.of_script;
   is_gate = f.is_gate;
@@ -191,7 +191,7 @@ others_fit script words words' history gate id j q n owner u becomes up is apart
       record { marks = e.marks ∙ sym (becomes.else k ne); mine = e.mine ∙ sym (becomes.else k ne); seen = omega (arith, becomes.else k ne, e.seen) };
 }
 
-pub raises : (script : Script) (slots id q n : ℕ) (me : Me ℕ View) → me.0.knows.role ≢ Spent → has_role me.0.knows q ≡ true → q < me.0.script.shards → slice_index me.0.knows.marks q ≤ n → n ≤ length me.0.knows.seen
+pub raises : (script : BoardScript) (slots id q n : ℕ) (me : Me ℕ View) → me.0.knows.role ≢ Spent → has_role me.0.knows q ≡ true → q < me.0.script.shards → slice_index me.0.knows.marks q ≤ n → n ≤ length me.0.knows.seen
     → Allows (Ruled script) slots id me (q + 1) (λ _. n) (λ _. raising (step slots (q + 1) n 0 none) me n)
 raises script slots id q n me live own less up most s r len at small =
     let each = each_of script s r in
@@ -200,7 +200,7 @@ raises script slots id q n me live own less up most s r len at small =
     let w : View = with_mark_of q n me.0 in
     let back : q + 1 - 1 ≡ q = omega arith in
     let words : List ℕ = set s.words (q + 1) n in
-    let less' : q < script.shards = subst (λ (z : Script). q < z.shards) f.of_script less in
+    let less' : q < script.shards = subst (λ (z : BoardScript). q < z.shards) f.of_script less in
     let wide = r.sizes.wide in
     let in_words : q + 1 < length s.words = omega (arith, wide) in
     let becomes : Becomes s.words words q n = record { here = get_or-set_same s.words (q + 1) n 0 in_words; else = λ k ne. get_or-set_other s.words (q + 1) (k + 1) n 0 (λ is. ne (omega arith)) } in
@@ -224,7 +224,7 @@ raises script slots id q n me live own less up most s r len at small =
 
 -- Append
 
-more_calls : (script : Script) (history : List ℕ) (call : ℕ) → AreCalls script history → call < length script.calls → list_any (eqb call) history ≡ false → AreCalls script (history ++ call ∷ [])
+more_calls : (script : BoardScript) (history : List ℕ) (call : ℕ) → AreCalls script history → call < length script.calls → list_any (eqb call) history ≡ false → AreCalls script (history ++ call ∷ [])
 more_calls script history call are less fresh = record {
   distinct = IsDistinct-push nat_eq_equiv history call are.distinct fresh;
   there = λ q h. ⊎_elim
@@ -234,7 +234,7 @@ more_calls script history call are less fresh = record {
 }
 
 -- a view fits where the marks are as they were
-refit : (script : Script) (words words' history : List ℕ) (gate j : ℕ) (owner : ℕ → ℕ) (u : View) → ((k : ℕ) → slice_index words' (k + 1) ≡ slice_index words (k + 1)) → Fits script words history gate owner j u → Fits script words' history gate owner j u
+refit : (script : BoardScript) (words words' history : List ℕ) (gate j : ℕ) (owner : ℕ → ℕ) (u : View) → ((k : ℕ) → slice_index words' (k + 1) ≡ slice_index words (k + 1)) → Fits script words history gate owner j u → Fits script words' history gate owner j u
 refit script words words' history gate j owner u same f = record {
   of_script = f.of_script;
   is_gate = f.is_gate;
@@ -244,7 +244,7 @@ refit script words words' history gate j owner u same f = record {
   exact = λ k own. let e = f.exact k own in record { marks = e.marks ∙ sym (same k); mine = e.mine ∙ sym (same k); seen = omega (arith, same k, e.seen) };
 }
 
-more_fits : (script : Script) (words history : List ℕ) (gate call id j : ℕ) (owner : ℕ → ℕ) (u : View) → id ≡ gate → j ≢ id → Fits script words history gate owner j u → Fits script words (history ++ call ∷ []) gate owner j u
+more_fits : (script : BoardScript) (words history : List ℕ) (gate call id j : ℕ) (owner : ℕ → ℕ) (u : View) → id ≡ gate → j ≢ id → Fits script words history gate owner j u → Fits script words (history ++ call ∷ []) gate owner j u
 more_fits script words history gate call id j owner u is apart f = record {
   of_script = f.of_script;
   is_gate = f.is_gate;
@@ -259,7 +259,7 @@ more_fits script words history gate call id j owner u is apart f = record {
   exact = f.exact;
 }
 
-add_fits : (script : Script) (words history : List ℕ) (gate call id : ℕ) (owner : ℕ → ℕ) (v : View) → v.knows.role ≡ Gate → Fits script words history gate owner id v → Fits script words (history ++ call ∷ []) gate owner id (with_call call v)
+add_fits : (script : BoardScript) (words history : List ℕ) (gate call id : ℕ) (owner : ℕ → ℕ) (v : View) → v.knows.role ≡ Gate → Fits script words history gate owner id v → Fits script words (history ++ call ∷ []) gate owner id (with_call call v)
 add_fits script words history gate call id owner v gated f =
     let whole = f.begins.whole gated in record {
       of_script = f.of_script;
@@ -275,7 +275,7 @@ add_fits script words history gate call id owner v gated f =
       exact = λ k own. let e = f.exact k own in record { marks = e.marks; mine = e.mine; seen = omega (arith, e.seen, length-append v.knows.seen (call ∷ [])) };
     }
 
-pub appends : (script : Script) (slots id call : ℕ) (me : Me ℕ View) (st : Step ℕ) → me.0.knows.role ≡ Gate → call < length me.0.script.calls → list_any (eqb call) me.0.knows.seen ≡ false
+pub appends : (script : BoardScript) (slots id call : ℕ) (me : Me ℕ View) (st : Step ℕ) → me.0.knows.role ≡ Gate → call < length me.0.script.calls → list_any (eqb call) me.0.knows.seen ≡ false
     → Allows (Ruled script) slots id me 0 (λ n. (n + 1) % 2 ^ 64) (appending call st me)
 appends script slots id call me st gated less fresh s r len at small =
     let live : me.0.knows.role ≢ Spent = λ (e : me.0.knows.role ≡ Spent). absurd (cc (sym gated ∙ e)) in
@@ -283,7 +283,7 @@ appends script slots id call me st gated less fresh s r len at small =
     let f : Fits script s.words r.history r.gate r.owner id me.0 = each id me.0 at live in
     let w : View = with_call call me.0 in
     let history : List ℕ = r.history ++ call ∷ [] in
-    let calls : AreCalls script history = more_calls script r.history call r.prefixes.1 (subst (λ (z : Script). call < length z.calls) f.of_script less) (subst (λ (z : List ℕ). list_any (eqb call) z ≡ false) (f.begins.whole gated) fresh) in
+    let calls : AreCalls script history = more_calls script r.history call r.prefixes.1 (subst (λ (z : BoardScript). call < length z.calls) f.of_script less) (subst (λ (z : List ℕ). list_any (eqb call) z ≡ false) (f.begins.whole gated) fresh) in
     let most : length history ≤ length script.calls = few_calls script history calls in
     let long : length history ≡ length r.history + 1 = length-append r.history (call ∷ []) in
     let few = r.sizes.few in
@@ -328,7 +328,7 @@ not_cons k q qs h = go (eqb k q) refl (list_any (eqb k) qs) h
     go false is b h = ((λ (e : k ≡ q). absurd (cc (sym is ∙ eq-eqb k q e))), h)
 
 -- another view, which doesn't have the role of q
-keeps_fit : (script : Script) (words history : List ℕ) (gate id j n q : ℕ) (owner : ℕ → ℕ) (u : View) → id ≡ owner q → j ≢ id → Fits script words history gate owner j u → Fits script words history gate (moved_to owner q n) j u
+keeps_fit : (script : BoardScript) (words history : List ℕ) (gate id j n q : ℕ) (owner : ℕ → ℕ) (u : View) → id ≡ owner q → j ≢ id → Fits script words history gate owner j u → Fits script words history gate (moved_to owner q n) j u
 keeps_fit script words history gate id j n q owner u is apart f = record {
   of_script = f.of_script;
   is_gate = f.is_gate;
@@ -338,7 +338,7 @@ keeps_fit script words history gate id j n q owner u is apart f = record {
   exact = f.exact;
 }
 
-from_fits : (script : Script) (words history : List ℕ) (gate id n q : ℕ) (owner : ℕ → ℕ) (v : View) → v.knows.role ≡ Gate → Fits script words history gate owner id v → Fits script words history gate (moved_to owner q n) id (handing_out q v)
+from_fits : (script : BoardScript) (words history : List ℕ) (gate id n q : ℕ) (owner : ℕ → ℕ) (v : View) → v.knows.role ≡ Gate → Fits script words history gate owner id v → Fits script words history gate (moved_to owner q n) id (handing_out q v)
 from_fits script words history gate id n q owner v gated f =
     let left : (k : ℕ) → has_role (handing_out q v).knows k ≡ true → (k ≢ q) × (has_role v.knows k ≡ true) = λ k own.
     let l = not_cons k q v.knows.handed (subst (λ (z : Role). has z (q ∷ v.knows.handed) k ≡ true) gated own) in
@@ -351,7 +351,7 @@ from_fits script words history gate id n q owner v gated f =
       exact = λ k own. let e = f.exact k (left k own).1 in record { marks = e.marks; mine = e.mine; seen = e.seen };
     }
 
-to_fits : (script : Script) (words history : List ℕ) (gate id n q : ℕ) (owner : ℕ → ℕ) (v : View) → has_role v.knows q ≡ true → Fits script words history gate owner id v → Fits script words history gate (moved_to owner q n) n (of_shard q v)
+to_fits : (script : BoardScript) (words history : List ℕ) (gate id n q : ℕ) (owner : ℕ → ℕ) (v : View) → has_role v.knows q ≡ true → Fits script words history gate owner id v → Fits script words history gate (moved_to owner q n) n (of_shard q v)
 to_fits script words history gate id n q owner v own f =
     let is : (k : ℕ) → eqb k q ≡ true → k ≡ q = λ k h. grind (arith, nat_tests) in record {
       of_script = f.of_script;
@@ -362,7 +362,7 @@ to_fits script words history gate id n q owner v own f =
       exact = λ k h. let e = f.exact k (subst (λ (z : ℕ). has_role v.knows z ≡ true) (sym (is k h)) own) in record { marks = e.marks; mine = e.marks; seen = e.seen };
     }
 
-pub hands : (script : Script) (id q : ℕ) (v : View) → v.knows.role ≡ Gate → has_role v.knows q ≡ true → Splits {S = ℕ} (Ruled script) id v (handing_out q v) (of_shard q v)
+pub hands : (script : BoardScript) (id q : ℕ) (v : View) → v.knows.role ≡ Gate → has_role v.knows q ≡ true → Splits {S = ℕ} (Ruled script) id v (handing_out q v) (of_shard q v)
 hands script id q v gated own s r at =
     let live : v.knows.role ≢ Spent = λ (e : v.knows.role ≡ Spent). absurd (cc (sym gated ∙ e)) in
     let each = each_of script s r in

@@ -4,7 +4,7 @@ use Rattle.std.specs.Prelude.{◌≡◌, ◌<◌, ◌≤◌, ◌++◌, ◌∷◌
 use Rattle.std.specs.List.{list_any, IsDistinct}
 use lib.Dec.{eqb}
 use mathlib.Core.List.{IsPrefix}
-use Rattle.mv_seats.specs.Scripts.{Script}
+use Rattle.mv_seats.specs.Scripts.{BoardScript}
 
 -- the role of a pass: any reader, the gate, one shard, or nothing after another pass has taken it in
 pub data Role : Type 0 where
@@ -98,12 +98,12 @@ marked k q n = record k { marks = with_mark q n k.marks; mine = with_mark q n k.
 -- What a load tells
 
 -- these are numbers of calls of the script, and no two are the same
-pub record AreCalls (script : Script) (history : List ℕ) : Type 0 where
+pub record AreCalls (script : BoardScript) (history : List ℕ) : Type 0 where
   pub distinct : IsDistinct eqb history
   pub there : (call : ℕ) → list_any (eqb call) history ≡ true → call < length script.calls
 
 -- what the pass has seen begins a history of n commits, and is all of it if the pass is the gate's
-pub record Begins (script : Script) (k : Knows) (n : ℕ) : Type 0 where
+pub record Begins (script : BoardScript) (k : Knows) (n : ℕ) : Type 0 where
   pub history : List ℕ
   pub long : length history ≡ n
   pub calls : AreCalls script history

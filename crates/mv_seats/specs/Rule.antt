@@ -7,7 +7,7 @@ use lib.ListN.{get_elem?}
 use Rattle.atomic_table.specs.Table.{State, Me, Step}
 use Rattle.atomic_table.specs.Seated.{TableId}
 use Rattle.atomic_table.specs.declared.shared.Seat.{Seat}
-use Rattle.mv_seats.specs.Scripts.{Script}
+use Rattle.mv_seats.specs.Scripts.{BoardScript}
 use Rattle.mv_seats.specs.Names.{no_script}
 use Rattle.mv_seats.specs.Knowing.{Gate, Spent, Knows, has_role, gate_pass, plain, shard_pass, handing, met, appended, marked, AreCalls, Begins, IsMark}
 
@@ -16,17 +16,17 @@ use Rattle.mv_seats.specs.Knowing.{Gate, Spent, Knows, has_role, gate_pass, plai
 -- what a seat knows: beside what its pass knows, the script, and what two passes had seen before they met, until the
 -- next load of the count
 pub record View : Type 0 where
-  pub script : Script
+  pub script : BoardScript
   pub knows : Knows
   pub one : List ℕ
   pub two : List ℕ
 
 -- a view that has no such lists
-abbrev pub view_of : Script → Knows → View
+abbrev pub view_of : BoardScript → Knows → View
 view_of script k = record { script = script; knows = k; one = []; two = [] }
 
 -- the view of the gate's seat at the start
-abbrev pub first : Script → View
+abbrev pub first : BoardScript → View
 first script = view_of script gate_pass
 
 -- the view of a seat that another has taken in
@@ -101,13 +101,13 @@ pub record IsExact (words : List ℕ) (q : ℕ) (k : Knows) : Type 0 where
   pub seen : slice_index words (word_of q) ≤ length k.seen
 
 -- the board has a word for each shard and one more, there are at most 1,000,000 calls, and no mark is above the count
-pub record Sizes (script : Script) (words : List ℕ) : Type 0 where
+pub record Sizes (script : BoardScript) (words : List ℕ) : Type 0 where
   pub wide : length words ≡ word_of script.shards
   pub few : length script.calls ≤ 1000000
   pub marks : (q : ℕ) → slice_index words (word_of q) ≤ slice_index words 0
 
 -- the rule, of all views that aren't spent
-pub record Ruled (script : Script) (s : State ℕ View) : Type 0 where
+pub record Ruled (script : BoardScript) (s : State ℕ View) : Type 0 where
   -- the list of the gate's view, the gate's seat, and the seat of each shard
   pub history : List ℕ
   pub gate : ℕ
@@ -158,7 +158,7 @@ raising st m n w = w ≡ (with_mark_of (st.word - 1) n m.0, m.1)
 -- Seats
 
 -- a pass's seat: of this board and script, not spent, with no slot and no lists of a meeting
-pub record IsPassOf (board : TableId) (script : Script) (seat : Seat ℕ View) : Type 0 where
+pub record IsPassOf (board : TableId) (script : BoardScript) (seat : Seat ℕ View) : Type 0 where
   pub on_board : seat.table_id ≡ board
   pub of_script : seat.me.0.script ≡ script
   pub live : seat.me.0.knows.role ≢ Spent
@@ -167,7 +167,7 @@ pub record IsPassOf (board : TableId) (script : Script) (seat : Seat ℕ View) :
   pub slots : seat.me.1 ≡ []
 
 -- the seat of a board without a name
-pub record IsFirst (board : TableId) (script : Script) (seat : Seat ℕ View) : Type 0 where
+pub record IsFirst (board : TableId) (script : BoardScript) (seat : Seat ℕ View) : Type 0 where
   pub wide : board.words ≡ word_of script.shards
   pub on_board : seat.table_id ≡ board
   pub me : seat.me ≡ (first script, [])

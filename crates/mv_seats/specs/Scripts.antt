@@ -7,7 +7,7 @@ use Rattle.mv_values.specs.declared.rows.Keyed.{Keyed}
 use Rattle.mv_graph.specs.declared.graph.Graph.{Graph}
 
 -- the script of a board and its passes
-pub record Script : Type 0 where
+pub record BoardScript : Type 0 where
   -- the graphs of the procedures
   pub graphs : List Graph
   -- the calls; a history is a list of their numbers
@@ -22,4 +22,4 @@ pub record Script : Type 0 where
 -- what contracts see of a board without a name: its identity, and its script
 pub record Made : Type 0 where
   pub board : TableId
-  pub script : Script
+  pub script : BoardScript

@@ -6,7 +6,7 @@ ghost use Rattle.mv_seats.specs.Rule.{word_of};
 
 use crate::pass::Pass;
 use crate::rule::Law;
-use crate::script::Script;
+use crate::script::BoardScript;
 use crate::view::View;
 use atomic_table::{Seat, Table};
 use mv_graph::graph::Graph;
@@ -20,11 +20,11 @@ use std::marker::{Brand, Model, PhantomData};
 /// Names one board and its script. Boards, passes and their holders belong together if this parameter is the same type.
 pub trait Making {
     ghost use Rattle.atomic_table.specs.Seated.{TableId};
-    ghost use Rattle.mv_seats.specs.Scripts.{Script};
+    ghost use Rattle.mv_seats.specs.Scripts.{BoardScript};
 
     ghost board: { TableId };
 
-    ghost script: { Script };
+    ghost script: { BoardScript };
 }
 
 impl Making for Brand {
@@ -38,7 +38,7 @@ impl Making for Brand {
 /// A board without a name, with the pass of its gate.
 #[derive(Drop)]
 pub struct Blank {
-    table: Table<u8, View, Script, Law, Global>,
+    table: Table<u8, View, BoardScript, Law, Global>,
     seat: Seat<u8, View>,
 }
 
@@ -61,7 +61,7 @@ impl Model for Blank {
 /// The count of commits, and a mark of each shard: the number of commits that its chains hold. All threads share it.
 #[derive(Drop)]
 pub struct Board<N: Making> {
-    pub(crate) table: Table<u8, View, Script, Law, Global>,
+    pub(crate) table: Table<u8, View, BoardScript, Law, Global>,
     of: PhantomData<N>,
     ghost board: { table.shared.table_id ≡ N.board },
     ghost script: { table.shared.key ≡ N.script },
@@ -84,7 +84,7 @@ impl Blank {
         requires shards { (1 ≤ shards) × (shards ≤ 64) }
         ensures { IfOk result (λ blank. blank.script ≡ record { graphs = graphs.now; calls = calls.now; opening = opening.now; options = options.now; shards = shards }) }
     {
-        let script = Script::new(graphs, calls, opening, options, shards);
+        let script = BoardScript::new(graphs, calls, opening, options, shards);
         let words = [0u64; 65];
         let (table, seat) = Table::of_words(alloc, &words[..shards as usize + 1], &script)?;
         Ok(Blank { table, seat })

@@ -2,7 +2,7 @@
 
 ghost use Rattle.mv_seats.specs.Rule.{Ruled, first, copied, handing_out, of_shard, both, nobody, counting, appending, loading, raising};
 
-use crate::script::Script;
+use crate::script::BoardScript;
 use crate::view::View;
 use atomic_table::{Join, Play, Split, TableRule};
 use std::marker::{Brand, PhantomData};
@@ -10,7 +10,7 @@ use std::marker::{Brand, PhantomData};
 /// The invariant of the board between any two steps.
 pub struct Law;
 
-impl TableRule<u8, View, Script> for Law {
+impl TableRule<u8, View, BoardScript> for Law {
     ghost holds = { Ruled };
 
     ghost first = { first };

@@ -12,7 +12,7 @@ use std::snapshot::Snapshot;
 /// The script of a board and its passes. Graphs, calls and the opening database are only for contracts, and take no
 /// memory.
 #[derive(Drop)]
-pub struct Script {
+pub struct BoardScript {
     graphs: Snapshot<List<Graph>>,
     calls: Snapshot<List<Call>>,
     opening: Snapshot<Database>,
@@ -20,8 +20,8 @@ pub struct Script {
     shards: u32,
 }
 
-impl Model for Script {
-    ghost use Rattle.mv_seats.specs.Scripts.{Script as About};
+impl Model for BoardScript {
+    ghost use Rattle.mv_seats.specs.Scripts.{BoardScript as About};
     ghost use Rattle.mv_graph.specs.contracts.graph.Graph as graph;
     ghost use Rattle.std.specs.Coded.{codes};
 
@@ -32,17 +32,17 @@ impl Model for Script {
     ghost view = { λ s. record { graphs = s.graphs.value; calls = s.calls.value; opening = s.opening.value; options = s.options; shards = s.shards } };
 }
 
-impl Script {
+impl BoardScript {
     pub(crate) fn new(
         graphs: &List<Graph>,
         calls: &List<Call>,
         opening: &Database,
         options: &Options,
         shards: u32,
-    ) -> Script
+    ) -> BoardScript
         ensures { result ≡ record { graphs = graphs.now; calls = calls.now; opening = opening.now; options = options.now; shards = shards } }
     {
-        Script {
+        BoardScript {
             graphs: Snapshot::of(graphs),
             calls: Snapshot::of(calls),
             opening: Snapshot::of(opening),

@@ -5,7 +5,7 @@ use Rattle.std.specs.Prelude.{slice_get, slice_index, slice_set}
 use Rattle.std.proofs.lemmas.List.{length-set, length-replicate}
 use Rattle.mv_values.specs.declared.calls.Reply.{Reply}
 use Rattle.mv_catalog.specs.declared.resolved.Program.{Program}
-use Rattle.mv_alone.specs.TableAfter.{no_reply, reply_of, IsOrder, RepliesOf, OthersSilent}
+use Rattle.mv_eval.specs.TableAfter.{no_reply, reply_of, IsOrder, RepliesOf, OthersSilent}
 
 -- a list after the first n items of a function were put at the places of the order
 abbrev pub put_in : {X : Type 0} → List X → List ℕ → (ℕ → X) → ℕ → List X

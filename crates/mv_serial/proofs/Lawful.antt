@@ -10,9 +10,9 @@ use Rattle.mv_values.specs.declared.calls.Reply.{Reply}
 use Rattle.mv_values.specs.declared.calls.End.{End}
 use Rattle.mv_values.specs.Tables.{Tables}
 use Rattle.mv_catalog.specs.declared.resolved.Program.{Program}
-use Rattle.mv_alone.specs.declared.state.State.{State}
-use Rattle.mv_alone.specs.TableAfter.{outcome, tables_left, reply_in, reply_of, table_after, IsOrder, RepliesOf, StoppedUnchanged}
-use Rattle.mv_alone.specs.Changes.{OthersStay}
+use Rattle.mv_eval.specs.declared.state.State.{State}
+use Rattle.mv_eval.specs.TableAfter.{result_of, tables_left, reply_in, reply_of, table_after, IsOrder, RepliesOf, StoppedUnchanged}
+use Rattle.mv_eval.specs.Changes.{OthersStay}
 use Rattle.mv_serial.proofs.Tabling.{table_with}
 
 stopped : (db : Tables) (o : Result State End) (r : Reply) (e : End) → r ≡ reply_in o → r.end ≡ Some e → (r.lines ≡ []) × (tables_left db o ≡ db)
@@ -21,7 +21,7 @@ stopped db (Err f) r e is h = (ap (λ (q : Reply). q.lines) is, refl)
 
 pub stopped_unchanged : (p : Program) (order : List ℕ) (replies : List Reply) → RepliesOf p order replies → StoppedUnchanged p order replies
 stopped_unchanged p order replies told k lt r e is h =
-    stopped (table_after p order k) (outcome p (slice_index order k) (table_after p order k)) r e
+    stopped (table_after p order k) (result_of p (slice_index order k) (table_after p order k)) r e
     (same_Some r (reply_of p order (suc k)) (sym is ∙ told k lt)) h
 
 others_set : (db : Tables) (t : ℕ) (rows : List Keyed) → OthersStay t db (slice_set db t rows)

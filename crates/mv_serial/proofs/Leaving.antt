@@ -11,9 +11,9 @@ use Rattle.mv_values.specs.declared.schema.TableInfo.{TableInfo}
 use Rattle.mv_values.specs.Preds.{meets}
 use Rattle.mv_values.specs.References.{Reference, reference, references_from, all_references}
 use Rattle.mv_values.specs.Tables.{rows_at, Tables}
-use Rattle.mv_alone.specs.Changes.{without}
-use Rattle.mv_alone.specs.References.{holds_key, left_in}
-use Rattle.mv_alone.specs.Rows.{matching}
+use Rattle.mv_eval.specs.Changes.{without}
+use Rattle.mv_eval.specs.References.{holds_key, left_in}
+use Rattle.mv_eval.specs.Rows.{matching}
 use Rattle.mv_serial.specs.Removing.{stays, to_table, have_children}
 use Rattle.mv_values.proofs.There.{refs_step}
 

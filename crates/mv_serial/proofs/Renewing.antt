@@ -19,12 +19,12 @@ use Rattle.mv_values.specs.Patching.{row_of, placed}
 use Rattle.mv_values.specs.Tables.{rows_at, Tables}
 use Rattle.mv_values.proofs.KeyOrder.{same_key, turned}
 use Rattle.mv_record.proofs.Rising.{Above, Rises, rises_from, filter_above, lower, row_here, row_later, row_below}
-use Rattle.mv_alone.specs.declared.state.Stop.{Stop}
-use Rattle.mv_alone.specs.declared.state.Stop.TheVariants.{Memory, Ended}
-use Rattle.mv_alone.specs.Outcome.{then_do, Fails}
-use Rattle.mv_alone.specs.Rows.{matching, is_some_row}
-use Rattle.mv_alone.specs.Changes.{updated, without, put_row}
-use Rattle.mv_alone.proofs.Standing.{New}
+use Rattle.mv_eval.specs.declared.state.Stop.{Stop}
+use Rattle.mv_eval.specs.declared.state.Stop.TheVariants.{Memory, Ended}
+use Rattle.mv_eval.specs.Results.{then_do, Fails}
+use Rattle.mv_eval.specs.Rows.{matching, is_some_row}
+use Rattle.mv_eval.specs.Changes.{updated, without, put_row}
+use Rattle.mv_eval.proofs.Standing.{New}
 use Rattle.mv_serial.specs.declared.change.RowChange.{RowChange}
 use Rattle.mv_serial.specs.Changing.{changed_by, renewals, removals}
 use Rattle.mv_serial.proofs.Changing.{changed_again}

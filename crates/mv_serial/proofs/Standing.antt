@@ -10,11 +10,11 @@ use Rattle.mv_values.specs.declared.calls.End.{End}
 use Rattle.mv_values.specs.Columns.{columns_of}
 use Rattle.mv_values.specs.Tables.{key_columns, rows_at, KeysStand, Tables, StandsUnder}
 use Rattle.mv_catalog.specs.declared.resolved.RSetItem.{RSetItem}
-use Rattle.mv_alone.specs.declared.state.State.{State}
-use Rattle.mv_alone.specs.Changes.{set_row_by, without, put_row}
-use Rattle.mv_alone.specs.References.{fit_in}
-use Rattle.mv_alone.specs.Own.{StandUnder}
-use Rattle.mv_alone.proofs.Standing.{stand_set, set_row_keeps, updated_stand, put_stands}
+use Rattle.mv_eval.specs.declared.state.State.{State}
+use Rattle.mv_eval.specs.Changes.{set_row_by, without, put_row}
+use Rattle.mv_eval.specs.References.{fit_in}
+use Rattle.mv_eval.specs.Own.{StandUnder}
+use Rattle.mv_eval.proofs.Standing.{stand_set, set_row_keeps, updated_stand, put_stands}
 use Rattle.mv_serial.proofs.Tabling.{table_with, updated_at}
 
 -- a table with rows that stand under their keys

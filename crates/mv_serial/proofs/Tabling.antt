@@ -11,15 +11,15 @@ use Rattle.mv_values.specs.Tables.{key_columns, columns_at, rows_at, Tables}
 use Rattle.mv_catalog.specs.declared.resolved.RCond.{RCond}
 use Rattle.mv_catalog.specs.declared.resolved.RExpr.{RExpr}
 use Rattle.mv_catalog.specs.declared.resolved.RSetItem.{RSetItem}
-use Rattle.mv_alone.specs.declared.state.State.{State}
-use Rattle.mv_alone.specs.declared.state.Stop.{Stop}
-use Rattle.mv_alone.specs.declared.state.Stop.TheVariants.{Memory, Ended}
-use Rattle.mv_alone.specs.Outcome.{then_do, Fails}
-use Rattle.mv_alone.specs.Env.{with_found}
-use Rattle.mv_alone.specs.Rows.{tests_of, is_some_row}
-use Rattle.mv_alone.specs.Changes.{set_row_by, updated, without, new_row, put_row, keyed}
-use Rattle.mv_alone.specs.References.{fit_in, has_parents, has_children}
-use Rattle.mv_alone.specs.Alone.{insert, update, delete, matching_in, with_rows}
+use Rattle.mv_eval.specs.declared.state.State.{State}
+use Rattle.mv_eval.specs.declared.state.Stop.{Stop}
+use Rattle.mv_eval.specs.declared.state.Stop.TheVariants.{Memory, Ended}
+use Rattle.mv_eval.specs.Results.{then_do, Fails}
+use Rattle.mv_eval.specs.Env.{with_found}
+use Rattle.mv_eval.specs.Rows.{tests_of, is_some_row}
+use Rattle.mv_eval.specs.Changes.{set_row_by, updated, without, new_row, put_row, keyed}
+use Rattle.mv_eval.specs.References.{fit_in, has_parents, has_children}
+use Rattle.mv_eval.specs.Alone.{insert, update, delete, matching_in, with_rows}
 
 -- the database with the rows that a table gets
 abbrev pub table_with : Tables → ℕ → Result (List Keyed) End → Result Tables End

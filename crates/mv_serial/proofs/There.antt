@@ -6,7 +6,7 @@ use Rattle.mv_values.specs.declared.schema.TableInfo.{TableInfo}
 use Rattle.mv_values.specs.Columns.{column_of}
 use Rattle.mv_values.specs.References.{Reference, parent_of, is_there, ParentsHaveOneKey}
 use Rattle.mv_values.specs.Tables.{rows_at, Tables}
-use Rattle.mv_alone.specs.References.{is_own_parent, has_parents}
+use Rattle.mv_eval.specs.References.{is_own_parent, has_parents}
 use Rattle.mv_serial.specs.Referring.{IsOneKeyed}
 
 pub both : (xs ys : List Reference) (new : Keyed) (db : Tables) → has_parents (xs ++ ys) new db ≡ (has_parents xs new db && has_parents ys new db)

@@ -5,10 +5,10 @@ use Rattle.mv_values.specs.declared.rows.Keyed.{Keyed}
 use Rattle.mv_values.specs.declared.calls.End.{End}
 use Rattle.mv_values.specs.Patching.{placed}
 use Rattle.mv_values.specs.Tables.{rows_at}
-use Rattle.mv_alone.specs.Outcome.{then_do}
+use Rattle.mv_eval.specs.Results.{then_do}
 use Rattle.mv_serial.specs.declared.change.RowChange.{RowChange}
-use Rattle.mv_alone.specs.declared.state.Stop.{Stop}
-use Rattle.mv_alone.specs.declared.state.Stop.TheVariants.{Memory, Ended}
+use Rattle.mv_eval.specs.declared.state.Stop.{Stop}
+use Rattle.mv_eval.specs.declared.state.Stop.TheVariants.{Memory, Ended}
 
 -- the database after a change
 abbrev pub changed_in : RowChange → List (List Keyed) → List (List Keyed)

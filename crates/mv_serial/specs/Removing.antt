@@ -6,8 +6,8 @@ use Rattle.mv_values.specs.declared.pred.Test.{Test}
 use Rattle.mv_values.specs.Preds.{meets}
 use Rattle.mv_values.specs.References.{Reference}
 use Rattle.mv_values.specs.Tables.{rows_at, Tables}
-use Rattle.mv_alone.specs.References.{has_children}
-use Rattle.mv_alone.specs.Rows.{matching}
+use Rattle.mv_eval.specs.References.{has_children}
+use Rattle.mv_eval.specs.Rows.{matching}
 
 -- a row of table u isn't one of table t that matches
 abbrev pub stays : ℕ → List Test → ℕ → List Value → Bool

@@ -2,18 +2,18 @@
 
 ghost use Rattle.std.specs.Prelude.{◌≡◌, ◌≤◌, [], Some, All, IfOk, length, replicate};
 ghost use Rattle.mv_catalog.specs.Text.{IsTable};
-ghost use Rattle.mv_alone.specs.Alone.{alone};
+ghost use Rattle.mv_eval.specs.Alone.{alone};
 ghost use Rattle.mv_values.specs.References.{OneKeys};
 ghost use Rattle.mv_values.specs.Tables.{KeysStand};
 ghost use Rattle.mv_record.specs.Databases.{IsProgram};
 ghost use Rattle.mv_serial.specs.Changing.{changed_by};
-ghost use Rattle.mv_alone.specs.TableAfter.{no_reply, outcome, begun, tables_left, reply_in, table_after, IsOrder, RepliesOf, OthersSilent, StoppedUnchanged};
+ghost use Rattle.mv_eval.specs.TableAfter.{no_reply, result_of, begun, tables_left, reply_in, table_after, IsOrder, RepliesOf, OthersSilent, StoppedUnchanged};
 
 use crate::change::{RowChange, undo_all};
 use crate::statements::run_all;
-use mv_alone::enter::variables_for;
-use mv_alone::state::{State, Stop};
 use mv_catalog::resolved::{ProcInfo, Program};
+use mv_eval::enter::variables_for;
+use mv_eval::state::{State, Stop};
 use mv_table::databases::{database_of, tables_of};
 use mv_table::table::Tables;
 use mv_values::calls::{Call, End, Reply};
@@ -116,8 +116,8 @@ fn run_call(
     requires each { All IsTable program.now.resolved.tables }
     requires parents { OneKeys program.now.resolved.tables }
     requires few { length program.now.resolved.tables ≤ 64 }
-    ensures tables { IfOk result (λ l. l.tables ≡ tables_left tables (outcome program.now number tables)) }
-    ensures reply { IfOk result (λ l. l.reply ≡ reply_in (outcome program.now number tables)) }
+    ensures tables { IfOk result (λ l. l.tables ≡ tables_left tables (result_of program.now number tables)) }
+    ensures reply { IfOk result (λ l. l.reply ≡ reply_in (result_of program.now number tables)) }
     ensures keys { IfOk result (λ l. KeysStand program.now.resolved.tables l.tables) }
 {
     let Some(call) = program.resolved.calls.as_slice().get(number) else {

@@ -6,11 +6,11 @@ ghost use Rattle.mv_values.specs.References.{reference, references_from, referen
 ghost use Rattle.mv_values.specs.Tables.{rows_at, KeysStand};
 ghost use Rattle.mv_table.specs.Entries.{seen};
 ghost use Rattle.mv_catalog.specs.Text.{IsTable};
-ghost use Rattle.mv_alone.specs.FirstRows.{AdmitMatches};
-ghost use Rattle.mv_alone.specs.References.{holds_key, left_in};
+ghost use Rattle.mv_eval.specs.FirstRows.{AdmitMatches};
+ghost use Rattle.mv_eval.specs.References.{holds_key, left_in};
 ghost use Rattle.mv_serial.specs.Removing.{stays, to_table, have_children};
 
-use mv_alone::find::{key_in, matches_in, tests_of_key};
+use mv_eval::find::{key_in, matches_in, tests_of_key};
 use mv_table::table::{Entry, Tables};
 use mv_values::memory::NoMemory;
 use mv_values::pred::{Test, meets};

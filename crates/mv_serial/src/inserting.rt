@@ -3,18 +3,18 @@
 ghost use Rattle.std.specs.Prelude.{Ok, OnOk, slice_set};
 ghost use Rattle.mv_values.specs.References.{OneKeys};
 ghost use Rattle.mv_values.specs.Tables.{rows_at, KeysStand};
-ghost use Rattle.mv_alone.specs.Outcome.{Leaves, then_do};
-ghost use Rattle.mv_alone.specs.Changes.{put_row, OthersStay};
-ghost use Rattle.mv_alone.specs.Alone.{insert};
+ghost use Rattle.mv_eval.specs.Results.{Leaves, then_do};
+ghost use Rattle.mv_eval.specs.Changes.{put_row, OthersStay};
+ghost use Rattle.mv_eval.specs.Alone.{insert};
 ghost use Rattle.mv_serial.specs.Changing.{StaysUndoable};
 
 use crate::change::{RowChange, add};
 use crate::parents::has_parents;
-use mv_alone::env::set_found;
-use mv_alone::find::{columns_in, key_in};
-use mv_alone::made::{made_row, under_key};
-use mv_alone::state::{State, Stop};
 use mv_catalog::resolved::RExpr;
+use mv_eval::env::set_found;
+use mv_eval::find::{columns_in, key_in};
+use mv_eval::made::{made_row, under_key};
+use mv_eval::state::{State, Stop};
 use mv_table::table::Tables;
 use mv_values::calls::End;
 use mv_values::list::List;

@@ -6,13 +6,13 @@ ghost use Rattle.std.specs.Option.{is_some};
 ghost use Rattle.mv_values.specs.Patching.{row_of};
 ghost use Rattle.mv_values.specs.References.{Reference, reference, references, references_from, is_there, HaveOneKey, ParentsHaveOneKey};
 ghost use Rattle.mv_values.specs.Tables.{rows_at};
-ghost use Rattle.mv_alone.specs.Outcome.{Gives};
-ghost use Rattle.mv_alone.specs.References.{has_parents, with_parent, fit_in};
+ghost use Rattle.mv_eval.specs.Results.{Gives};
+ghost use Rattle.mv_eval.specs.References.{has_parents, with_parent, fit_in};
 ghost use Rattle.mv_serial.specs.Referring.{IsOneKeyed};
 
-use mv_alone::find::{columns_in, is_under, parent_in};
-use mv_alone::made::fit_at;
-use mv_alone::state::Stop;
+use mv_eval::find::{columns_in, is_under, parent_in};
+use mv_eval::made::fit_at;
+use mv_eval::state::Stop;
 use mv_table::table::{Tables, row_at};
 use mv_values::calls::End;
 use mv_values::columns::value_at;

@@ -3,16 +3,16 @@
 ghost use Rattle.std.specs.Prelude.{◌≡◌, All};
 ghost use Rattle.mv_values.specs.Tables.{KeysStand};
 ghost use Rattle.mv_catalog.specs.Text.{IsTable};
-ghost use Rattle.mv_alone.specs.Outcome.{Leaves};
-ghost use Rattle.mv_alone.specs.Alone.{assign, select, print};
+ghost use Rattle.mv_eval.specs.Results.{Leaves};
+ghost use Rattle.mv_eval.specs.Alone.{assign, select, print};
 
-use mv_alone::chosen::chosen_in;
-use mv_alone::env::{set_columns, set_found, set_value};
-use mv_alone::expr::{number_in, offset, value};
-use mv_alone::find::tests_from;
-use mv_alone::line::line_of_exprs;
-use mv_alone::state::{State, Stop};
 use mv_catalog::resolved::{Query, RExpr};
+use mv_eval::chosen::chosen_in;
+use mv_eval::env::{set_columns, set_found, set_value};
+use mv_eval::expr::{number_in, offset, value};
+use mv_eval::find::tests_from;
+use mv_eval::line::line_of_exprs;
+use mv_eval::state::{State, Stop};
 use mv_values::schema::TableInfo;
 use std::alloc::Global;
 

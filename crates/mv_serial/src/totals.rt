@@ -3,15 +3,15 @@
 ghost use Rattle.std.specs.Prelude.{◌≡◌, All, OnOk};
 ghost use Rattle.mv_values.specs.Tables.{KeysStand};
 ghost use Rattle.mv_catalog.specs.Text.{IsTable};
-ghost use Rattle.mv_alone.specs.Outcome.{Leaves};
-ghost use Rattle.mv_alone.specs.Alone.{sum_up, totalled};
-ghost use Rattle.mv_alone.specs.Env.{with_found};
+ghost use Rattle.mv_eval.specs.Results.{Leaves};
+ghost use Rattle.mv_eval.specs.Alone.{sum_up, totalled};
+ghost use Rattle.mv_eval.specs.Env.{with_found};
 
-use mv_alone::env::{set_found, set_value};
-use mv_alone::extremes::total_of;
-use mv_alone::find::tests_from;
-use mv_alone::state::{Env, State, Stop};
 use mv_catalog::resolved::{RAgg, RCond};
+use mv_eval::env::{set_found, set_value};
+use mv_eval::extremes::total_of;
+use mv_eval::find::tests_from;
+use mv_eval::state::{Env, State, Stop};
 use mv_values::memory::NoMemory;
 use mv_values::schema::TableInfo;
 use mv_values::value::Value;

@@ -14,10 +14,10 @@ use Rattle.mv_values.specs.Tables.{Tables}
 use Rattle.mv_values.specs.Patching.{applied}
 use Rattle.mv_history.specs.declared.change.Change.{Change}
 use Rattle.mv_history.specs.Changes.{changes_between}
-use Rattle.mv_seats.specs.Scripts.{Script}
+use Rattle.mv_seats.specs.Scripts.{BoardScript}
 use Rattle.mv_seats.specs.Knowing.{Knows, Gate, plain}
 use Rattle.mv_shards.specs.Parts.{shard_of, is_in, writes_to, eight}
-use Rattle.mv_script.specs.Scripts.{IsScript}
+use Rattle.mv_script.specs.Scripts.{IsCompiledScript}
 use Rattle.mv_script.proofs.Databases.{tables_rise}
 use Rattle.mv_shards.specs.Scripts.{script_in}
 use Rattle.mv_shards.specs.Histories.{tables_at, last_touch, changes_in}
@@ -35,7 +35,7 @@ zeros_at (suc n) zero = refl
 zeros_at (suc n) (suc k) = zeros_at n k
 
 -- before any commit
-pub ledger_opens : (s : Script) (k : Knows) (touched : List ℕ) → k.role ≡ Gate → k.seen ≡ [] → IsScript (script_in s) → touched ≡ replicate 8 0 → IsLedger s k 0 touched
+pub ledger_opens : (s : BoardScript) (k : Knows) (touched : List ℕ) → k.role ≡ Gate → k.seen ≡ [] → IsCompiledScript (script_in s) → touched ≡ replicate 8 0 → IsLedger s k 0 touched
 ledger_opens s k touched role seen script e = record {
   role = role;
   script = script;
@@ -46,7 +46,7 @@ ledger_opens s k touched role seen script e = record {
 }
 
 -- the pass has learned more
-pub ledger_learns : (s : Script) (n : ℕ) (old new : Knows) (touched : List ℕ) → IsLedger s old n touched → HasGrown old new → new.seen ≡ old.seen → IsLedger s new n touched
+pub ledger_learns : (s : BoardScript) (n : ℕ) (old new : Knows) (touched : List ℕ) → IsLedger s old n touched → HasGrown old new → new.seen ≡ old.seen → IsLedger s new n touched
 ledger_learns s n old new touched l g e = record {
   role = g.role ∙ l.role;
   script = l.script;
@@ -56,7 +56,7 @@ ledger_learns s n old new touched l g e = record {
   marks = λ q lt. let m = l.marks q lt in let u = g.marks q in omega (arith, m, u);
 }
 
-pub ledger_start : (s : Script) (n : ℕ) (k : Knows) (touched : List ℕ) → IsLedger s k n touched → IsStart s n (plain k) touched
+pub ledger_start : (s : BoardScript) (n : ℕ) (k : Knows) (touched : List ℕ) → IsLedger s k n touched → IsStart s n (plain k) touched
 ledger_start s n k touched l = record {
   role = refl;
   script = l.script;
@@ -66,7 +66,7 @@ ledger_start s n k touched l = record {
 }
 
 -- a view of the tables after all commits
-pub ledger_reads : (s : Script) (n : ℕ) (k : Knows) (touched : List ℕ) → IsLedger s k n touched → MayRead s eight n (plain k)
+pub ledger_reads : (s : BoardScript) (n : ℕ) (k : Knows) (touched : List ℕ) → IsLedger s k n touched → MayRead s eight n (plain k)
 ledger_reads s n k touched l = record {
   role = refl;
   script = l.script;
@@ -79,7 +79,7 @@ ledger_reads s n k touched l = record {
 }
 
 -- a start after fewer commits
-pub ledger_start_at : (s : Script) (n m : ℕ) (k : Knows) (touched now : List ℕ) → IsLedger s k n touched → m ≤ n → AreLastChanges s k.seen m now → IsStart s m (plain k) now
+pub ledger_start_at : (s : BoardScript) (n m : ℕ) (k : Knows) (touched now : List ℕ) → IsLedger s k n touched → m ≤ n → AreLastChanges s k.seen m now → IsStart s m (plain k) now
 ledger_start_at s n m k touched now l le are = record {
   role = refl;
   script = l.script;
@@ -93,7 +93,7 @@ ledger_start_at s n m k touched now l le are = record {
       omega (arith, is, climbs, t, mark);
 }
 
-pub ledger_may : (s : Script) (n call : ℕ) (ws : List Write) (k : Knows) (touched : List ℕ) → IsLedger s k n touched → call < length s.calls → list_any (eqb call) k.seen ≡ false → Leads s k call ws → MayInstall s eight call ws k
+pub ledger_may : (s : BoardScript) (n call : ℕ) (ws : List Write) (k : Knows) (touched : List ℕ) → IsLedger s k n touched → call < length s.calls → list_any (eqb call) k.seen ≡ false → Leads s k call ws → MayInstall s eight call ws k
 ledger_may s n call ws k touched l there fresh leads = record {
   role = l.role;
   known = there;
@@ -103,7 +103,7 @@ ledger_may s n call ws k touched l there fresh leads = record {
 }
 
 -- a commit was installed
-pub ledger_commits : (s : Script) (n m call : ℕ) (ws : List Write) (changes : List Change) (old new : Knows) (touched now : List ℕ) → IsLedger s old n touched → HasInstalled eight call ws m old new → AreTouched changes m touched now → length now ≡ 8
+pub ledger_commits : (s : BoardScript) (n m call : ℕ) (ws : List Write) (changes : List Change) (old new : Knows) (touched now : List ℕ) → IsLedger s old n touched → HasInstalled eight call ws m old new → AreTouched changes m touched now → length now ≡ 8
     → changes ≡ changes_between (tables_at s old.seen n) (tables_at s (old.seen ++ call ∷ []) (n + 1)) → Leads s old call ws → IsLedger s new m now
 ledger_commits s n m call ws changes old new touched now l h t size are leads = record {
   role = h.grown.role ∙ l.role;

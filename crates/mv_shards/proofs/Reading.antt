@@ -25,7 +25,7 @@ use Rattle.mv_record.specs.Admitting.{Admitted}
 use Rattle.mv_record.specs.Writes.{AreRising}
 use Rattle.mv_record.proofs.Rising.{Rises, rises_from, row_below}
 use Rattle.mv_record.proofs.Patching.{placed_other, row_of-placed_same, rising_placed, rows_same, row_of-found, rising_found}
-use Rattle.mv_seats.specs.Scripts.{Script}
+use Rattle.mv_seats.specs.Scripts.{BoardScript}
 use Rattle.mv_seats.specs.Knowing.{Knows}
 use Rattle.mv_seats.proofs.Prefixes.{prefix_length}
 use Rattle.mv_shards.specs.Parts.{shard_of, is_in, part, first_int, eight}
@@ -168,7 +168,7 @@ gathered_all pred db h =
 
 -- Passes that grow
 
-pub reads_still : (s : Script) (qs : List ℕ) (n : ℕ) (old new : Knows) → MayRead s qs n old → HasGrown old new → MayRead s qs n new
+pub reads_still : (s : BoardScript) (qs : List ℕ) (n : ℕ) (old new : Knows) → MayRead s qs n old → HasGrown old new → MayRead s qs n new
 reads_still s qs n old new h g =
     let longer = prefix_length old.seen new.seen g.seen in record {
       role = g.role ∙ h.role;
@@ -177,9 +177,9 @@ reads_still s qs n old new h g =
       marks = λ q own. let m = h.marks q own in let u = g.marks q in let same = touch_front s q old.seen new.seen n g.seen h.past in omega (arith, m, u, same);
     }
 
-pub reads_rest : (s : Script) (q : ℕ) (qs : List ℕ) (n : ℕ) (k : Knows) → MayRead s (q ∷ qs) n k → MayRead s qs n k
+pub reads_rest : (s : BoardScript) (q : ℕ) (qs : List ℕ) (n : ℕ) (k : Knows) → MayRead s (q ∷ qs) n k → MayRead s qs n k
 reads_rest s q qs n k h = record { role = h.role; script = h.script; past = h.past; marks = λ p own. h.marks p (in_rest p q qs own) }
 
 -- the history that it has seen begins as before
-pub sees_still : (s : Script) (n : ℕ) (old new : Knows) → n ≤ length old.seen → HasGrown old new → tables_at s old.seen n ≡ tables_at s new.seen n
+pub sees_still : (s : BoardScript) (n : ℕ) (old new : Knows) → n ≤ length old.seen → HasGrown old new → tables_at s old.seen n ≡ tables_at s new.seen n
 sees_still s n old new le g = tables_front s old.seen new.seen n g.seen le

@@ -4,7 +4,7 @@ use Rattle.atomic_table.specs.Seated.{TableId}
 use Rattle.mv_lawful.specs.Rounds.{IsPast}
 use Rattle.mv_view.specs.declared.view.Refused.{Refused}
 use Rattle.mv_view.specs.declared.view.Refused.TheVariants.{NoMemory, Stale}
-use Rattle.mv_seats.specs.Scripts.{Script}
+use Rattle.mv_seats.specs.Scripts.{BoardScript}
 use Rattle.mv_seats.specs.Knowing.{Knows}
 use Rattle.mv_seats.proofs.Prefixes.{prefix_length}
 use Rattle.mv_shards.specs.Parts.{eight}
@@ -14,13 +14,13 @@ use Rattle.mv_shards.specs.Leaves.{IsLeave}
 use Rattle.mv_shards.proofs.Stored.{low_more}
 use Rattle.mv_shards.proofs.Reading.{reads_still}
 
-abbrev pub IsView : Script → TableId → ℕ → ℕ → Option ℕ → Knows → Type 0
+abbrev pub IsView : BoardScript → TableId → ℕ → ℕ → Option ℕ → Knows → Type 0
 IsView s word n low shown k = MayRead s eight n k × IsLow s.options.horizon low (length k.seen) × IsLeave s word shown n
 
-pub leave_still : (s : Script) (word : TableId) (n : ℕ) (old new : Option ℕ) → new ≡ old → IsLeave s word old n → IsLeave s word new n
+pub leave_still : (s : BoardScript) (word : TableId) (n : ℕ) (old new : Option ℕ) → new ≡ old → IsLeave s word old n → IsLeave s word new n
 leave_still s word n old new e h need = e ∙ h need
 
-pub view_keeps : (s : Script) (word : TableId) (n low : ℕ) (shown after : Option ℕ) (old new : Knows) → IsView s word n low shown old → HasGrown old new → after ≡ shown → IsView s word n low after new
+pub view_keeps : (s : BoardScript) (word : TableId) (n low : ℕ) (shown after : Option ℕ) (old new : Knows) → IsView s word n low shown old → HasGrown old new → after ≡ shown → IsView s word n low after new
 view_keeps s word n low shown after old new h g e =
     (reads_still s eight n old new h.0 g, low_more s.options.horizon low (length old.seen) (length new.seen) (prefix_length old.seen new.seen g.seen) h.1, leave_still s word n shown after e h.2)
 
@@ -31,7 +31,7 @@ low_past (Some h) n low seen less (inl none) = absurd (omega (arith, less, none)
 low_past (Some h) n low seen less (inr is) = omega (arith, less, is)
 
 -- the low of a refusal lies below what the horizon keeps
-pub view_refused : (s : Script) (word : TableId) (n low last : ℕ) (shown after : Option ℕ) (old new : Knows) (refused : Refused) → IsView s word n low shown old → HasGrown old new → after ≡ shown → IsRefusal s n (length new.seen) refused → last ≡ low_after low refused → IsView s word n last after new
+pub view_refused : (s : BoardScript) (word : TableId) (n low last : ℕ) (shown after : Option ℕ) (old new : Knows) (refused : Refused) → IsView s word n low shown old → HasGrown old new → after ≡ shown → IsRefusal s n (length new.seen) refused → last ≡ low_after low refused → IsView s word n last after new
 view_refused s word n low last shown after old new NoMemory h g f r e = subst (λ l. IsView s word n l after new) (sym e) (view_keeps s word n low shown after old new h g f)
 view_refused s word n low last shown after old new (Stale start l) h g f r e =
     let kept : IsLow s.options.horizon l (length new.seen) = subst (λ o. IsLow o l (length new.seen)) (sym r.2.1) (inr r.2.2) in

@@ -18,16 +18,16 @@ use Rattle.mv_record.specs.Admitting.{Admitted}
 use Rattle.mv_view.specs.declared.view.Refused.TheVariants.{Stale}
 use Rattle.mv_store.specs.Stored.{Versioned, database_at, newest, own_writes, IsLike}
 use Rattle.mv_store.specs.Changes.{HasPut, HasDropped, HasStamped, HasRaised}
-use Rattle.mv_lawful.specs.Work.{tables_after}
-use Rattle.mv_seats.specs.Scripts.{Script}
+use Rattle.mv_lawful.specs.Batch.{tables_after}
+use Rattle.mv_seats.specs.Scripts.{BoardScript}
 use Rattle.mv_seats.specs.Knowing.{Knows, Shard, Gate, gate_pass, met, plain, appended, shard_pass, handing, IsMark, Begins}
 use Rattle.mv_store.proofs.Laws.{put_more}
 use Rattle.mv_seats.proofs.Prefixes.{prefix_self, prefix_length}
 use Rattle.mv_seats.proofs.Meeting.{at_greater}
 use Rattle.mv_seats.proofs.Roles.{own_kept}
-use Rattle.mv_script.specs.Scripts.{IsScript}
+use Rattle.mv_script.specs.Scripts.{IsCompiledScript}
 use Rattle.mv_script.proofs.Databases.{tables_rise}
-use Rattle.mv_shards.specs.Scripts.{script_in, work}
+use Rattle.mv_shards.specs.Scripts.{script_in, batch}
 use Rattle.mv_shards.specs.Parts.{is_in, part, writes_in, writes_to, eight}
 use Rattle.mv_shards.specs.Histories.{tables_at, last_touch}
 use Rattle.mv_shards.specs.Kept.{MayMake, IsLow, IsKept, IsShardStore, HasGrown}
@@ -74,7 +74,7 @@ kept_more h word None low n m le is = low_more h low n m le is
 kept_more h word (Some floor) low n m le is = is
 
 -- its pass has learned more
-pub store_learns : (s : Script) (word : TableId) (q : ℕ) (store : Versioned) (noted : Option ℕ) (old new : Knows) → IsShardStore s word q store noted old → new.role ≡ old.role → IsPrefix old.seen new.seen → slice_index new.marks q ≡ slice_index old.marks q → IsShardStore s word q store noted new
+pub store_learns : (s : BoardScript) (word : TableId) (q : ℕ) (store : Versioned) (noted : Option ℕ) (old new : Knows) → IsShardStore s word q store noted old → new.role ≡ old.role → IsPrefix old.seen new.seen → slice_index new.marks q ≡ slice_index old.marks q → IsShardStore s word q store noted new
 store_learns s word q store noted old new h role p mark =
     let longer = prefix_length old.seen new.seen p in record {
       role = role ∙ h.role;
@@ -89,7 +89,7 @@ store_learns s word q store noted old new h role p mark =
     }
 
 -- its rows are those of the history after n commits, where no later commit up to n touches the shard
-pub store_rows : (s : Script) (word : TableId) (q n : ℕ) (store : Versioned) (noted : Option ℕ) (k : Knows) (seen : List ℕ) → IsShardStore s word q store noted k → IsPrefix seen k.seen → n ≤ length seen → last_touch s q seen n ≤ store.last → store.low ≤ n → database_at store n ≡ part q (tables_at s seen n)
+pub store_rows : (s : BoardScript) (word : TableId) (q n : ℕ) (store : Versioned) (noted : Option ℕ) (k : Knows) (seen : List ℕ) → IsShardStore s word q store noted k → IsPrefix seen k.seen → n ≤ length seen → last_touch s q seen n ≤ store.last → store.low ≤ n → database_at store n ≡ part q (tables_at s seen n)
 store_rows s word q n store noted k seen h p le touched low =
     let same : last_touch s q seen n ≡ last_touch s q k.seen n = touch_front s q seen k.seen n p le in
     let most = touch_most s q k.seen n in
@@ -99,7 +99,7 @@ pub admitted_part : (q : ℕ) (pred : Pred) (db : Tables) → Admitted pred (row
 admitted_part q pred db h = subst (Admitted pred) (sym (at_part q pred.table db)) (All-filter (λ item. is_in q pred.table item.key) (λ item. matches pred item.row ≡ true → admits pred item.key ≡ true) (rows_at db pred.table) h)
 
 -- Stale comes only with a horizon: where a note is kept, its floor is at most the start of the reader's pin
-pub stale_low : (s : Script) (word : TableId) (q n : ℕ) (store : Versioned) (noted shown : Option ℕ) (k : Knows) (seen : ℕ) → IsShardStore s word q store noted k → length k.seen ≤ seen → IsLeave s word shown n → IfSome noted (λ floor. IfSome shown (λ start. floor ≤ start)) → n < store.low
+pub stale_low : (s : BoardScript) (word : TableId) (q n : ℕ) (store : Versioned) (noted shown : Option ℕ) (k : Knows) (seen : ℕ) → IsShardStore s word q store noted k → length k.seen ≤ seen → IsLeave s word shown n → IfSome noted (λ floor. IfSome shown (λ start. floor ≤ start)) → n < store.low
     → IsRefusal s n seen (Stale n store.low)
 stale_low s word q n store noted shown k seen h le may below late = by noted h.low below
   where
@@ -119,7 +119,7 @@ stale_low s word q n store noted shown k seen h le may below late = by noted h.l
 -- Commits
 
 -- all writes of a call were put and then dropped
-pub store_drops : (s : Script) (word : TableId) (q call : ℕ) (old new : Versioned) (noted : Option ℕ) (k : Knows) → IsShardStore s word q old noted k → HasDropped call old new → IsShardStore s word q new noted k
+pub store_drops : (s : BoardScript) (word : TableId) (q call : ℕ) (old new : Versioned) (noted : Option ℕ) (k : Knows) → IsShardStore s word q old noted k → HasDropped call old new → IsShardStore s word q new noted k
 store_drops s word q call old new noted k h d = record {
   role = h.role;
   there = h.there;
@@ -148,7 +148,7 @@ put_then_drop call ws old mid new h g = record {
 }
 
 -- what was put has become commit n. The pass of the shard has seen what the gate's pass had seen, and then the call
-pub store_commits : (s : Script) (word : TableId) (q call n : ℕ) (ws : List Write) (old mid new : Versioned) (noted : Option ℕ) (k after : Knows)
+pub store_commits : (s : BoardScript) (word : TableId) (q call n : ℕ) (ws : List Write) (old mid new : Versioned) (noted : Option ℕ) (k after : Knows)
     → IsShardStore s word q old noted k
     → ((m : ℕ) → IsLike old (database_at old m))
     → HasPut call (writes_in q ws) old mid → HasStamped call n mid new
@@ -208,12 +208,12 @@ store_commits s word q call n ws old mid new noted k after h like put stamp numb
 
 -- old rows were dropped: by the horizon, or up to the floor of a note that is then kept
 
-rows_raised : (s : Script) (q to : ℕ) (old new : Versioned) (k : Knows) → ((m : ℕ) → old.low ≤ m → database_at old m ≡ part q (tables_at s k.seen (min m old.last))) → old.low ≤ to → HasRaised to old new → (m : ℕ) → new.low ≤ m → database_at new m ≡ part q (tables_at s k.seen (min m new.last))
+rows_raised : (s : BoardScript) (q to : ℕ) (old new : Versioned) (k : Knows) → ((m : ℕ) → old.low ≤ m → database_at old m ≡ part q (tables_at s k.seen (min m old.last))) → old.low ≤ to → HasRaised to old new → (m : ℕ) → new.low ≤ m → database_at new m ≡ part q (tables_at s k.seen (min m new.last))
 rows_raised s q to old new k rows up r m le =
     let past : to ≤ m = omega (arith, r.low, le) in let before : old.low ≤ m = omega (arith, past, up) in
     r.database m past ∙ (rows m before ∙ ap (λ l. part q (tables_at s k.seen (min m l))) (sym r.last))
 
-store_raised : (s : Script) (word : TableId) (q to : ℕ) (old new : Versioned) (before noted : Option ℕ) (k : Knows) → IsShardStore s word q old before k → old.low ≤ to → to ≤ old.last → HasRaised to old new → IsKept s.options.horizon word noted new.low (length k.seen) → IsShardStore s word q new noted k
+store_raised : (s : BoardScript) (word : TableId) (q to : ℕ) (old new : Versioned) (before noted : Option ℕ) (k : Knows) → IsShardStore s word q old before k → old.low ≤ to → to ≤ old.last → HasRaised to old new → IsKept s.options.horizon word noted new.low (length k.seen) → IsShardStore s word q new noted k
 store_raised s word q to old new before noted k h up most r low = record {
   role = h.role;
   there = h.there;
@@ -226,14 +226,14 @@ store_raised s word q to old new before noted k h up most r low = record {
   low = low;
 }
 
-pub store_raises : (s : Script) (word : TableId) (q to h : ℕ) (old new : Versioned) (noted : Option ℕ) (k : Knows) → IsShardStore s word q old noted k → s.options.horizon ≡ Some h → old.low ≤ to → to + h ≤ old.last → HasRaised to old new → IsShardStore s word q new noted k
+pub store_raises : (s : BoardScript) (word : TableId) (q to h : ℕ) (old new : Versioned) (noted : Option ℕ) (k : Knows) → IsShardStore s word q old noted k → s.options.horizon ≡ Some h → old.low ≤ to → to + h ≤ old.last → HasRaised to old new → IsShardStore s word q new noted k
 store_raises s word q to hor old new noted k h given up most r = store_raised s word q to old new noted noted k h up (omega (arith, most)) r (by noted h.low)
   where
     by : (o : Option ℕ) → IsKept s.options.horizon word o old.low (length k.seen) → IsKept s.options.horizon word o new.low (length k.seen)
     by None is = subst (λ (x : Option ℕ). IsLow x new.low (length k.seen)) (sym given) (inr (omega (arith, r.low, most, h.seen)))
     by (Some floor) is = absurd (cc (given, is.0))
 
-pub store_raises_to : (s : Script) (word : TableId) (q to floor : ℕ) (old new : Versioned) (noted : Option ℕ) (k : Knows) → IsShardStore s word q old noted k → s.options.horizon ≡ None → word.words ≡ 1 → old.low ≤ to → to ≤ old.last → to ≤ floor → HasRaised to old new → IsShardStore s word q new (Some floor) k
+pub store_raises_to : (s : BoardScript) (word : TableId) (q to floor : ℕ) (old new : Versioned) (noted : Option ℕ) (k : Knows) → IsShardStore s word q old noted k → s.options.horizon ≡ None → word.words ≡ 1 → old.low ≤ to → to ≤ old.last → to ≤ floor → HasRaised to old new → IsShardStore s word q new (Some floor) k
 store_raises_to s word q to floor old new noted k h none one up most under r = store_raised s word q to old new noted (Some floor) k h up most r (none, one, omega (arith, r.low, under))
 
 -- Shard and pass meet
@@ -262,7 +262,7 @@ prefix_both (x ∷ xs) (y ∷ ys) p q = let rest = prefix_both xs ys (p.0, cc p.
 -- What a call owes and leaves
 
 -- a pass that has grown, and has seen no more
-pub may_still : (s : Script) (qs : List ℕ) (call : ℕ) (ws : List Write) (old new : Knows) → MayInstall s qs call ws old → HasGrown old new → new.seen ≡ old.seen → MayInstall s qs call ws new
+pub may_still : (s : BoardScript) (qs : List ℕ) (call : ℕ) (ws : List Write) (old new : Knows) → MayInstall s qs call ws old → HasGrown old new → new.seen ≡ old.seen → MayInstall s qs call ws new
 may_still s qs call ws old new may g e = record {
   role = g.role ∙ may.role;
   known = may.known;
@@ -285,7 +285,7 @@ in_first q p qs h = by (eqb q p) refl h
     by true e g = inl (eqb-true q p e)
     by false e g = inr g
 
-pub may_rest : (s : Script) (q : ℕ) (qs : List ℕ) (call : ℕ) (ws : List Write) (k : Knows) → MayInstall s (q ∷ qs) call ws k → MayInstall s qs call ws k
+pub may_rest : (s : BoardScript) (q : ℕ) (qs : List ℕ) (call : ℕ) (ws : List Write) (k : Knows) → MayInstall s (q ∷ qs) call ws k → MayInstall s qs call ws k
 may_rest s q qs call ws k may = record {
   role = may.role;
   known = may.known;
@@ -317,7 +317,7 @@ pub not_installed : (old mid new : Knows) → HasGrown old mid → mid.seen ≡ 
 not_installed old mid new g e h = record { grown = grown_then old mid new g h.grown; seen = h.seen ∙ e }
 
 -- the call was appended, and no shard is left
-pub appended_last : (call : ℕ) (ws : List Write) (s : Script) (n : ℕ) (old mid new : Knows) → old.role ≡ Gate → mid ≡ appended old call → new ≡ mid → Begins s mid n → HasInstalled [] call ws n old new
+pub appended_last : (call : ℕ) (ws : List Write) (s : BoardScript) (n : ℕ) (old mid new : Knows) → old.role ≡ Gate → mid ≡ appended old call → new ≡ mid → Begins s mid n → HasInstalled [] call ws n old new
 appended_last call ws s n old mid new gate e f b =
     let whole : mid.seen ≡ b.history = b.whole (ap (λ (k : Knows). k.role) e ∙ gate) in
     let is : new ≡ appended old call = f ∙ e in record {
@@ -335,7 +335,7 @@ appended_last call ws s n old mid new gate e f b =
 -- Making
 
 -- shards can be made with the gate's first pass
-pub may_make : (s : Script) (opening : Tables) (horizon : Option ℕ) (k : Knows) → IsScript (script_in s) → s.shards ≡ 8 → opening ≡ s.opening → horizon ≡ s.options.horizon → k ≡ gate_pass → MayMake s opening horizon k
+pub may_make : (s : BoardScript) (opening : Tables) (horizon : Option ℕ) (k : Knows) → IsCompiledScript (script_in s) → s.shards ≡ 8 → opening ≡ s.opening → horizon ≡ s.options.horizon → k ≡ gate_pass → MayMake s opening horizon k
 may_make s opening horizon k script shards opens waits e = record {
   role = ap (λ (z : Knows). z.role) e;
   seen = ap (λ (z : Knows). z.seen) e;
@@ -350,11 +350,11 @@ take_none : (j : ℕ) → ◌≡◌ {A = List ℕ} (take j []) []
 take_none zero = refl
 take_none (suc j) = refl
 
-opening_at : (s : Script) (j : ℕ) → tables_at s [] j ≡ s.opening
-opening_at s j = ap (tables_after (work s) s.opening) (take_none j)
+opening_at : (s : BoardScript) (j : ℕ) → tables_at s [] j ≡ s.opening
+opening_at s j = ap (tables_after (batch s) s.opening) (take_none j)
 
 -- before any commit
-pub store_opens : (s : Script) (word : TableId) (q : ℕ) (opening : Tables) (horizon : Option ℕ) (old k : Knows) (store : Versioned) → MayMake s opening horizon old → q < 8 → k ≡ shard_pass old q
+pub store_opens : (s : BoardScript) (word : TableId) (q : ℕ) (opening : Tables) (horizon : Option ℕ) (old k : Knows) (store : Versioned) → MayMake s opening horizon old → q < 8 → k ≡ shard_pass old q
     → ((n : ℕ) → database_at store n ≡ part q opening) → ((call : ℕ) → own_writes store call ≡ []) → store.last ≡ 0 → store.low ≡ 0 → IsShardStore s word q store None k
 store_opens s word q opening horizon old k store may there e db own last low =
     let seen : k.seen ≡ [] = ap (λ (z : Knows). z.seen) e ∙ may.seen in
@@ -374,7 +374,7 @@ store_opens s word q opening horizon old k store may there e db own last low =
     none_low None l n z = z
     none_low (Some h) l n z = inl z
 
-pub may_next : (s : Script) (opening : Tables) (horizon : Option ℕ) (q : ℕ) (old new : Knows) → MayMake s opening horizon old → new ≡ handing old q → MayMake s opening horizon new
+pub may_next : (s : BoardScript) (opening : Tables) (horizon : Option ℕ) (q : ℕ) (old new : Knows) → MayMake s opening horizon old → new ≡ handing old q → MayMake s opening horizon new
 may_next s opening horizon q old new may e = record {
   role = ap (λ (z : Knows). z.role) e ∙ may.role;
   seen = ap (λ (z : Knows). z.seen) e ∙ may.seen;
@@ -421,7 +421,7 @@ in_eight (suc (suc (suc (suc (suc (suc zero)))))) h = refl
 in_eight (suc (suc (suc (suc (suc (suc (suc zero))))))) h = refl
 in_eight (suc (suc (suc (suc (suc (suc (suc (suc q)))))))) h = absurd (omega (arith, h))
 
-pub start_reads : (s : Script) (n : ℕ) (k : Knows) (touched : List ℕ) → IsStart s n k touched → MayRead s eight n k
+pub start_reads : (s : BoardScript) (n : ℕ) (k : Knows) (touched : List ℕ) → IsStart s n k touched → MayRead s eight n k
 start_reads s n k touched st = record {
   role = st.role;
   script = st.script;
@@ -429,7 +429,7 @@ start_reads s n k touched st = record {
   marks = λ q own. let lt = below_eight q own in let t = st.touches q lt in let m = st.marks q lt in omega (arith, t, m);
 }
 
-pub start_grown : (s : Script) (n : ℕ) (old new : Knows) (touched : List ℕ) → IsStart s n old touched → HasGrown old new → IsStart s n new touched
+pub start_grown : (s : BoardScript) (n : ℕ) (old new : Knows) (touched : List ℕ) → IsStart s n old touched → HasGrown old new → IsStart s n new touched
 start_grown s n old new touched st g =
     let longer = prefix_length old.seen new.seen g.seen in record {
       role = g.role ∙ st.role;

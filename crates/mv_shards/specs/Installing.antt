@@ -4,22 +4,22 @@ use Rattle.std.specs.List.{list_any}
 use lib.Dec.{eqb}
 use Rattle.mv_values.specs.declared.patch.Write.{Write}
 use Rattle.mv_values.specs.Patching.{applied}
-use Rattle.mv_seats.specs.Scripts.{Script}
+use Rattle.mv_seats.specs.Scripts.{BoardScript}
 use Rattle.mv_seats.specs.Knowing.{Knows, Gate}
 use Rattle.mv_shards.specs.Parts.{writes_to}
 use Rattle.mv_shards.specs.Histories.{tables_at, last_touch}
 use Rattle.mv_shards.specs.Kept.{HasGrown}
 
 -- the pass knows that shard q has its last change
-abbrev pub KnowsMark : Script → Knows → ℕ → Type 0
+abbrev pub KnowsMark : BoardScript → Knows → ℕ → Type 0
 KnowsMark s k q = last_touch s q k.seen (length k.seen) ≤ slice_index k.marks q
 
 -- the writes lead from the tables after all commits to those after the call
-abbrev pub Leads : Script → Knows → ℕ → List Write → Type 0
+abbrev pub Leads : BoardScript → Knows → ℕ → List Write → Type 0
 Leads s k call ws = applied ws (tables_at s k.seen (length k.seen)) ≡ tables_at s (k.seen ++ call ∷ []) (length k.seen + 1)
 
 -- the gate's pass may append the call, and put its writes into those of these shards that they are to
-pub record MayInstall (s : Script) (qs : List ℕ) (call : ℕ) (ws : List Write) (k : Knows) : Type 0 where
+pub record MayInstall (s : BoardScript) (qs : List ℕ) (call : ℕ) (ws : List Write) (k : Knows) : Type 0 where
   pub role : k.role ≡ Gate
   pub known : call < length s.calls
   pub fresh : list_any (eqb call) k.seen ≡ false

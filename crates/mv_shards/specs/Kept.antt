@@ -4,9 +4,9 @@ use mathlib.Core.List.{IsPrefix}
 use Rattle.atomic_table.specs.Seated.{TableId}
 use Rattle.mv_values.specs.Tables.{Tables}
 use Rattle.mv_store.specs.Stored.{Versioned, database_at, own_writes}
-use Rattle.mv_seats.specs.Scripts.{Script}
+use Rattle.mv_seats.specs.Scripts.{BoardScript}
 use Rattle.mv_seats.specs.Knowing.{Knows, Shard, Gate}
-use Rattle.mv_script.specs.Scripts.{IsScript}
+use Rattle.mv_script.specs.Scripts.{IsCompiledScript}
 use Rattle.mv_shards.specs.Scripts.{script_in}
 use Rattle.mv_shards.specs.Parts.{part}
 use Rattle.mv_shards.specs.Histories.{tables_at}
@@ -29,10 +29,10 @@ IsKept horizon word (Some floor) low n = (horizon ≡ None) × (word.words ≡ 1
 
 -- a shard holds its part of the tables after each commit from its low on. Its last commit is its mark on the board. No
 -- later commit that its pass has seen is in it
-pub record IsShardStore (s : Script) (word : TableId) (q : ℕ) (store : Versioned) (note : Option ℕ) (k : Knows) : Type 0 where
+pub record IsShardStore (s : BoardScript) (word : TableId) (q : ℕ) (store : Versioned) (note : Option ℕ) (k : Knows) : Type 0 where
   pub role : k.role ≡ Shard q
   pub there : q < s.shards
-  pub script : IsScript (script_in s)
+  pub script : IsCompiledScript (script_in s)
   -- the last commit is one that the pass has seen, and the pass knows the mark
   pub seen : store.last ≤ length k.seen
   pub mark : slice_index k.marks q ≡ store.last
@@ -52,11 +52,11 @@ pub record HasGrown (old new : Knows) : Type 0 where
 
 -- shards can be made: the pass is the gate's and has seen no commit, and the script is of one piece and has this opening
 -- database and horizon
-pub record MayMake (s : Script) (opening : Tables) (horizon : Option ℕ) (k : Knows) : Type 0 where
+pub record MayMake (s : BoardScript) (opening : Tables) (horizon : Option ℕ) (k : Knows) : Type 0 where
   pub role : k.role ≡ Gate
   pub seen : k.seen ≡ []
   pub marks : k.marks ≡ []
-  pub script : IsScript (script_in s)
+  pub script : IsCompiledScript (script_in s)
   pub shards : s.shards ≡ 8
   pub opens : opening ≡ s.opening
   pub waits : horizon ≡ s.options.horizon

@@ -13,9 +13,9 @@ use Rattle.mv_values.specs.Counts.{one_more}
 use Rattle.mv_view.specs.declared.view.Refused.{Refused}
 use Rattle.mv_view.specs.declared.view.Refused.TheVariants.{NoMemory, Stale}
 use Rattle.mv_view.specs.Viewing.{Sight}
-use Rattle.mv_seats.specs.Scripts.{Script}
+use Rattle.mv_seats.specs.Scripts.{BoardScript}
 use Rattle.mv_seats.specs.Knowing.{Knows, Plain}
-use Rattle.mv_script.specs.Scripts.{IsScript}
+use Rattle.mv_script.specs.Scripts.{IsCompiledScript}
 use Rattle.mv_shards.specs.Scripts.{script_in}
 use Rattle.mv_shards.specs.Parts.{part, shard_of}
 use Rattle.mv_shards.specs.Histories.{tables_at, last_touch}
@@ -30,9 +30,9 @@ pub record Started : Type 0 where
   pub touched : List ℕ
 
 -- its pass has seen as many commits, and knows that each shard has its last change up to the start
-pub record IsStart (s : Script) (n : ℕ) (k : Knows) (touched : List ℕ) : Type 0 where
+pub record IsStart (s : BoardScript) (n : ℕ) (k : Knows) (touched : List ℕ) : Type 0 where
   pub role : k.role ≡ Plain
-  pub script : IsScript (script_in s)
+  pub script : IsCompiledScript (script_in s)
   pub past : n ≤ length k.seen
   pub touches : (q : ℕ) → q < 8 → slice_index touched q ≡ last_touch s q k.seen n
   pub marks : (q : ℕ) → q < 8 → slice_index touched q ≤ slice_index k.marks q
@@ -41,15 +41,15 @@ pub record IsStart (s : Script) (n : ℕ) (k : Knows) (touched : List ℕ) : Typ
 
 -- a plain pass may read these shards after n commits: it has seen as many, and knows that each has its last change up to
 -- there
-pub record MayRead (s : Script) (qs : List ℕ) (n : ℕ) (k : Knows) : Type 0 where
+pub record MayRead (s : BoardScript) (qs : List ℕ) (n : ℕ) (k : Knows) : Type 0 where
   pub role : k.role ≡ Plain
-  pub script : IsScript (script_in s)
+  pub script : IsCompiledScript (script_in s)
   pub past : n ≤ length k.seen
   pub marks : (q : ℕ) → list_any (eqb q) qs ≡ true → last_touch s q k.seen n ≤ slice_index k.marks q
 
 -- why a shard returns no rows after n commits, once so many were seen: memory ran out, or a horizon is given, and doesn't
 -- keep these rows
-abbrev pub IsRefusal : Script → ℕ → ℕ → Refused → Type 0
+abbrev pub IsRefusal : BoardScript → ℕ → ℕ → Refused → Type 0
 IsRefusal s n seen NoMemory = ⊤
 IsRefusal s n seen (Stale start low) = (start ≡ n) × (n < low) × ((h : ℕ) × (s.options.horizon ≡ Some h) × (low + h ≤ seen))
 
@@ -75,7 +75,7 @@ pub record Sighted : Type 0 where
   pub seen : List ℕ
 
 -- a view of the tables after n commits of a history, before any query
-abbrev pub sight_at : Script → List ℕ → ℕ → Sight
+abbrev pub sight_at : BoardScript → List ℕ → ℕ → Sight
 sight_at s seen n = record { database = tables_at s seen n; start = n; may_be_stale = is_some s.options.horizon; stale_answers = 0; last_low = 0; rows_calls = 0; row_calls = 0 }
 
 -- the count of `Stale` results, and the low of the last one, after one more error

@@ -6,7 +6,7 @@ ghost use lib.Dec.{eqb};
 ghost use mathlib.Core.List.{IsPrefix};
 ghost use Rattle.mv_history.specs.Changes.{changes_between};
 ghost use Rattle.mv_seats.specs.Knowing.{Plain, Gate, plain};
-ghost use Rattle.mv_script.specs.Scripts.{IsScript};
+ghost use Rattle.mv_script.specs.Scripts.{IsCompiledScript};
 ghost use Rattle.mv_shards.specs.Scripts.{script_in};
 ghost use Rattle.mv_shards.specs.Histories.{tables_at};
 ghost use Rattle.mv_shards.specs.Installing.{Leads};
@@ -59,7 +59,7 @@ impl<N: Making + Naming> Ledger<N> {
     pub fn new(alloc: Global, pass: Pass<N>) -> Result<Ledger<N>, NoMemory>
         requires role { pass.role ≡ Gate }
         requires seen { pass.seen ≡ [] }
-        requires script { IsScript (script_in N.script) }
+        requires script { IsCompiledScript (script_in N.script) }
         ensures commits { IfOk result (λ ledger. ledger.commits ≡ 0) }
         ensures knows { IfOk result (λ ledger. ledger.knows ≡ pass) }
     {

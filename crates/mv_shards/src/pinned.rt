@@ -6,7 +6,7 @@ ghost use Rattle.mv_values.specs.Patching.{found_by};
 ghost use Rattle.mv_values.specs.Tables.{rows_at};
 ghost use Rattle.mv_record.specs.Admitting.{Admitted};
 ghost use Rattle.mv_seats.specs.Knowing.{gate_pass, Gate};
-ghost use Rattle.mv_script.specs.Scripts.{IsScript};
+ghost use Rattle.mv_script.specs.Scripts.{IsCompiledScript};
 ghost use Rattle.mv_shards.specs.Scripts.{script_in};
 ghost use Rattle.mv_shards.specs.Parts.{eight};
 ghost use Rattle.mv_shards.specs.Histories.{tables_at};
@@ -54,7 +54,7 @@ impl<N: Making + Naming> PinnedShards<N> {
         pass: &mut Pass<N>,
         columns: &List<Tested>,
     ) -> Result<PinnedShards<N>, NoMemory>
-        requires script { IsScript (script_in N.script) }
+        requires script { IsCompiledScript (script_in N.script) }
         requires shards { N.script.shards ≡ 8 }
         requires opening { opening.now ≡ N.script.opening }
         requires horizon { N.script.options.horizon ≡ None }

@@ -9,7 +9,7 @@ ghost use Rattle.mv_record.specs.Admitting.{Admitted};
 ghost use Rattle.mv_seats.specs.Knowing.{gate_pass, Gate};
 ghost use Rattle.mv_table.specs.Scans.{foremost};
 ghost use Rattle.mv_view.specs.Narrowing.{outside};
-ghost use Rattle.mv_script.specs.Scripts.{IsScript};
+ghost use Rattle.mv_script.specs.Scripts.{IsCompiledScript};
 ghost use Rattle.mv_shards.specs.Scripts.{script_in};
 ghost use Rattle.mv_shards.specs.Parts.{eight};
 ghost use Rattle.mv_shards.specs.Histories.{tables_at};
@@ -61,7 +61,7 @@ impl<N: Making + Naming> Shards<N> {
         pass: &mut Pass<N>,
         columns: &List<Tested>,
     ) -> Result<Shards<N>, NoMemory>
-        requires script { IsScript (script_in N.script) }
+        requires script { IsCompiledScript (script_in N.script) }
         requires shards { N.script.shards ≡ 8 }
         requires opening { opening.now ≡ N.script.opening }
         requires horizon { horizon ≡ N.script.options.horizon }

@@ -1,6 +1,6 @@
 //! Why the program fails.
 
-use mv_trace::fault::Fault;
+use mv_trace::fault::TextFault;
 use mv_values::memory::NoMemory;
 
 /// Why the program fails.
@@ -9,7 +9,7 @@ pub enum Failure {
     /// The words after the program's name are others than it takes.
     Words,
     /// The text or the script is refused.
-    Refused(Fault),
+    Refused(TextFault),
     NoMemory,
     /// Standard input or the script can't be read.
     Unread,
@@ -36,10 +36,10 @@ impl From<NoMemory> for Failure {
     }
 }
 
-impl From<Fault> for Failure {
-    fn from(fault: Fault) -> Failure {
+impl From<TextFault> for Failure {
+    fn from(fault: TextFault) -> Failure {
         match fault {
-            Fault::NoMemory => Failure::NoMemory,
+            TextFault::NoMemory => Failure::NoMemory,
             _ => Failure::Refused(fault),
         }
     }

@@ -21,8 +21,8 @@ use Rattle.mv_store.specs.declared.written_keys.TableKey.{TableKey}
 use Rattle.mv_store.specs.declared.change.Fate.{Fate}
 use Rattle.mv_store.specs.declared.change.Fate.TheVariants.{Commit, Gone}
 use Rattle.mv_store.specs.declared.change.VersionChange.{VersionChange}
-use Rattle.mv_store.specs.declared.change.VersionChange.TheVariants.{Settle, Collect}
-use Rattle.mv_store.specs.Kept.{versions_in, versions_of, entries_at, versions_at, AllRise, AreFilled, AllFilled, IsChanged, AreChanged, AllChanged, Noted, is_table_key, HasTableKey, table_keys_of, IsCovered, settled, after_change, MayChange, KeepsRows, done_at, AreDone}
+use Rattle.mv_store.specs.declared.change.VersionChange.TheVariants.{Finish, Collect}
+use Rattle.mv_store.specs.Kept.{versions_in, versions_of, entries_at, versions_at, AllRise, AreFilled, AllFilled, IsChanged, AreChanged, AllChanged, Noted, is_table_key, HasTableKey, table_keys_of, IsCovered, finished, after_change, MayChange, KeepsRows, done_at, AreDone}
 
 some_none : {A : Type 0} {a : A} → ◌≡◌ {A = Option A} (Some a) None → ⊥
 some_none e = cc
@@ -175,39 +175,39 @@ without_none call (p ∷ ps) h = elim (cases_Bool (p.call == call)) [
   | inr f ↦ let rest : own_of call ps ≡ None = rw f at h in rw f (ap (λ l. p ∷ l) (without_none call ps rest))
 ]
 
-pub settled_gone : (fate : Fate) (call : ℕ) (v : Versions) → own_of call (settled fate call v).own ≡ None
-settled_gone (Commit n) call v = by (own_of call v.own) refl
+pub finished_gone : (fate : Fate) (call : ℕ) (v : Versions) → own_of call (finished fate call v).own ≡ None
+finished_gone (Commit n) call v = by (own_of call v.own) refl
   where
     by : (o : Option Patch) → own_of call v.own ≡ o → own_of call (stamped_by o call n v).own ≡ None
     by None e = e
     by (Some patch) e = is_dropped call v.own
-settled_gone Gone call v = is_dropped call v.own
+finished_gone Gone call v = is_dropped call v.own
 
-pub settled_stays : (fate : Fate) (call : ℕ) (v : Versions) → own_of call v.own ≡ None → settled fate call v ≡ v
-settled_stays (Commit n) call v h = ap (λ o. stamped_by o call n v) h
-settled_stays Gone call v h = ap (λ ps. record v { own = ps }) (without_none call v.own h)
+pub finished_stays : (fate : Fate) (call : ℕ) (v : Versions) → own_of call v.own ≡ None → finished fate call v ≡ v
+finished_stays (Commit n) call v h = ap (λ o. stamped_by o call n v) h
+finished_stays Gone call v h = ap (λ ps. record v { own = ps }) (without_none call v.own h)
 
-pub settled_twice : (fate : Fate) (call : ℕ) (v : Versions) → settled fate call (settled fate call v) ≡ settled fate call v
-settled_twice fate call v = settled_stays fate call (settled fate call v) (settled_gone fate call v)
+pub finished_twice : (fate : Fate) (call : ℕ) (v : Versions) → finished fate call (finished fate call v) ≡ finished fate call v
+finished_twice fate call v = finished_stays fate call (finished fate call v) (finished_gone fate call v)
 
-pub settled_others : (fate : Fate) (call other : ℕ) (v : Versions) → (call ≡ other → ⊥) → own_of other (settled fate call v).own ≡ own_of other v.own
-settled_others (Commit n) call other v h = by (own_of call v.own)
+pub finished_others : (fate : Fate) (call other : ℕ) (v : Versions) → (call ≡ other → ⊥) → own_of other (finished fate call v).own ≡ own_of other v.own
+finished_others (Commit n) call other v h = by (own_of call v.own)
   where
     by : (o : Option Patch) → own_of other (stamped_by o call n v).own ≡ own_of other v.own
     by None = refl
     by (Some patch) = others_are_kept call other v.own h
-settled_others Gone call other v h = others_are_kept call other v.own h
+finished_others Gone call other v h = others_are_kept call other v.own h
 
 -- Changes
 
 pub changed_blank : (to : VersionChange) → after_change to blank ≡ blank
-changed_blank (Settle call (Commit n)) = refl
-changed_blank (Settle call Gone) = refl
+changed_blank (Finish call (Commit n)) = refl
+changed_blank (Finish call Gone) = refl
 changed_blank (Collect low) = refl
 
 may_again : (to : VersionChange) (v : Versions) → MayChange to (after_change to v)
-may_again (Settle call (Commit n)) v = subst (λ o. OnSome o (IsAboveAll n (stamped call n v))) (sym (settled_gone (Commit n) call v)) tt
-may_again (Settle call Gone) v = tt
+may_again (Finish call (Commit n)) v = subst (λ o. OnSome o (IsAboveAll n (stamped call n v))) (sym (finished_gone (Commit n) call v)) tt
+may_again (Finish call Gone) v = tt
 may_again (Collect low) v = tt
 
 pub may_done : (to : VersionChange) (ss : List TableKey) (t : ℕ) (key : List Value) (v : Versions) → MayChange to v → MayChange to (done_at (after_change to) ss t key v)
@@ -219,11 +219,11 @@ may_done to (s ∷ ss) t key v h = may_done to ss t key (cond (is_table_key t ke
     by false = h
 
 pub rows_same : (to : VersionChange) (v w : Versions) → w ≡ v → KeepsRows to v w
-rows_same (Settle call fate) v w e = tt
+rows_same (Finish call fate) v w e = tt
 rows_same (Collect low) v w e = λ n le. ap (λ x. row_at x n) e
 
 pub rows_then : (to : VersionChange) (u v w : Versions) → KeepsRows to u v → KeepsRows to v w → KeepsRows to u w
-rows_then (Settle call fate) u v w h g = tt
+rows_then (Finish call fate) u v w h g = tt
 rows_then (Collect low) u v w h g = λ n le. g n le ∙ h n le
 
 -- rows are kept under each key where they are under the one that was changed
@@ -255,18 +255,18 @@ done_one f ss i s old now new lt is done change = record {
   filled = λ r. change.filled (done.filled r);
 }
 
--- all that a call has written is settled, where it was noted
-pub all_settled : (fate : Fate) (call : ℕ) (table_keys : Noted) (ss : List TableKey) (old new : List Entries) → IsCovered old table_keys → ss ≡ table_keys_of table_keys call → AreDone (settled fate call) ss old new → AllChanged (settled fate call) old new
-all_settled fate call table_keys ss old new covered is done = record {
+-- all that a call has written is finished, where it was noted
+pub all_finished : (fate : Fate) (call : ℕ) (table_keys : Noted) (ss : List TableKey) (old new : List Entries) → IsCovered old table_keys → ss ≡ table_keys_of table_keys call → AreDone (finished fate call) ss old new → AllChanged (finished fate call) old new
+all_finished fate call table_keys ss old new covered is done = record {
   size = done.size;
   at = λ u key. done.at u key ∙ by u key (own_of call (versions_at old u key).own) refl;
   rising = done.rising;
   filled = done.filled;
 }
   where
-    by : (u : ℕ) (key : List Value) (o : Option Patch) → own_of call (versions_at old u key).own ≡ o → done_at (settled fate call) ss u key (versions_at old u key) ≡ settled fate call (versions_at old u key)
+    by : (u : ℕ) (key : List Value) (o : Option Patch) → own_of call (versions_at old u key).own ≡ o → done_at (finished fate call) ss u key (versions_at old u key) ≡ finished fate call (versions_at old u key)
     by u key None e =
-        let stays = settled_stays fate call (versions_at old u key) e in
-        done_fixed (settled fate call) ss u key (versions_at old u key) stays ∙ sym stays
+        let stays = finished_stays fate call (versions_at old u key) e in
+        done_fixed (finished fate call) ss u key (versions_at old u key) stays ∙ sym stays
     by u key (Some patch) e =
-        done_hit (settled fate call) ss u key (versions_at old u key) (settled_twice fate call (versions_at old u key)) (subst (HasTableKey u key) (sym is) (covered call u key (ap is_some e)))
+        done_hit (finished fate call) ss u key (versions_at old u key) (finished_twice fate call (versions_at old u key)) (subst (HasTableKey u key) (sym is) (covered call u key (ap is_some e)))

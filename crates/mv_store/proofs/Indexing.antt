@@ -23,7 +23,7 @@ use Rattle.mv_index.proofs.Values.{same_value}
 use Rattle.mv_store.specs.Stored.{Entries}
 use Rattle.mv_store.specs.declared.change.Fate.{Fate}
 use Rattle.mv_store.specs.declared.change.Fate.TheVariants.{Commit, Gone}
-use Rattle.mv_store.specs.Kept.{versions_of, entries_at, settled, IsChanged}
+use Rattle.mv_store.specs.Kept.{versions_of, entries_at, finished, IsChanged}
 use Rattle.mv_store.specs.Indexed.{IsTableIndex, IsIndexOf, IsOfColumns, IsOfTable, Forgets, Follows}
 
 -- Bools
@@ -219,16 +219,16 @@ follows_by t key has was is i j f from or = record {
   lens = f.lens;
 }
 
-settled_from : (fate : Fate) (call c : ℕ) (v : Value) (w : Versions) → has_value c v (settled fate call w) ≡ true → has_value c v w ≡ true
-settled_from (Commit n) call c v w h = stamped_from c v call n w h
-settled_from Gone call c v w h = dropped_from c v call w h
+finished_from : (fate : Fate) (call c : ℕ) (v : Value) (w : Versions) → has_value c v (finished fate call w) ≡ true → has_value c v w ≡ true
+finished_from (Commit n) call c v w h = stamped_from c v call n w h
+finished_from Gone call c v w h = dropped_from c v call w h
 
-settled_or : (fate : Fate) (call c : ℕ) (v : Value) (w : Versions) → has_value c v w ≡ true → (has_value c v (settled fate call w) || call_has c v call w.own) ≡ true
-settled_or (Commit n) call c v w h = stamped_or c v call n w h
-settled_or Gone call c v w h = dropped_or c v call w h
+finished_or : (fate : Fate) (call c : ℕ) (v : Value) (w : Versions) → has_value c v w ≡ true → (has_value c v (finished fate call w) || call_has c v call w.own) ≡ true
+finished_or (Commit n) call c v w h = stamped_or c v call n w h
+finished_or Gone call c v w h = dropped_or c v call w h
 
-pub call_follows : (t : ℕ) (key : List Value) (call : ℕ) (fate : Fate) (w : Versions) (i j : Contents) → Forgets t key (λ c v. call_has c v call w.own) (settled fate call w) i j → Follows t key w (settled fate call w) i j
-call_follows t key call fate w i j f = follows_by t key (λ c v. call_has c v call w.own) w (settled fate call w) i j f (λ c v. settled_from fate call c v w) (λ c v. settled_or fate call c v w)
+pub call_follows : (t : ℕ) (key : List Value) (call : ℕ) (fate : Fate) (w : Versions) (i j : Contents) → Forgets t key (λ c v. call_has c v call w.own) (finished fate call w) i j → Follows t key w (finished fate call w) i j
+call_follows t key call fate w i j f = follows_by t key (λ c v. call_has c v call w.own) w (finished fate call w) i j f (λ c v. finished_from fate call c v w) (λ c v. finished_or fate call c v w)
 
 -- A key of a table
 

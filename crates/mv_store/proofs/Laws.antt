@@ -25,12 +25,12 @@ use Rattle.mv_store.specs.declared.written_keys.TableKey.{TableKey}
 use Rattle.mv_store.specs.declared.written_keys.Written.{Written}
 use Rattle.mv_store.specs.declared.change.Fate.{Fate}
 use Rattle.mv_store.specs.declared.change.Fate.TheVariants.{Commit as Commits, Gone}
-use Rattle.mv_store.specs.Kept.{versions_of, versions_at, entries_at, AllRise, AreFilled, AllFilled, IsChanged, AreChanged, AllChanged, Noted, IsCovered, IsListed, AreUpTo, AreKeptVersions, HasEntry, noted_for, written_at, Climb, settled, MaySettle, AreCollected, HasTableKey, KeepsTableKeys, table_keys_of, table_keys_in}
+use Rattle.mv_store.specs.Kept.{versions_of, versions_at, entries_at, AllRise, AreFilled, AllFilled, IsChanged, AreChanged, AllChanged, Noted, IsCovered, IsListed, AreUpTo, AreKeptVersions, HasEntry, noted_for, written_at, Climb, finished, MayFinish, AreCollected, HasTableKey, KeepsTableKeys, table_keys_of, table_keys_in}
 use Rattle.mv_store.proofs.Keys.{database_same, databases_same, row_in, rows_rise, size_is}
 use Rattle.mv_store.proofs.Own.{row_done, own_same, own_none}
 use Rattle.mv_store.proofs.Filled.{tables_collected}
 use Rattle.mv_store.proofs.Noted.{entry_left, entry_last, climb_push}
-use Rattle.mv_store.proofs.Done.{settled_gone, settled_others, tables_changed}
+use Rattle.mv_store.proofs.Done.{finished_gone, finished_others, tables_changed}
 
 left_true : (a b : Bool) → a && b ≡ true → a ≡ true
 left_true true b e = refl
@@ -193,45 +193,45 @@ put_then_dropped call xs old mid bad new h b g = record {
   own = g.own;
 }
 
--- A call's patches are settled
+-- A call's patches are finished
 
-module _ (fate : Fate) (call : ℕ) (old new : List Entries) (rise : AllRise old) (change : AllChanged (settled fate call) old new) where
-  settled_own : own_in call new ≡ []
-  settled_own = own_none call new (change.rising rise) (λ u k. ap (λ v. own_of call v.own) (change.at u k) ∙ settled_gone fate call (versions_at old u k))
+module _ (fate : Fate) (call : ℕ) (old new : List Entries) (rise : AllRise old) (change : AllChanged (finished fate call) old new) where
+  finished_own : own_in call new ≡ []
+  finished_own = own_none call new (change.rising rise) (λ u k. ap (λ v. own_of call v.own) (change.at u k) ∙ finished_gone fate call (versions_at old u k))
 
-  settled_rest : (other : ℕ) → (call ≡ other → ⊥) → own_in other new ≡ own_in other old
-  settled_rest other ne = own_same other new old change.size (change.rising rise) rise (λ u k. ap (λ v. own_of other v.own) (change.at u k) ∙ settled_others fate call other (versions_at old u k) ne)
+  finished_rest : (other : ℕ) → (call ≡ other → ⊥) → own_in other new ≡ own_in other old
+  finished_rest other ne = own_same other new old change.size (change.rising rise) rise (λ u k. ap (λ v. own_of other v.own) (change.at u k) ∙ finished_others fate call other (versions_at old u k) ne)
 
-  settled_covered : (table_keys now : Noted) → IsCovered old table_keys → ((other : ℕ) → table_keys_of now other ≡ cond (call == other) [] (table_keys_of table_keys other)) → IsCovered new now
-  settled_covered table_keys now covered are c u k some =
-      let here : is_some (own_of c (settled fate call (versions_at old u k)).own) ≡ true = subst (λ v. is_some (own_of c v.own) ≡ true) (change.at u k) some in
+  finished_covered : (table_keys now : Noted) → IsCovered old table_keys → ((other : ℕ) → table_keys_of now other ≡ cond (call == other) [] (table_keys_of table_keys other)) → IsCovered new now
+  finished_covered table_keys now covered are c u k some =
+      let here : is_some (own_of c (finished fate call (versions_at old u k)).own) ≡ true = subst (λ v. is_some (own_of c v.own) ≡ true) (change.at u k) some in
       elim (cases_Bool (call == c)) [
         | inl same ↦
-            let gone : own_of c (settled fate call (versions_at old u k)).own ≡ None = subst (λ x. own_of x (settled fate call (versions_at old u k)).own ≡ None) (eqb-true call c same) (settled_gone fate call (versions_at old u k)) in
+            let gone : own_of c (finished fate call (versions_at old u k)).own ≡ None = subst (λ x. own_of x (finished fate call (versions_at old u k)).own ≡ None) (eqb-true call c same) (finished_gone fate call (versions_at old u k)) in
             absurd (false≢true (sym (ap is_some gone) ∙ here))
         | inr ne ↦
-            let stays = settled_others fate call c (versions_at old u k) (λ same. eqb-false call c ne same) in
+            let stays = finished_others fate call c (versions_at old u k) (λ same. eqb-false call c ne same) in
             let noted : HasTableKey u k (table_keys_of table_keys c) = covered c u k (ap is_some (sym stays) ∙ here) in
             subst (HasTableKey u k) (sym (are c ∙ ap (λ b. cond b [] (table_keys_of table_keys c)) ne)) noted
       ]
 
-pub all_dropped : (call : ℕ) (old new : Versioned) → AllRise old.tables → AllChanged (settled Gone call) old.tables new.tables → new.last ≡ old.last → new.low ≡ old.low → HasDropped call old new
+pub all_dropped : (call : ℕ) (old new : Versioned) → AllRise old.tables → AllChanged (finished Gone call) old.tables new.tables → new.last ≡ old.last → new.low ≡ old.low → HasDropped call old new
 all_dropped call old new rise change last low = record {
   reads = record {
     database = λ n. database_same n n new.tables old.tables change.size (change.rising rise) rise (λ u k. ap (λ v. row_at v n) (change.at u k));
     last = last;
     low = low;
   };
-  others = settled_rest Gone call old.tables new.tables rise change;
-  own = settled_own Gone call old.tables new.tables rise change;
+  others = finished_rest Gone call old.tables new.tables rise change;
+  own = finished_own Gone call old.tables new.tables rise change;
 }
 
-pub dropped_kept : (call last : ℕ) (old new : List Entries) (table_keys now : Noted) → AreKeptVersions old table_keys last → AllChanged (settled Gone call) old new → ((other : ℕ) → table_keys_of now other ≡ cond (call == other) [] (table_keys_of table_keys other)) → now.commits ≡ table_keys.commits → AreKeptVersions new now last
+pub dropped_kept : (call last : ℕ) (old new : List Entries) (table_keys now : Noted) → AreKeptVersions old table_keys last → AllChanged (finished Gone call) old new → ((other : ℕ) → table_keys_of now other ≡ cond (call == other) [] (table_keys_of table_keys other)) → now.commits ≡ table_keys.commits → AreKeptVersions new now last
 dropped_kept call last old new table_keys now kept change are same = record {
   rising = change.rising kept.rising;
   filled = change.filled kept.filled;
   numbers = λ u k. subst (IsAboveAll (last + 1)) (sym (change.at u k)) (kept.numbers u k);
-  covered = settled_covered Gone call old new kept.rising change table_keys now kept.covered are;
+  covered = finished_covered Gone call old new kept.rising change table_keys now kept.covered are;
   listed = listed_still old new table_keys.commits now.commits (λ u k. ap (λ v. v.commits) (change.at u k)) same kept.listed;
   climb = subst (λ ws. Climb 0 ws last) (sym same) kept.climb;
 }
@@ -257,7 +257,7 @@ stamped_numbers call n last v next lt = by (own_of call v.own)
     by None = old
     by (Some patch) = All-push (λ c. c.number < n + 1) v.commits (record { number = n; row = patched patch (newest_row v) }) old (omega arith)
 
-pub all_stamped : (call n : ℕ) (old new : Versioned) → AllRise old.tables → AreUpTo old.last old.tables → old.last < n → AllChanged (settled (Commits n) call) old.tables new.tables → new.last ≡ n → new.low ≡ old.low → HasStamped call n old new
+pub all_stamped : (call n : ℕ) (old new : Versioned) → AllRise old.tables → AreUpTo old.last old.tables → old.last < n → AllChanged (finished (Commits n) call) old.tables new.tables → new.last ≡ n → new.low ≡ old.low → HasStamped call n old new
 all_stamped call n old new rise numbers lt change last low = record {
   before = λ m less. database_same m m new.tables old.tables change.size (change.rising rise) rise (λ u k. ap (λ v. row_at v m) (change.at u k) ∙ read_before call n m (versions_at old.tables u k) less);
   after = λ m le.
@@ -271,8 +271,8 @@ all_stamped call n old new rise numbers lt change last low = record {
       ∙ (stamped_row call n m old.last (versions_at old.tables u k) (numbers u k) lt le
       ∙ (ap (patched_by_own (own_of call (versions_at old.tables u k).own)) (sym (row_in old.last old.tables u k rise))
       ∙ sym (row_done old.tables call (newest old) u k inner (rows_rise old.last old.tables rise) rise)))));
-  others = settled_rest (Commits n) call old.tables new.tables rise change;
-  own = settled_own (Commits n) call old.tables new.tables rise change;
+  others = finished_rest (Commits n) call old.tables new.tables rise change;
+  own = finished_own (Commits n) call old.tables new.tables rise change;
   last = last;
   low = low;
 }
@@ -289,12 +289,12 @@ stamped_listed call n t key v ws o covered h = by (own_of call v.own) refl
     by None e = old
     by (Some patch) e = All-push (λ c. HasEntry c.number t key (ws ++ written_at n o)) v.commits (record { number = n; row = patched patch (newest_row v) }) old (entry_last n t key ws o (covered (ap is_some e)))
 
-pub stamped_kept : (call n last : ℕ) (old new : List Entries) (table_keys now : Noted) → AreKeptVersions old table_keys last → last < n → AllChanged (settled (Commits n) call) old new → ((other : ℕ) → table_keys_of now other ≡ cond (call == other) [] (table_keys_of table_keys other)) → now.commits ≡ table_keys.commits ++ written_at n (noted_for table_keys call) → AreKeptVersions new now n
+pub stamped_kept : (call n last : ℕ) (old new : List Entries) (table_keys now : Noted) → AreKeptVersions old table_keys last → last < n → AllChanged (finished (Commits n) call) old new → ((other : ℕ) → table_keys_of now other ≡ cond (call == other) [] (table_keys_of table_keys other)) → now.commits ≡ table_keys.commits ++ written_at n (noted_for table_keys call) → AreKeptVersions new now n
 stamped_kept call n last old new table_keys now kept lt change are more = record {
   rising = change.rising kept.rising;
   filled = change.filled kept.filled;
   numbers = λ u k. subst (IsAboveAll (n + 1)) (sym (change.at u k)) (stamped_numbers call n last (versions_at old u k) (kept.numbers u k) lt);
-  covered = settled_covered (Commits n) call old new kept.rising change table_keys now kept.covered are;
+  covered = finished_covered (Commits n) call old new kept.rising change table_keys now kept.covered are;
   listed = λ u k.
       subst (λ ws. All (λ c. HasEntry c.number u k ws) (versions_at new u k).commits) (sym more)
       (subst (λ v. All (λ c. HasEntry c.number u k (table_keys.commits ++ written_at n (noted_for table_keys call))) v.commits) (sym (change.at u k))
@@ -356,7 +356,7 @@ put_any (Err e) t call last key patch old new was es table_keys now kept lt is o
 pub like_is : (s : Versioned) (n : ℕ) → AllRise s.tables → IsLike s (database_at s n)
 like_is s n rise = record { size = size_is n s.tables; rising = rows_rise n s.tables rise }
 
-pub may_commit : (call n last : ℕ) (tables : List Entries) → AreUpTo last tables → last < n → (t : ℕ) (key : List Value) → MaySettle (Commits n) call (versions_at tables t key)
+pub may_commit : (call n last : ℕ) (tables : List Entries) → AreUpTo last tables → last < n → (t : ℕ) (key : List Value) → MayFinish (Commits n) call (versions_at tables t key)
 may_commit call n last tables numbers lt t key = by (own_of call (versions_at tables t key).own)
   where
     by : (o : Option Patch) → OnSome o (IsAboveAll n (versions_at tables t key))

@@ -15,7 +15,7 @@ use Rattle.mv_store.specs.declared.written_keys.Written.{Written}
 use Rattle.mv_store.specs.declared.change.Fate.{Fate}
 use Rattle.mv_store.specs.declared.change.Fate.TheVariants.{Commit, Gone}
 use Rattle.mv_store.specs.declared.change.VersionChange.{VersionChange}
-use Rattle.mv_store.specs.declared.change.VersionChange.TheVariants.{Settle, Collect}
+use Rattle.mv_store.specs.declared.change.VersionChange.TheVariants.{Finish, Collect}
 
 -- Versions under a key
 
@@ -145,27 +145,27 @@ pub record AreKeptVersions (tables : List Entries) (table_keys : Noted) (last : 
 -- Changes
 
 -- the call's patch becomes a commit, or is dropped
-abbrev pub settled : Fate → ℕ → Versions → Versions
-settled (Commit n) call v = stamped call n v
-settled Gone call v = record v { own = without call v.own }
+abbrev pub finished : Fate → ℕ → Versions → Versions
+finished (Commit n) call v = stamped call n v
+finished Gone call v = record v { own = without call v.own }
 
 -- the number of a commit is above those of all others, if there is a patch to commit
-abbrev pub MaySettle : Fate → ℕ → Versions → Type 0
-MaySettle (Commit n) call v = OnSome (own_of call v.own) (IsAboveAll n v)
-MaySettle Gone call v = ⊤
+abbrev pub MayFinish : Fate → ℕ → Versions → Type 0
+MayFinish (Commit n) call v = OnSome (own_of call v.own) (IsAboveAll n v)
+MayFinish Gone call v = ⊤
 
 -- a change of versions
 abbrev pub after_change : VersionChange → Versions → Versions
-after_change (Settle call fate) v = settled fate call v
+after_change (Finish call fate) v = finished fate call v
 after_change (Collect low) v = collected low v
 
 abbrev pub MayChange : VersionChange → Versions → Type 0
-MayChange (Settle call fate) v = MaySettle fate call v
+MayChange (Finish call fate) v = MayFinish fate call v
 MayChange (Collect low) v = ⊤
 
 -- each row from the number of a collection on is unchanged
 abbrev pub KeepsRows : VersionChange → Versions → Versions → Type 0
-KeepsRows (Settle call fate) old new = ⊤
+KeepsRows (Finish call fate) old new = ⊤
 KeepsRows (Collect low) old new = (n : ℕ) → low ≤ n → row_at new n ≡ row_at old n
 
 -- f at each of these keys, one after another

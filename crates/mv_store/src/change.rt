@@ -6,7 +6,7 @@ ghost use Rattle.mv_values.specs.declared.value.Value.{Value};
 ghost use Rattle.mv_chain.specs.Versions.{is_blank};
 ghost use Rattle.mv_index.specs.Indexing.{Contents};
 ghost use Rattle.mv_store.specs.Indexed.{IsTableIndex, IsIndexOf, IsOfTable};
-ghost use Rattle.mv_store.specs.Kept.{versions_of, versions_at, table_keys_in, settled, MaySettle, after_change, MayChange, KeepsRows, AreFilled, AreFilledBut, IsChanged, AreChanged, AreDone};
+ghost use Rattle.mv_store.specs.Kept.{versions_of, versions_at, table_keys_in, finished, MayFinish, after_change, MayChange, KeepsRows, AreFilled, AreFilledBut, IsChanged, AreChanged, AreDone};
 
 use crate::entries::ValueIndex;
 use crate::written_keys::TableKey;
@@ -25,16 +25,16 @@ pub(crate) enum Fate {
 /// A change of the versions under a key.
 #[derive(Clone, Copy)]
 pub(crate) enum VersionChange {
-    /// Settles the patch of a call.
-    Settle(u32, Fate),
+    /// Finishes the patch of a call.
+    Finish(u32, Fate),
     /// Drops the rows before a commit.
     Collect(u32),
 }
 
-/// Settles the patch of a call. It allocates no memory.
-fn settle(chain: &mut Chain, call: u32, fate: Fate)
-    requires { MaySettle fate call chain.old }
-    ensures { chain.new ≡ settled fate call chain.old }
+/// Finishes the patch of a call. It allocates no memory.
+fn finish(chain: &mut Chain, call: u32, fate: Fate)
+    requires { MayFinish fate call chain.old }
+    ensures { chain.new ≡ finished fate call chain.old }
 {
     match fate {
         Fate::Commit(n) => chain.stamp(call, n),
@@ -49,7 +49,7 @@ fn make(chain: &mut Chain, change: VersionChange)
     ensures rows { KeepsRows change chain.old chain.new }
 {
     match change {
-        VersionChange::Settle(call, fate) => settle(chain, call, fate),
+        VersionChange::Finish(call, fate) => finish(chain, call, fate),
         VersionChange::Collect(low) => chain.collect(low),
     }
 }
@@ -148,16 +148,16 @@ pub(crate) fn change_all(
     }
 }
 
-/// Settles the patches of a call at the keys that are noted for it.
-pub(crate) fn settle_noted(
+/// Finishes the patches of a call at the keys that are noted for it.
+pub(crate) fn finish_noted(
     tables: &mut Vec<KeyMap<Chain>>,
     index: &mut ValueIndex,
     noted: Option<&List<TableKey>>,
     call: u32,
     fate: Fate,
 )
-    requires { (t : ℕ) (key : Seq Value) → MaySettle fate call (versions_at tables.old.items t key) }
-    ensures versions { AreDone (settled fate call) (table_keys_in (option_copied noted.entry)) tables.old.items tables.new.items }
+    requires { (t : ℕ) (key : Seq Value) → MayFinish fate call (versions_at tables.old.items t key) }
+    ensures versions { AreDone (finished fate call) (table_keys_in (option_copied noted.entry)) tables.old.items tables.new.items }
     ensures index { IsIndexOf tables.old.items index.old → IsIndexOf tables.new.items index.new }
 {
     if let Some(table_keys) = noted {
@@ -165,7 +165,7 @@ pub(crate) fn settle_noted(
             tables,
             index,
             table_keys.as_slice(),
-            VersionChange::Settle(call, fate),
+            VersionChange::Finish(call, fate),
         );
     }
 }

@@ -7,7 +7,7 @@ ghost use Rattle.mv_values.specs.Testing.{are_tested};
 ghost use Rattle.mv_chain.specs.Versions.{Versions, collected};
 ghost use Rattle.mv_chain.specs.Having.{is_value, row_has, item_has, patch_has, call_has, undos_have, has_value};
 ghost use Rattle.mv_store.specs.Opened.{opened};
-ghost use Rattle.mv_store.specs.Kept.{versions_in, settled, after_change, AllRise};
+ghost use Rattle.mv_store.specs.Kept.{versions_in, finished, after_change, AllRise};
 ghost use Rattle.mv_store.specs.Indexed.{IsIndexOf, Forgets, MayNote, HasNoted, Follows};
 
 use crate::change::{Fate, VersionChange};
@@ -60,9 +60,9 @@ struct Ahead<'a> {
     change: VersionChange,
 }
 
-/// Whether versions have a value in a column once the patch of a call is settled.
-fn has_settled(chain: &Chain, call: u32, fate: Fate, column: u8, value: &Value) -> bool
-    ensures { result ≡ has_value column value.now (settled fate call chain.now) }
+/// Whether versions have a value in a column once the patch of a call is finished.
+fn has_finished(chain: &Chain, call: u32, fate: Fate, column: u8, value: &Value) -> bool
+    ensures { result ≡ has_value column value.now (finished fate call chain.now) }
 {
     match fate {
         Fate::Commit(_) => chain.has_stamped(call, column, value),
@@ -75,8 +75,8 @@ impl<'a> Valued for Ahead<'a> {
 
     fn has_value(&self, column: u8, value: &Value) -> bool {
         match self.change {
-            VersionChange::Settle(call, fate) => {
-                has_settled(self.chain, call, fate, column, value)
+            VersionChange::Finish(call, fate) => {
+                has_finished(self.chain, call, fate, column, value)
             }
             VersionChange::Collect(low) => self.chain.has_from(low, column, value),
         }
@@ -320,11 +320,11 @@ impl ValueIndex {
         }
     }
 
-    /// Takes a key out from under the values that its versions lose once the patch of a call is settled.
-    fn forget_settled(&mut self, table: u8, key: &Key, chain: &Chain, call: u32, fate: Fate)
-        ensures { Follows table key.now chain.now (settled fate call chain.now) self.old self.new }
+    /// Takes a key out from under the values that its versions lose once the patch of a call is finished.
+    fn forget_finished(&mut self, table: u8, key: &Key, chain: &Chain, call: u32, fate: Fate)
+        ensures { Follows table key.now chain.now (finished fate call chain.now) self.old self.new }
     {
-        let change = VersionChange::Settle(call, fate);
+        let change = VersionChange::Finish(call, fate);
         let kept = Ahead { chain, change };
         self.forget_call(table, key, chain.own(), call, &kept);
     }
@@ -344,8 +344,8 @@ impl ValueIndex {
         ensures { Follows table key.now chain.now (after_change change chain.now) self.old self.new }
     {
         match change {
-            VersionChange::Settle(call, fate) => {
-                self.forget_settled(table, key, chain, call, fate);
+            VersionChange::Finish(call, fate) => {
+                self.forget_finished(table, key, chain, call, fate);
             }
             VersionChange::Collect(low) => self.forget_collected(table, key, chain, low),
         }

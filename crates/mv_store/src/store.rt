@@ -11,7 +11,7 @@ ghost use Rattle.mv_view.specs.declared.view.Refused.TheVariants.{Stale, NoMemor
 ghost use Rattle.mv_store.specs.Stored.{database_at, old_versions, own_writes, IsLike};
 ghost use Rattle.mv_store.specs.Changes.{IsAsBefore, HasPut, HasDropped, HasStamped, HasRaised};
 
-use crate::change::{Fate, settle_noted};
+use crate::change::{Fate, finish_noted};
 use crate::close::close_all;
 use crate::collect::collect_all;
 use crate::count::count_all;
@@ -302,7 +302,7 @@ impl Store {
     {
         let noted = self.table_keys.of_call(call);
         let fate = Fate::Commit(n);
-        settle_noted(&mut self.tables, &mut self.index, noted, call, fate);
+        finish_noted(&mut self.tables, &mut self.index, noted, call, fate);
         self.table_keys.commit(call, n);
         self.last = n;
     }
@@ -312,7 +312,7 @@ impl Store {
         ensures { HasDropped call self.old self.new }
     {
         let noted = self.table_keys.of_call(call);
-        settle_noted(&mut self.tables, &mut self.index, noted, call, Fate::Gone);
+        finish_noted(&mut self.tables, &mut self.index, noted, call, Fate::Gone);
         self.table_keys.forget(call);
     }
 

@@ -7,7 +7,7 @@ use mv_cases::ensure::ensure;
 use mv_core::drive::{DriveFault, drive};
 use mv_core::engine::{Attempt, Core};
 use mv_journal::event::Event;
-use mv_top::script::{Prepared, prepare};
+use mv_top::script::{CompiledProgram, compile_program};
 use mv_values::calls::Options;
 use mv_values::list::List;
 use mv_values::memory::NoMemory;
@@ -82,7 +82,7 @@ fn core_after(alloc: Global, script: &str, events: &[Event]) -> Result<Option<Co
         rounds: 3,
         horizon: None,
     };
-    let Prepared { script, .. } = prepare(alloc, program, options)?;
+    let CompiledProgram { script, .. } = compile_program(alloc, program, options)?;
     let mut core = Core::new(alloc, script)?;
     if events.len() > 100 {
         return Ok(None);

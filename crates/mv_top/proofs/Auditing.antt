@@ -5,14 +5,14 @@ use Rattle.std.specs.Option.{option_map_or}
 use Rattle.mv_values.specs.declared.calls.Options.{Options}
 use Rattle.mv_values.specs.Texts.{line}
 use Rattle.mv_catalog.specs.declared.resolved.Program.{Program}
-use Rattle.mv_accept.specs.declared.refusal.Refusal.TheVariants.{TooLong}
+use Rattle.mv_accept.specs.declared.refusal.ScriptRefusal.TheVariants.{TooLong}
 use Rattle.mv_accept.specs.Accepting.{most_bytes, most_calls, Accepts}
 use Rattle.mv_journal.specs.declared.event.Event.{Event}
 use Rattle.mv_lawful.specs.Lawful.{Lawful}
 use Rattle.mv_audit.specs.declared.verdict.Verdict.TheVariants.{Yes}
 use Rattle.mv_audit.specs.Verdicts.{audit_verdict}
 use Rattle.mv_audit.proofs.Judging.{yes_is_lawful, lawful_is_yes}
-use Rattle.mv_report.specs.History.{work_of, text}
+use Rattle.mv_report.specs.History.{batch_of, text}
 use Rattle.mv_words.specs.declared.command.Command.TheVariants.{Audit}
 use Rattle.mv_top.specs.declared.refusal.Refusal.TheVariants.{Script}
 use Rattle.mv_top.specs.declared.status.Status.{Status}
@@ -42,7 +42,7 @@ wrote_audit words left old new status wrote = λ rounds. wrote_for (IsAudit roun
 
 -- Lawful reports
 
-text_gets_yes : (p : Program) (options : Options) (journal : List Event) (report : List ℕ) → length p.resolved.calls ≤ most_calls → Lawful (work_of p options) journal → report ≡ text p options journal
+text_gets_yes : (p : Program) (options : Options) (journal : List Event) (report : List ℕ) → length p.resolved.calls ≤ most_calls → Lawful (batch_of p options) journal → report ≡ text p options journal
     → audit_verdict p options.rounds report ≡ Yes
 text_gets_yes p options journal report few lawful is = ap (audit_verdict p options.rounds) is ∙ lawful_is_yes p options journal lawful (is_plain p options journal few lawful)
 

@@ -11,18 +11,18 @@ use Rattle.mv_catalog.specs.declared.resolved.ProcInfo.{ProcInfo}
 use Rattle.mv_catalog.specs.declared.resolved.Program.{Program}
 use Rattle.mv_catalog.specs.Text.{FitsText, IsProcedure}
 use Rattle.mv_accept.proofs.Fitting.{accepted_fits}
-use Rattle.mv_alone.specs.TableAfter.{outcome, outcome_in, outcome_at, tables_left, table_after, reply_in}
+use Rattle.mv_eval.specs.TableAfter.{result_of, result_in, result_at, tables_left, table_after, reply_in}
 use Rattle.mv_recorded.proofs.Quiet.{readers_change_nothing}
 use Rattle.mv_recorded.proofs.RowsTyped.{all_get}
 use Rattle.mv_journal.specs.declared.event.Event.{Event}
 use Rattle.mv_journal.specs.declared.outcome.Outcome.{Outcome}
-use Rattle.mv_lawful.specs.Work.{Work, tables_after, table_at, ReadersKeepTables}
+use Rattle.mv_lawful.specs.Batch.{Batch, tables_after, table_at, ReadersKeepTables}
 use Rattle.mv_lawful.specs.Lawful.{Lawful}
 use Rattle.mv_lawful.specs.Outcomes.{outcome_of, shown}
 use Rattle.mv_lawful.specs.Serializable.{order_of, IsSerializable}
 use Rattle.mv_lawful.proofs.Serializing.{lawful_is_serializable}
 use Rattle.mv_lawful.proofs.Showing.{shown_is_all_shown, shown_is_lawful}
-use Rattle.mv_report.specs.History.{work_of, text, reads_in, reads_by}
+use Rattle.mv_report.specs.History.{batch_of, text, reads_in, reads_by}
 use Rattle.mv_words.specs.declared.command.Command.{Command}
 use Rattle.mv_words.specs.declared.command.Command.TheVariants.{Run, Replay}
 use Rattle.mv_top.specs.declared.status.Status.{Status}
@@ -36,37 +36,37 @@ use Rattle.mv_top.specs.Headline.{IsSerializableText, IsSerializableFor, IsSeria
 -- Tables
 
 -- the tables after one call more
-table_next : (w : Work) (db : Tables) (order : List ℕ) (k c : ℕ) → slice_get order k ≡ Some c → tables_after w db (take (suc k) order) ≡ (w.run c (tables_after w db (take k order))).tables
+table_next : (w : Batch) (db : Tables) (order : List ℕ) (k c : ℕ) → slice_get order k ≡ Some c → tables_after w db (take (suc k) order) ≡ (w.run c (tables_after w db (take k order))).tables
 table_next w db [] k c is = cc
 table_next w db (d ∷ order) zero c is = ap (λ x. (w.run x db).tables) (same_Some d c is)
 table_next w db (d ∷ order) (suc k) c is = table_next w (w.run d db).tables order k c is
 
--- the machine leaves the tables of a program's work
-table_same : (p : Program) (options : Options) (order : List ℕ) (k : ℕ) → k ≤ length order → table_at (work_of p options) order k ≡ table_after p order k
+-- the machine leaves the tables of a program's batch
+table_same : (p : Program) (options : Options) (order : List ℕ) (k : ℕ) → k ≤ length order → table_at (batch_of p options) order k ≡ table_after p order k
 table_same p options order zero le = refl
 table_same p options order (suc k) le =
-    let w : Work = work_of p options in
+    let w : Batch = batch_of p options in
     let c : ℕ = slice_index order k in
     let at : slice_get order k ≡ Some c = slice_get-get_or order k 0 (omega (arith, le)) in
-    table_next w w.opening order k c at ∙ ap (λ (db : Tables). tables_left db (outcome p c db)) (table_same p options order k (omega (arith, le)))
+    table_next w w.opening order k c at ∙ ap (λ (db : Tables). tables_left db (result_of p c db)) (table_same p options order k (omega (arith, le)))
 
 -- Read only calls
 
 -- the read only calls of a program leave each database as it is
-readers_keep : (p : Program) (options : Options) → FitsText p.resolved → ReadersKeepTables (work_of p options)
+readers_keep : (p : Program) (options : Options) → FitsText p.resolved → ReadersKeepTables (batch_of p options)
 readers_keep p options fits c db reads = by (slice_get p.resolved.calls c) reads
   where
-    ran : (call : Call) (o : Option ProcInfo) → slice_get p.resolved.procedures call.procedure ≡ o → reads_by o ≡ true → tables_left db (outcome_in p o call db) ≡ db
+    ran : (call : Call) (o : Option ProcInfo) → slice_get p.resolved.procedures call.procedure ≡ o → reads_by o ≡ true → tables_left db (result_in p o call db) ≡ db
     ran call None at is = refl
     ran call (Some proc) at is = readers_change_nothing p.resolved.tables proc call db (all_get (IsProcedure p.resolved.tables) p.resolved.procedures call.procedure proc fits.procedures at) is
 
-    by : (o : Option Call) → reads_in p.resolved.procedures o ≡ true → tables_left db (outcome_at p o db) ≡ db
+    by : (o : Option Call) → reads_in p.resolved.procedures o ≡ true → tables_left db (result_at p o db) ≡ db
     by None is = refl
     by (Some call) is = ran call (slice_get p.resolved.procedures call.procedure) refl is
 
 -- Texts
 
-text_by : (p : Program) (options : Options) (es : List Event) (bytes : List ℕ) → shown es ≡ es → IsSerializable (work_of p options) (outcome_of (work_of p options) es) → bytes ≡ text p options es
+text_by : (p : Program) (options : Options) (es : List Event) (bytes : List ℕ) → shown es ≡ es → IsSerializable (batch_of p options) (outcome_of (batch_of p options) es) → bytes ≡ text p options es
     → IsSerializableText p bytes
 text_by p options es bytes printed s is = record {
   replies = o.replies;
@@ -81,7 +81,7 @@ text_by p options es bytes printed s is = record {
   once = s.once;
   count = s.count;
   alone = λ k c at. s.replies k c at
-      ∙ ap (λ (db : Tables). Some (reply_in (outcome p c db))) (table_same p options (order_of o.history) k (let within : k < length (order_of o.history) = slice_get_within (order_of o.history) k c at in omega (arith, within)));
+      ∙ ap (λ (db : Tables). Some (reply_in (result_of p c db))) (table_same p options (order_of o.history) k (let within : k < length (order_of o.history) = slice_get_within (order_of o.history) k c at in omega (arith, within)));
   last = s.tables ∙ table_same p options (order_of o.history) (length (order_of o.history)) (omega arith);
   begun = s.begun;
   committed = s.committed;
@@ -93,11 +93,11 @@ text_by p options es bytes printed s is = record {
 }
   where
     o : Outcome
-    o = outcome_of (work_of p options) es
+    o = outcome_of (batch_of p options) es
 
-pub text_of_lawful : (p : Program) (options : Options) (es : List Event) (bytes : List ℕ) → FitsText p.resolved → Lawful (work_of p options) es → bytes ≡ text p options es → IsSerializableText p bytes
+pub text_of_lawful : (p : Program) (options : Options) (es : List Event) (bytes : List ℕ) → FitsText p.resolved → Lawful (batch_of p options) es → bytes ≡ text p options es → IsSerializableText p bytes
 text_of_lawful p options es bytes fits lawful is =
-    text_by p options (shown es) bytes (shown_is_all_shown es) (lawful_is_serializable (work_of p options) (shown es) (readers_keep p options fits) (shown_is_lawful (work_of p options) es lawful)) (is ∙ text_shown p options es)
+    text_by p options (shown es) bytes (shown_is_all_shown es) (lawful_is_serializable (batch_of p options) (shown es) (readers_keep p options fits) (shown_is_lawful (batch_of p options) es lawful)) (is ∙ text_shown p options es)
 
 -- What is written
 

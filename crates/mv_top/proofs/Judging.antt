@@ -4,7 +4,7 @@ use Rattle.std.proofs.lemmas.Option.{none-some, same_Some}
 use Rattle.std.specs.Prelude.{IfOk, IfErr, MatchResult}
 use Rattle.mv_values.specs.declared.calls.Options.{Options}
 use Rattle.mv_catalog.specs.declared.resolved.Program.{Program}
-use Rattle.mv_accept.specs.declared.refusal.Refusal.{Refusal as ScriptRefusal}
+use Rattle.mv_accept.specs.declared.refusal.ScriptRefusal.{ScriptRefusal}
 use Rattle.mv_accept.specs.Accepting.{Accepts, Refuses}
 use Rattle.mv_accept.specs.Exact.{HasCause}
 use Rattle.mv_accept.specs.declared.accept.NotAccepted.{NotAccepted}
@@ -18,7 +18,7 @@ use Rattle.mv_top.specs.declared.refusal.NoText.{NoText}
 use Rattle.mv_top.specs.declared.refusal.NoText.TheVariants.{Refused, NoMemory}
 use Rattle.mv_words.specs.declared.command.Command.{Command}
 use Rattle.mv_words.specs.declared.command.Command.TheVariants.{Run, Replay, Serial, Graph, Tpcc, Audit, Why}
-use Rattle.mv_report.specs.History.{work_of}
+use Rattle.mv_report.specs.History.{batch_of}
 use Rattle.mv_top.specs.Journals.{journal_lines, refusal_of, HasLawfulJournal, RefusesJournal, line, unlawful}
 use Rattle.mv_top.specs.Refusing.{Causes, RefusesAs, IsOfScript, of_accept}
 use Rattle.mv_top.specs.Inputs.{script_in}
@@ -30,7 +30,7 @@ lawful_is_taken : (options : Options) (bytes : List ℕ) (p : Program) (es : Lis
 lawful_is_taken options bytes p es r h (line n bad) = not_both (journal_lines bytes p) es n h.are bad
 lawful_is_taken options bytes p es r h (unlawful fs w are wrong) =
     let same : es ≡ fs = same_events (journal_lines bytes p) es fs h.are are in
-    none-some w (sym (subst (λ xs. wrong_with (work_of p options) xs ≡ None) same h.lawful) ∙ wrong)
+    none-some w (sym (subst (λ xs. wrong_with (batch_of p options) xs ≡ None) same h.lawful) ∙ wrong)
 
 -- a journal has one refusal
 same_refusal : (options : Options) (bytes : List ℕ) (p : Program) (r q : Refusal) → RefusesJournal options bytes p r → RefusesJournal options bytes p q → r ≡ q
@@ -39,7 +39,7 @@ same_refusal options bytes p r q (line n bad) (unlawful fs w are wrong) = absurd
 same_refusal options bytes p r q (unlawful es w are wrong) (line m bad) = absurd (not_both (journal_lines bytes p) es m are bad)
 same_refusal options bytes p r q (unlawful es w are wrong) (unlawful fs v were worse) =
     let same : es ≡ fs = same_events (journal_lines bytes p) es fs are were in
-    ap refusal_of (same_Some w v (sym wrong ∙ (ap (wrong_with (work_of p options)) same ∙ worse)))
+    ap refusal_of (same_Some w v (sym wrong ∙ (ap (wrong_with (batch_of p options)) same ∙ worse)))
 
 text_is_taken : (command : Command) (bytes answer : List ℕ) (p : Program) (r : Refusal) → IsTextOf command bytes p answer → RefusesProgram command bytes p r → ⊥
 text_is_taken (Run threads options) bytes answer p r t bad = bad

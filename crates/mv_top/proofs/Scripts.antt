@@ -12,23 +12,23 @@ use Rattle.mv_catalog.specs.declared.resolved.ProcInfo.{ProcInfo}
 use Rattle.mv_catalog.specs.declared.resolved.Program.{Program}
 use Rattle.mv_catalog.specs.Text.{FitsText, IsCall, IsProcedure, Suits}
 use Rattle.mv_accept.specs.Accepting.{most_calls}
-use Rattle.mv_alone.specs.TableAfter.{outcome, outcome_in, outcome_at, tables_left, reply_in}
+use Rattle.mv_eval.specs.TableAfter.{result_of, result_in, result_at, tables_left, reply_in}
 use Rattle.mv_record.specs.Runs.{Run}
 use Rattle.mv_record.specs.Databases.{IsProgram}
 use Rattle.mv_recorded.specs.Recorded.{records, records_in, records_at}
 use Rattle.mv_recorded.proofs.RowsTyped.{all_get}
 use Rattle.mv_graph.specs.declared.graph.Graph.{Graph}
 use Rattle.mv_compile.specs.Compiled.{graph_of, graphs_of}
-use Rattle.mv_script.specs.declared.script.Script.{Script}
-use Rattle.mv_script.specs.Scripts.{run_by, run_in, reads_by, reads_in, IsCallOf, CanRun, IsScript, work_of as script_work}
-use Rattle.mv_report.specs.History.{work_of, reads_by as proc_reads, reads_in as program_reads}
+use Rattle.mv_script.specs.declared.script.CompiledScript.{CompiledScript}
+use Rattle.mv_script.specs.Scripts.{run_by, run_in, reads_by, reads_in, IsCallOf, CanRun, IsCompiledScript, batch_of as script_batch}
+use Rattle.mv_report.specs.History.{batch_of, reads_by as proc_reads, reads_in as program_reads}
 
 -- What a list has at a place
 
 -- The script
 
 -- the script of a program
-abbrev pub script_of : Program → Options → Script
+abbrev pub script_of : Program → Options → CompiledScript
 script_of p options = record { graphs = graphs_of p.resolved; calls = p.resolved.calls; opening = p.opening; options = options }
 
 graph_by : (p : Program) (call : Call) (o : Option ProcInfo) → slice_get p.resolved.procedures call.procedure ≡ o → slice_get (graphs_of p.resolved) call.procedure ≡ option_map (graph_of p.resolved.tables) o
@@ -63,7 +63,7 @@ has p options n fits lt =
     let it : IsCall p.resolved.procedures c.0 = called p n c.0 fits c.1 in
     (c.0, graph_of p.resolved.tables it.0, record { call_is = c.1; graph_is = graph_at p c.0 it.0 it.1 })
 
-pub script_is : (p : Program) (options : Options) → IsProgram p → length p.resolved.calls ≤ most_calls → IsScript (script_of p options)
+pub script_is : (p : Program) (options : Options) → IsProgram p → length p.resolved.calls ≤ most_calls → IsCompiledScript (script_of p options)
 script_is p options whole few = (
   p.resolved.tables,
   record {
@@ -76,20 +76,20 @@ script_is p options whole few = (
 
 -- a script of these parts is that of its program
 pub script_by : (p : Program) (options : Options) (graphs : List Graph) (calls : List Call) → graphs ≡ graphs_of p.resolved → calls ≡ p.resolved.calls
-    → ◌≡◌ {A = Script} (record { graphs = graphs; calls = calls; opening = p.opening; options = options }) (script_of p options)
+    → ◌≡◌ {A = CompiledScript} (record { graphs = graphs; calls = calls; opening = p.opening; options = options }) (script_of p options)
 script_by p options graphs calls g c = λ i. record { graphs = g i; calls = c i; opening = p.opening; options = options }
 
--- Its work
+-- Its batch
 
 abbrev run_of : Program → ℕ → Tables → Run
-run_of p c db = record { records = records p c db; reply = reply_in (outcome p c db); tables = tables_left db (outcome p c db) }
+run_of p c db = record { records = records p c db; reply = reply_in (result_of p c db); tables = tables_left db (result_of p c db) }
 
 abbrev run_at : Program → Option Call → Tables → Run
-run_at p o db = record { records = records_at p o db; reply = reply_in (outcome_at p o db); tables = tables_left db (outcome_at p o db) }
+run_at p o db = record { records = records_at p o db; reply = reply_in (result_at p o db); tables = tables_left db (result_at p o db) }
 
 -- the same, where the call's procedure is known
 abbrev run_for : Program → Call → Tables → Option ProcInfo → Run
-run_for p call db o = record { records = records_in p o call db; reply = reply_in (outcome_in p o call db); tables = tables_left db (outcome_in p o call db) }
+run_for p call db o = record { records = records_in p o call db; reply = reply_in (result_in p o call db); tables = tables_left db (result_in p o call db) }
 
 by_procedure : (p : Program) (call : Call) (db : Tables) (o : Option ProcInfo) → slice_get p.resolved.procedures call.procedure ≡ o → run_by (slice_get (graphs_of p.resolved) call.procedure) call db ≡ run_at p (Some call) db
 by_procedure p call db None h = ap (λ g. run_by g call db) (graph_by p call None h) ∙ sym (ap (run_for p call db) h)
@@ -108,9 +108,9 @@ reads_is : (p : Program) (o : Option Call) → reads_in (graphs_of p.resolved) o
 reads_is p None = refl
 reads_is p (Some call) = reads_at p call (slice_get p.resolved.procedures call.procedure) refl
 
--- a script's work is that of its program
-pub work_is : (p : Program) (options : Options) → script_work (script_of p options) ≡ work_of p options
-work_is p options = λ i. record {
+-- a script's batch is that of its program
+pub batch_is : (p : Program) (options : Options) → script_batch (script_of p options) ≡ batch_of p options
+batch_is p options = λ i. record {
   run = λ c db. run_is p db (slice_get p.resolved.calls c) i;
   read_only = λ c. reads_is p (slice_get p.resolved.calls c) i;
   count = length p.resolved.calls;

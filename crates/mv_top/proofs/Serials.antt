@@ -7,7 +7,7 @@ use Rattle.mv_values.specs.Tables.{Tables}
 use Rattle.mv_values.specs.Counts.{first_numbers}
 use Rattle.mv_catalog.specs.declared.resolved.Program.{Program}
 use Rattle.mv_report.specs.Serial.{serial_text}
-use Rattle.mv_alone.specs.TableAfter.{table_after, reply_of, call_order, IsOrder, RepliesOf}
+use Rattle.mv_eval.specs.TableAfter.{table_after, reply_of, call_order, IsOrder, RepliesOf}
 use Rattle.mv_lawful.proofs.Turns.{length_numbers}
 use Rattle.mv_top.specs.Serial.{serial_replies, serial}
 use Rattle.mv_top.proofs.Numbers.{index_numbers, told_numbers}

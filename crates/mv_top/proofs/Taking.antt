@@ -3,7 +3,7 @@ use Rattle.std.proofs.Common.{◌≡◌, ◌⊎◌, inl, inr, ◌<◌, ◌≤◌
 use Rattle.std.proofs.lemmas.Bool.{cases_lt}
 use Rattle.std.specs.Prelude.{MatchResult}
 use Rattle.mv_catalog.specs.declared.resolved.Program.{Program}
-use Rattle.mv_accept.specs.declared.refusal.Refusal.TheVariants.{TooLong}
+use Rattle.mv_accept.specs.declared.refusal.ScriptRefusal.TheVariants.{TooLong}
 use Rattle.mv_accept.specs.Accepting.{most_bytes, Accepts, Refuses}
 use Rattle.mv_accept.proofs.Sizes.{accepted_are_few, too_many_are_told, too_many_are_refused}
 use Rattle.mv_words.specs.declared.command.Command.{Command}

@@ -16,16 +16,16 @@ use Rattle.mv_catalog.specs.declared.resolved.Program.{Program}
 use Rattle.mv_catalog.specs.declared.resolved.ProcInfo.{ProcInfo}
 use Rattle.mv_catalog.specs.declared.resolved.RStmt.TheOpen.{RStmt-F, Assign, Select, Total, ForSelect, ForRows, Branch, Insert, Update, Delete, Print, Rollback}
 use Rattle.mv_accept.specs.Accepting.{most_calls}
-use Rattle.mv_alone.specs.declared.state.Env.{Env}
-use Rattle.mv_alone.specs.declared.state.State.{State}
-use Rattle.mv_alone.specs.Outcome.{then_do}
-use Rattle.mv_alone.specs.Value.{value_of, values_of}
-use Rattle.mv_alone.specs.Rows.{tests_of, aggregate, is_some_row}
-use Rattle.mv_alone.specs.Changes.{new_row, put_row, keyed, updated, set_row_by, without}
-use Rattle.mv_alone.specs.References.{has_parents, has_children, fit_in}
-use Rattle.mv_alone.specs.Line.{line_of}
-use Rattle.mv_alone.specs.Alone.{alone, matching_in, offset_of, with_rows}
-use Rattle.mv_alone.specs.TableAfter.{begun, outcome, outcome_at, outcome_in, reply_in as reply_from}
+use Rattle.mv_eval.specs.declared.state.Env.{Env}
+use Rattle.mv_eval.specs.declared.state.State.{State}
+use Rattle.mv_eval.specs.Results.{then_do}
+use Rattle.mv_eval.specs.Value.{value_of, values_of}
+use Rattle.mv_eval.specs.Rows.{tests_of, aggregate, is_some_row}
+use Rattle.mv_eval.specs.Changes.{new_row, put_row, keyed, updated, set_row_by, without}
+use Rattle.mv_eval.specs.References.{has_parents, has_children, fit_in}
+use Rattle.mv_eval.specs.Line.{line_of}
+use Rattle.mv_eval.specs.Alone.{alone, matching_in, offset_of, with_rows}
+use Rattle.mv_eval.specs.TableAfter.{begun, result_of, result_at, result_in, reply_in as reply_from}
 use Rattle.mv_record.specs.declared.record.Record.{Record}
 use Rattle.mv_recorded.specs.Doing.{itself, fixed_rows}
 use Rattle.mv_recorded.specs.Recorded.{own_record, recorded, outside}
@@ -34,8 +34,8 @@ use Rattle.mv_journal.specs.declared.event.Event.{Event}
 use Rattle.mv_journal.specs.declared.event.Event.TheVariants.{B, S, A, M, C, X, R, G}
 use Rattle.mv_journal.specs.declared.outcome.Outcome.{Outcome}
 use Rattle.mv_journal.specs.Events.{IsInRange}
-use Rattle.mv_lawful.specs.Work.{Work}
-use Rattle.mv_lawful.specs.Lawful.{Lawful, course_of}
+use Rattle.mv_lawful.specs.Batch.{Batch}
+use Rattle.mv_lawful.specs.Lawful.{Lawful, schedule_of}
 use Rattle.mv_lawful.specs.Places.{start_in}
 use Rattle.mv_lawful.specs.Rounds.{IsBounded}
 use Rattle.mv_lawful.specs.Laws.{IsOfCalls}
@@ -50,7 +50,7 @@ use Rattle.mv_report.specs.JournalLines.{journal_lines_in}
 use Rattle.mv_report.proofs.Fixing.{text_fixes}
 use Rattle.mv_report.proofs.Lining.{text_has_journal}
 use Rattle.mv_gate.specs.Gates.{IsOutcome}
-use Rattle.mv_report.specs.History.{work_of, text, in_turn as turns_of, IsRunText}
+use Rattle.mv_report.specs.History.{batch_of, text, in_turn as turns_of, IsRunText}
 use Rattle.mv_top.specs.History.{TextFixesJournal, TextHasItsJournal}
 use Rattle.mv_top.specs.Workers.{IsLeftBy}
 use Rattle.mv_top.specs.Answers.{IsTextOfWorkers}
@@ -76,23 +76,23 @@ with_lines tables o lines =
 -- the events that are shown have the same text
 pub text_shown : (p : Program) (options : Options) (es : List Event) → text p options es ≡ text p options (shown es)
 text_shown p options es =
-    ap (with_lines p.resolved.tables (outcome_of (work_of p options) es)) (sym (lines_shown es))
-    ∙ ap (text_of p.resolved.tables) (sym (shown_has_the_outcome (work_of p options) es))
+    ap (with_lines p.resolved.tables (outcome_of (batch_of p options) es)) (sym (lines_shown es))
+    ∙ ap (text_of p.resolved.tables) (sym (shown_has_the_outcome (batch_of p options) es))
 
 -- Runs
 
 -- the text of a lawful and bounded journal, which is that of the events that it shows
-run_text : (p : Program) (options : Options) (es : List Event) (bytes : List ℕ) → Lawful (work_of p options) es → IsBounded (work_of p options) es → bytes ≡ text p options es → IsRunText p options bytes
+run_text : (p : Program) (options : Options) (es : List Event) (bytes : List ℕ) → Lawful (batch_of p options) es → IsBounded (batch_of p options) es → bytes ≡ text p options es → IsRunText p options bytes
 run_text p options es bytes lawful bounded is = record {
   journal = shown es;
   printed = shown_is_all_shown es;
-  lawful = shown_is_lawful (work_of p options) es lawful;
-  bounded = shown_is_bounded (work_of p options) es bounded;
+  lawful = shown_is_lawful (batch_of p options) es lawful;
+  bounded = shown_is_bounded (batch_of p options) es bounded;
   text_is = is ∙ text_shown p options es;
 }
 
 -- the text of what several workers leave
-text_runs : (p : Program) (options : Options) (count : ℕ) (bytes : List ℕ) (left : Outcome) → 1 < count → IsOutcome (work_of p options) left → bytes ≡ text_of p.resolved.tables left
+text_runs : (p : Program) (options : Options) (count : ℕ) (bytes : List ℕ) (left : Outcome) → 1 < count → IsOutcome (batch_of p options) left → bytes ≡ text_of p.resolved.tables left
     → IsTextOfWorkers count options p bytes
 text_runs p options count bytes left more is h =
     (run_text p options left.journal bytes is.lawful is.bounded (h ∙ ap (text_of p.resolved.tables) is.outcome), λ one. absurd (omega (arith, more, one)))
@@ -109,24 +109,24 @@ lines_unseen (X c ∷ es) = ap (λ bytes. event_line (X c) ++ bytes) (lines_unse
 lines_unseen (R c ∷ es) = ap (λ bytes. event_line (R c) ++ bytes) (lines_unseen es)
 lines_unseen (G ∷ es) = lines_unseen es
 
-text_unseen : (w : Work) (tables : List TableInfo) (es : List Event) → text_of tables (outcome_of w es) ≡ text_of tables (outcome_of w (without_collections es))
+text_unseen : (w : Batch) (tables : List TableInfo) (es : List Event) → text_of tables (outcome_of w es) ≡ text_of tables (outcome_of w (without_collections es))
 text_unseen w tables es = ap (text_of tables) (collections_are_unseen w es) ∙ ap (with_lines tables (outcome_of w (without_collections es))) (sym (lines_unseen es))
 
 -- the text of what one worker leaves
-text_turns : (p : Program) (options : Options) (bytes : List ℕ) (left : Outcome) → IsOutcomeInTurn (work_of p options) (length p.resolved.calls) left → bytes ≡ text_of p.resolved.tables left
+text_turns : (p : Program) (options : Options) (bytes : List ℕ) (left : Outcome) → IsOutcomeInTurn (batch_of p options) (length p.resolved.calls) left → bytes ≡ text_of p.resolved.tables left
     → bytes ≡ text p options (turns_of p)
 text_turns p options bytes left is h =
-    h ∙ (ap (text_of p.resolved.tables) is.outcome ∙ (text_unseen (work_of p options) p.resolved.tables is.journal
-    ∙ ap (λ es. text_of p.resolved.tables (outcome_of (work_of p options) es)) is.turns))
+    h ∙ (ap (text_of p.resolved.tables) is.outcome ∙ (text_unseen (batch_of p options) p.resolved.tables is.journal
+    ∙ ap (λ es. text_of p.resolved.tables (outcome_of (batch_of p options) es)) is.turns))
 
 -- it is one of any number of them
 turns_are_run : (p : Program) (options : Options) (count : ℕ) (bytes : List ℕ) → bytes ≡ text p options (turns_of p) → IsTextOfWorkers count options p bytes
 turns_are_run p options count bytes is =
-    let it = in_turn_is_lawful (work_of p options) in
+    let it = in_turn_is_lawful (batch_of p options) in
     (run_text p options (turns_of p) bytes it.lawful it.bounded is, λ one. is)
 
 -- the text of what any number of workers leave
-pub text_left : (p : Program) (options : Options) (count : ℕ) (bytes : List ℕ) (left : Outcome) → IsLeftBy count (work_of p options) (length p.resolved.calls) left → bytes ≡ text_of p.resolved.tables left
+pub text_left : (p : Program) (options : Options) (count : ℕ) (bytes : List ℕ) (left : Outcome) → IsLeftBy count (batch_of p options) (length p.resolved.calls) left → bytes ≡ text_of p.resolved.tables left
     → IsTextOfWorkers count options p bytes
 text_left p options count bytes left (inl several) h = text_runs p options count bytes left several.0 several.1 h
 text_left p options count bytes left (inr turns) h = turns_are_run p options count bytes (text_turns p options bytes left turns h)
@@ -187,20 +187,20 @@ prints_law = record {
 }
 
 -- a call prints such lines alone
-reply_prints : (p : Program) (c : ℕ) (db : Tables) → All IsPrinted (reply_from (outcome p c db)).lines
+reply_prints : (p : Program) (c : ℕ) (db : Tables) → All IsPrinted (reply_from (result_of p c db)).lines
 reply_prints p c db = by_call (slice_get p.resolved.calls c)
   where
     ended : (proc : ProcInfo) (call : Call) (rs : List Record) (out : Result State End) → Prints (begun proc call db) rs out → All IsPrinted (reply_from out).lines
     ended proc call rs (Ok next) h = h (All-nil IsPrinted)
     ended proc call rs (Err e) h = All-nil IsPrinted
 
-    by_proc : (o : Option ProcInfo) (call : Call) → All IsPrinted (reply_from (outcome_in p o call db)).lines
+    by_proc : (o : Option ProcInfo) (call : Call) → All IsPrinted (reply_from (result_in p o call db)).lines
     by_proc None call = All-nil IsPrinted
     by_proc (Some proc) call =
         ended proc call (recorded p.resolved.tables proc call db) (alone p.resolved.tables proc.body (begun proc call db))
         (told_follows Prints prints_law p.resolved.tables (length call.arguments) proc.body 1 outside [] (begun proc call db))
 
-    by_call : (o : Option Call) → All IsPrinted (reply_from (outcome_at p o db)).lines
+    by_call : (o : Option Call) → All IsPrinted (reply_from (result_at p o db)).lines
     by_call None = All-nil IsPrinted
     by_call (Some call) = by_proc (slice_get p.resolved.procedures call.procedure) call
 
@@ -216,17 +216,17 @@ in_range n (X c) few h = omega (arith, few, h)
 in_range n (R c) few h = omega (arith, few, h)
 in_range n G few h = tt
 
-pub is_plain : (p : Program) (options : Options) (journal : List Event) → length p.resolved.calls ≤ most_calls → Lawful (work_of p options) journal → IsPlain (outcome_of (work_of p options) journal)
+pub is_plain : (p : Program) (options : Options) (journal : List Event) → length p.resolved.calls ≤ most_calls → Lawful (batch_of p options) journal → IsPlain (outcome_of (batch_of p options) journal)
 is_plain p options journal few lawful = record {
-  lines = All-map (λ (reply : Reply). All IsPrinted reply.lines) (reply_in w (course_of w journal)) (first_numbers w.count) (λ k d lt. by_place _ (commits_before order (course_of w journal).answered (start_in (course_of w journal).calls _) _));
+  lines = All-map (λ (reply : Reply). All IsPrinted reply.lines) (reply_in w (schedule_of w journal)) (first_numbers w.count) (λ k d lt. by_place _ (commits_before order (schedule_of w journal).answered (start_in (schedule_of w journal).calls _) _));
   calls = All-weaker (IsOfCalls w.count) IsInRange (λ e. in_range w.count e few) journal (lawful_names_calls w journal lawful);
 }
   where
-    w : Work
-    w = work_of p options
+    w : Batch
+    w = batch_of p options
 
     order : List ℕ
-    order = (course_of w journal).order
+    order = (schedule_of w journal).order
 
     by_place : (c : ℕ) (o : Option ℕ) → All IsPrinted (reply_after w order c o).lines
     by_place c None = All-nil IsPrinted
@@ -234,10 +234,10 @@ is_plain p options journal few lawful = record {
 
 pub text_fixes_journal : TextFixesJournal
 text_fixes_journal bytes one other a b =
-    text_fixes a.program.resolved.tables b.program.resolved.tables (outcome_of (work_of a.program a.options) one) (outcome_of (work_of b.program b.options) other)
+    text_fixes a.program.resolved.tables b.program.resolved.tables (outcome_of (batch_of a.program a.options) one) (outcome_of (batch_of b.program b.options) other)
     (is_plain a.program a.options one a.few a.lawful) (is_plain b.program b.options other b.few b.lawful) (sym a.text_is ∙ b.text_is)
 
 pub text_has_its_journal : TextHasItsJournal
 text_has_its_journal bytes journal a =
     ap journal_lines_in a.text_is
-    ∙ text_has_journal a.program.resolved.tables (outcome_of (work_of a.program a.options) journal) (is_plain a.program a.options journal a.few a.lawful)
+    ∙ text_has_journal a.program.resolved.tables (outcome_of (batch_of a.program a.options) journal) (is_plain a.program a.options journal a.few a.lawful)

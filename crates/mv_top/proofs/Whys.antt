@@ -5,10 +5,10 @@ use Rattle.mv_values.specs.declared.calls.Options.{Options}
 use Rattle.mv_values.specs.declared.schema.TableInfo.{TableInfo}
 use Rattle.mv_catalog.specs.declared.resolved.Program.{Program}
 use Rattle.mv_journal.specs.declared.event.Event.{Event}
-use Rattle.mv_lawful.specs.Work.{Work}
+use Rattle.mv_lawful.specs.Batch.{Batch}
 use Rattle.mv_lawful.specs.Lawful.{Lawful}
 use Rattle.mv_explain.specs.Text.{why_text}
-use Rattle.mv_report.specs.History.{work_of}
+use Rattle.mv_report.specs.History.{batch_of}
 use Rattle.mv_words.specs.declared.command.Command.TheVariants.{Why}
 use Rattle.mv_top.specs.declared.refusal.NoText.{NoText}
 use Rattle.mv_top.specs.declared.status.Status.{Status}
@@ -19,16 +19,16 @@ use Rattle.mv_top.specs.Answers.{IsTextFor, Wrote}
 use Rattle.mv_top.proofs.Driving.{journal_told}
 use Rattle.mv_top.proofs.Headlines.{wrote_for}
 
-pub why_is : (options : Options) (bytes : List ℕ) (p : Program) (w : Work) (tables : List TableInfo) (es events : List Event) (result : Result (List ℕ) NoText) → w ≡ work_of p options → tables ≡ p.resolved.tables → es ≡ events
+pub why_is : (options : Options) (bytes : List ℕ) (p : Program) (w : Batch) (tables : List TableInfo) (es events : List Event) (result : Result (List ℕ) NoText) → w ≡ batch_of p options → tables ≡ p.resolved.tables → es ≡ events
     → IsJournalOf bytes p events → IfOk result (λ _. Lawful w es) → IfOk result (λ text. text ≡ why_text tables w es) → IfOk result (IsWhyText options bytes p)
 why_is options bytes p w tables es events (Ok text) same named listed are lawful is = record {
   events = events;
-  is = record { are = are; lawful = subst (λ (v : Work). Lawful v events) same (subst (Lawful w) listed lawful) };
-  text_is = is ∙ ap (why_text tables w) listed ∙ ap (λ (ts : List TableInfo). why_text ts w events) named ∙ ap (λ (v : Work). why_text p.resolved.tables v events) same;
+  is = record { are = are; lawful = subst (λ (v : Batch). Lawful v events) same (subst (Lawful w) listed lawful) };
+  text_is = is ∙ ap (why_text tables w) listed ∙ ap (λ (ts : List TableInfo). why_text ts w events) named ∙ ap (λ (v : Batch). why_text p.resolved.tables v events) same;
 }
 why_is options bytes p w tables es events (Err f) same named listed are lawful is = tt
 
-pub why_is_told : (options : Options) (bytes : List ℕ) (p : Program) (w : Work) (es events : List Event) (result : Result (List ℕ) NoText) → w ≡ work_of p options → es ≡ events
+pub why_is_told : (options : Options) (bytes : List ℕ) (p : Program) (w : Batch) (es events : List Event) (result : Result (List ℕ) NoText) → w ≡ batch_of p options → es ≡ events
     → IsJournalOf bytes p events → IfErr result (TellsWrong w es) → IfErr result (TellsJournal options bytes p)
 why_is_told options bytes p w es events (Ok text) same listed are wrong = tt
 why_is_told options bytes p w es events (Err f) same listed are wrong = journal_told options bytes p w events f same are (subst (λ (xs : List Event). TellsWrong w xs f) listed wrong)

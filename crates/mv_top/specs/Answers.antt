@@ -7,7 +7,7 @@ use Rattle.mv_values.specs.Counts.{Rose}
 use Rattle.mv_values.specs.Texts.{line}
 use Rattle.mv_catalog.specs.declared.resolved.Program.{Program}
 use Rattle.mv_journal.specs.declared.event.Event.{Event}
-use Rattle.mv_accept.specs.declared.refusal.Refusal.{Refusal as ScriptRefusal}
+use Rattle.mv_accept.specs.declared.refusal.ScriptRefusal.{ScriptRefusal}
 use Rattle.mv_accept.specs.Accepting.{Accepts, Refuses}
 use Rattle.mv_top.specs.declared.refusal.Refusal.{Refusal}
 use Rattle.mv_top.specs.declared.refusal.Refusal.TheVariants.{Script}

@@ -11,7 +11,7 @@ use Rattle.mv_lawful.specs.Lawful.{Lawful}
 use Rattle.mv_audit.specs.declared.verdict.Verdict.{Verdict}
 use Rattle.mv_audit.specs.declared.verdict.Verdict.TheVariants.{Yes, NoJournal, Line}
 use Rattle.mv_audit.specs.Verdicts.{audit_verdict}
-use Rattle.mv_report.specs.History.{work_of, text, IsRunText}
+use Rattle.mv_report.specs.History.{batch_of, text, IsRunText}
 use Rattle.mv_words.specs.declared.command.Command.TheVariants.{Audit}
 use Rattle.mv_words.specs.Words.{command_of}
 use Rattle.mv_top.specs.declared.status.Status.{Status}
@@ -45,7 +45,7 @@ pub record IsLawfulReport (p : Program) (rounds : ℕ) (report : List ℕ) : Typ
   pub options : Options
   pub journal : List Event
   pub rounds_are : options.rounds ≡ rounds
-  pub lawful : Lawful (work_of p options) journal
+  pub lawful : Lawful (batch_of p options) journal
   pub text_is : report ≡ text p options journal
 
 -- such a report gets yes, and no other

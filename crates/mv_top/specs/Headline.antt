@@ -1,5 +1,5 @@
 -- The headline: a run is serializable. This file says it in the words of lists, of the machine that executes a call alone
--- on whole tables (`outcome` and `table_after`), and of the parts of a text. It's this project's own.
+-- on whole tables (`result_of` and `table_after`), and of the parts of a text. It's this project's own.
 use Rattle.std.specs.Prelude.{◌≡◌, ◌≤◌, ◌<◌, ℕ, ◌==◌, List, ◌∷◌, ◌++◌, Option, Some, All, Contains, map, length, slice_get, codes}
 use Rattle.std.specs.List.{filter}
 use Rattle.std.specs.Option.{ForSome}
@@ -9,7 +9,7 @@ use Rattle.mv_values.specs.declared.calls.Options.{Options}
 use Rattle.mv_values.specs.Tables.{Tables}
 use Rattle.mv_values.specs.Texts.{line}
 use Rattle.mv_catalog.specs.declared.resolved.Program.{Program}
-use Rattle.mv_alone.specs.TableAfter.{outcome, table_after, reply_in, call_order}
+use Rattle.mv_eval.specs.TableAfter.{result_of, table_after, reply_in, call_order}
 use Rattle.mv_journal.specs.declared.event.Event.{Event}
 use Rattle.mv_journal.specs.declared.event.Event.TheVariants.{B, R}
 use Rattle.mv_journal.specs.declared.outcome.Round.{Round}
@@ -42,7 +42,7 @@ pub record IsSerializableText (p : Program) (bytes : List ℕ) : Type 0 where
   -- that these k calls leave, executed alone one after another. So a call is done, or it has the end that the machine
   -- gives it. The tables are those after all calls.
   pub count : length replies ≡ length p.resolved.calls
-  pub alone : (k c : ℕ) → slice_get order k ≡ Some c → slice_get replies c ≡ Some (reply_in (outcome p c (table_after p order k)))
+  pub alone : (k c : ℕ) → slice_get order k ≡ Some c → slice_get replies c ≡ Some (reply_in (result_of p c (table_after p order k)))
   pub last : tables ≡ table_after p order (length order)
   -- By the events the calls begin by their numbers, and those that aren't answered commit in this order. Each commits or
   -- is answered after its own begin. So a call that had committed before another began stands before it.

@@ -8,14 +8,14 @@ use Rattle.mv_journal.specs.Events.{event_text}
 use Rattle.mv_lawful.specs.Lawful.{Lawful}
 use Rattle.mv_lawful.specs.Outcomes.{shown}
 use Rattle.mv_report.specs.JournalLines.{journal_lines_in}
-use Rattle.mv_report.specs.History.{work_of, text}
+use Rattle.mv_report.specs.History.{batch_of, text}
 
 -- the bytes are the text of this lawful journal, for some program and options
 pub record IsTextOfJournal (bytes : List ℕ) (journal : List Event) : Type 0 where
   pub program : Program
   pub options : Options
   pub few : length program.resolved.calls ≤ most_calls
-  pub lawful : Lawful (work_of program options) journal
+  pub lawful : Lawful (batch_of program options) journal
   pub text_is : bytes ≡ text program options journal
 
 -- a text fixes its journal, except for the events that have no line

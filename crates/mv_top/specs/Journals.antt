@@ -12,7 +12,7 @@ use Rattle.mv_lawful.specs.declared.fault.Wrong.TheVariants as wrong
 use Rattle.mv_lawful.specs.Lawful.{Lawful, wrong_with}
 use Rattle.mv_top.specs.declared.refusal.Refusal.{Refusal}
 use Rattle.mv_top.specs.declared.refusal.Refusal.TheVariants as why
-use Rattle.mv_report.specs.History.{work_of, text}
+use Rattle.mv_report.specs.History.{batch_of, text}
 
 -- the bytes of the journal's block; a script without a JOURNAL item has none
 abbrev pub block_in : List ℕ → Option CopyInfo → List ℕ
@@ -30,7 +30,7 @@ IsJournalOf bytes p events = AreEventLines (journal_lines bytes p) events
 -- these are its events, and they are lawful
 pub record HasLawfulJournal (options : Options) (bytes : List ℕ) (p : Program) (events : List Event) : Type 0 where
   pub are : IsJournalOf bytes p events
-  pub lawful : Lawful (work_of p options) events
+  pub lawful : Lawful (batch_of p options) events
 
 -- the text of the journal, which is lawful
 pub record IsJournalText (options : Options) (bytes : List ℕ) (p : Program) (answer : List ℕ) : Type 0 where
@@ -46,4 +46,4 @@ refusal_of (wrong.Open call) = why.Open call
 -- why the journal is refused: a line isn't an event, or the law of journals refuses the events
 pub data RefusesJournal (options : Options) (bytes : List ℕ) (p : Program) : Refusal → Type 0 where
   line : (n : ℕ) → IsFirstBad (journal_lines bytes p) n → RefusesJournal options bytes p (why.Line n)
-  unlawful : (events : List Event) (w : Wrong) → IsJournalOf bytes p events → wrong_with (work_of p options) events ≡ Some w → RefusesJournal options bytes p (refusal_of w)
+  unlawful : (events : List Event) (w : Wrong) → IsJournalOf bytes p events → wrong_with (batch_of p options) events ≡ Some w → RefusesJournal options bytes p (refusal_of w)

@@ -4,7 +4,7 @@ use Rattle.std.specs.Prelude.{ℕ, ◌+◌, ◌==◌, List, [], Option, Some, No
 use Rattle.std.specs.List.{position}
 use Rattle.std.specs.Option.{option_and_then, option_map_or}
 use Rattle.mv_journal.specs.Reading.{number_in}
-use Rattle.mv_accept.specs.declared.refusal.Refusal.TheVariants.{TooLong}
+use Rattle.mv_accept.specs.declared.refusal.ScriptRefusal.TheVariants.{TooLong}
 use Rattle.mv_accept.specs.Accepting.{most_bytes}
 use Rattle.mv_top.specs.declared.parts.Parts.{Parts as Slices}
 use Rattle.mv_top.specs.declared.refusal.Refusal.{Refusal}

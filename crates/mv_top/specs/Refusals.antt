@@ -1,13 +1,13 @@
 -- The number and the line of each refusal of a command.
 use Rattle.std.specs.Prelude.{ℕ, List, ◌++◌, codes, decimal}
 use Rattle.mv_accept.specs.Refusals.{number_of as script_number, line_of as script_line}
-use Rattle.mv_lawful.specs.declared.fault.Fault.{Fault}
-use Rattle.mv_lawful.specs.declared.fault.Fault.TheVariants as fault
+use Rattle.mv_lawful.specs.declared.fault.EventFault.{EventFault}
+use Rattle.mv_lawful.specs.declared.fault.EventFault.TheVariants as fault
 use Rattle.mv_top.specs.declared.refusal.Refusal.{Refusal}
 use Rattle.mv_top.specs.declared.refusal.Refusal.TheVariants.{Script, Head, Line, Event, Open}
 
 -- the number of the refusal of an event
-abbrev pub event_number : Fault → ℕ
+abbrev pub event_number : EventFault → ℕ
 event_number fault.Order = 16
 event_number fault.Conflict = 17
 event_number fault.Idle = 18

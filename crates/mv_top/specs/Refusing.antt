@@ -2,7 +2,7 @@
 use Rattle.std.specs.Prelude.{◌≡◌, ℕ, List, Some}
 use Rattle.mv_values.specs.declared.calls.Options.{Options}
 use Rattle.mv_catalog.specs.declared.resolved.Program.{Program}
-use Rattle.mv_accept.specs.declared.refusal.Refusal.{Refusal as ScriptRefusal}
+use Rattle.mv_accept.specs.declared.refusal.ScriptRefusal.{ScriptRefusal}
 use Rattle.mv_accept.specs.Accepting.{Refuses}
 use Rattle.mv_accept.specs.declared.accept.NotAccepted.{NotAccepted}
 use Rattle.mv_accept.specs.declared.accept.NotAccepted.TheVariants as accept
@@ -10,7 +10,7 @@ use Rattle.mv_journal.specs.declared.event.Event.{Event}
 use Rattle.mv_journal.specs.declared.fault.LineFault.{LineFault}
 use Rattle.mv_journal.specs.declared.fault.LineFault.TheVariants as fault
 use Rattle.mv_lawful.specs.declared.fault.Wrong.{Wrong}
-use Rattle.mv_lawful.specs.Work.{Work}
+use Rattle.mv_lawful.specs.Batch.{Batch}
 use Rattle.mv_lawful.specs.Lawful.{wrong_with}
 use Rattle.mv_core.specs.declared.drive.DriveFault.{DriveFault}
 use Rattle.mv_core.specs.declared.drive.DriveFault.TheVariants as drive
@@ -48,10 +48,10 @@ of_drive (drive.Open call) = Refused (why.Open call)
 of_drive drive.NoMemory = NoMemory
 
 -- it is the refusal of the first fault of the events
-abbrev pub HasFault : Work → List Event → Refusal → Type 0
+abbrev pub HasFault : Batch → List Event → Refusal → Type 0
 HasFault w events refusal = (wrong : Wrong) × (wrong_with w events ≡ Some wrong) × (refusal ≡ refusal_of wrong)
 
-abbrev pub TellsWrong : Work → List Event → NoText → Type 0
+abbrev pub TellsWrong : Batch → List Event → NoText → Type 0
 TellsWrong w events f = Causes (HasFault w events) f
 
 abbrev pub TellsJournal : Options → List ℕ → Program → NoText → Type 0

@@ -2,7 +2,7 @@
 use Rattle.std.specs.Prelude.{ℕ, suc, List, map, length}
 use Rattle.mv_values.specs.declared.calls.Reply.{Reply}
 use Rattle.mv_catalog.specs.declared.resolved.Program.{Program}
-use Rattle.mv_alone.specs.TableAfter.{table_after, reply_of, call_order}
+use Rattle.mv_eval.specs.TableAfter.{table_after, reply_of, call_order}
 use Rattle.mv_report.specs.Serial.{serial_text}
 
 -- each call's reply, on the database that the calls before it left

@@ -7,7 +7,7 @@ use Rattle.mv_catalog.specs.declared.resolved.Program.{Program}
 use Rattle.mv_journal.specs.declared.event.Event.{Event}
 use Rattle.mv_accept.specs.Accepting.{Accepts}
 use Rattle.mv_explain.specs.Text.{why_text}
-use Rattle.mv_report.specs.History.{work_of}
+use Rattle.mv_report.specs.History.{batch_of}
 use Rattle.mv_words.specs.declared.command.Command.TheVariants.{Why}
 use Rattle.mv_words.specs.Words.{command_of}
 use Rattle.mv_top.specs.declared.status.Status.{Status}
@@ -18,7 +18,7 @@ use Rattle.mv_top.specs.Journals.{HasLawfulJournal}
 pub record IsWhyText (options : Options) (bytes : List ℕ) (p : Program) (answer : List ℕ) : Type 0 where
   pub events : List Event
   pub is : HasLawfulJournal options bytes p events
-  pub text_is : answer ≡ why_text p.resolved.tables (work_of p options) events
+  pub text_is : answer ≡ why_text p.resolved.tables (batch_of p options) events
 
 -- they are these lines for the program of a script
 abbrev pub IsWhyFor : Options → List ℕ → List ℕ → Type 0

@@ -2,7 +2,7 @@
 
 ghost use Rattle.std.specs.Prelude.{◌≡◌, ◌<◌, ◌≤◌, ◌^◌, length, IfOk, IfErr, MatchResult};
 ghost use Rattle.mv_accept.specs.Accepting.{most_calls, Accepts, Refuses};
-ghost use Rattle.mv_accept.specs.declared.refusal.Refusal.{Refusal as ScriptWhy};
+ghost use Rattle.mv_accept.specs.declared.refusal.ScriptRefusal.{ScriptRefusal as ScriptWhy};
 ghost use Rattle.mv_record.specs.Databases.{IsProgram};
 ghost use Rattle.mv_catalog.specs.declared.resolved.Program.{Program as Whole};
 ghost use Rattle.mv_values.specs.declared.calls.Options.{Options as Given};

@@ -3,14 +3,14 @@
 ghost use Rattle.std.specs.Prelude.{◌≡◌, ◌<◌, ◌≤◌, ◌^◌, length, IfOk, IfErr};
 ghost use Rattle.mv_accept.specs.Accepting.{most_calls};
 ghost use Rattle.mv_record.specs.Databases.{IsProgram};
-ghost use Rattle.mv_script.specs.Scripts.{IsScript, work_of};
+ghost use Rattle.mv_script.specs.Scripts.{IsCompiledScript, batch_of};
 ghost use Rattle.mv_lawful.specs.Lawful.{Lawful};
 ghost use Rattle.mv_lawful.specs.Outcomes.{outcome_of};
 ghost use Rattle.mv_top.specs.Journals.{block_in, IsJournalOf, IsJournalText};
 ghost use Rattle.mv_top.specs.Refusing.{TellsWrong, TellsJournal};
 
 use crate::refusal::{NoText, Refusal};
-use crate::script::{Prepared, prepare};
+use crate::script::{CompiledProgram, compile_program};
 use mv_catalog::resolved::{CopyInfo, Program};
 use mv_core::drive::DriveFault;
 use mv_core::runs::replay;
@@ -19,7 +19,7 @@ use mv_journal::fault::LineFault;
 use mv_journal::journal::read_journal;
 use mv_journal::outcome::Outcome;
 use mv_report::render::render;
-use mv_script::script::Script;
+use mv_script::script::CompiledScript;
 use mv_values::calls::Options;
 use mv_values::list::List;
 use mv_values::memory::NoMemory;
@@ -69,12 +69,12 @@ impl From<LineFault> for NoText {
 }
 
 /// Makes the events of a journal, one after another, and returns their outcome. Costs the work of the calls.
-fn run_journal(alloc: Global, script: Script, events: &[Event]) -> Result<Outcome, NoText>
-    requires script { IsScript script }
+fn run_journal(alloc: Global, script: CompiledScript, events: &[Event]) -> Result<Outcome, NoText>
+    requires script { IsCompiledScript script }
     requires few { length events.now < 2 ^ 32 }
-    ensures lawful { IfOk result (λ _. Lawful (work_of script) events.now) }
-    ensures outcome { IfOk result (λ outcome. outcome ≡ outcome_of (work_of script) events.now) }
-    ensures wrong { IfErr result (TellsWrong (work_of script) events.now) }
+    ensures lawful { IfOk result (λ _. Lawful (batch_of script) events.now) }
+    ensures outcome { IfOk result (λ outcome. outcome ≡ outcome_of (batch_of script) events.now) }
+    ensures wrong { IfErr result (TellsWrong (batch_of script) events.now) }
 {
     Ok(replay(alloc, script, events)?)
 }
@@ -108,7 +108,7 @@ pub(crate) fn journal_text(
     ensures refused { IfErr result (TellsJournal options bytes.now program) }
 {
     let events = events_of(alloc, options, bytes, &program)?;
-    let Prepared { script, tables } = prepare(alloc, program, options)?;
+    let CompiledProgram { script, tables } = compile_program(alloc, program, options)?;
     let outcome = run_journal(alloc, script, events.as_slice())?;
     Ok(render(alloc, &tables, &outcome)?)
 }

@@ -8,7 +8,7 @@ ghost use Rattle.mv_top.specs.Parts.{length_in, parts_from, parts_after, parts_o
 
 use crate::refusal::Refusal;
 use mv_accept::accept::MOST_BYTES;
-use mv_accept::refusal::Refusal as ScriptRefusal;
+use mv_accept::refusal::ScriptRefusal;
 use mv_journal::line::number_of;
 use mv_words::command::Command;
 

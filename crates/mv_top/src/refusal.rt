@@ -3,8 +3,8 @@
 ghost use Rattle.std.specs.Prelude.{◌≡◌, ◌++◌, IfOk, codes, decimal};
 ghost use Rattle.mv_top.specs.Refusals.{event_number, number_of, line_of, journal_line};
 
-use mv_accept::refusal::Refusal as ScriptRefusal;
-use mv_lawful::fault::Fault;
+use mv_accept::refusal::ScriptRefusal;
+use mv_lawful::fault::EventFault;
 use mv_values::memory::NoMemory;
 use mv_values::txt::Txt;
 use std::alloc::Global;
@@ -19,7 +19,7 @@ pub enum Refusal {
     /// This line of the journal isn't an event, and all lines before it are.
     Line { n: u32 },
     /// The event on this line of the journal is refused, and all events before it are allowed.
-    Event { n: u32, fault: Fault },
+    Event { n: u32, fault: EventFault },
     /// The events of the journal are allowed, and this is the first call that isn't done at its end.
     Open { call: u32 },
 }
@@ -85,16 +85,16 @@ impl Refusal {
 }
 
 /// Returns the number of the refusal of an event.
-fn event_number(fault: Fault) -> u32
+fn event_number(fault: EventFault) -> u32
     ensures { result ≡ event_number fault }
 {
     match fault {
-        Fault::Order => 16,
-        Fault::Conflict => 17,
-        Fault::Idle => 18,
-        Fault::Rounds => 19,
-        Fault::Stale => 20,
-        Fault::Kind => 25,
+        EventFault::Order => 16,
+        EventFault::Conflict => 17,
+        EventFault::Idle => 18,
+        EventFault::Rounds => 19,
+        EventFault::Stale => 20,
+        EventFault::Kind => 25,
     }
 }
 

@@ -3,7 +3,7 @@
 ghost use Rattle.std.specs.Prelude.{◌≡◌, ◌<◌, ◌≤◌, ◌^◌, length, IfOk, IfErr};
 ghost use Rattle.mv_accept.specs.Accepting.{most_calls};
 ghost use Rattle.mv_record.specs.Databases.{IsProgram};
-ghost use Rattle.mv_script.specs.Scripts.{IsScript, work_of};
+ghost use Rattle.mv_script.specs.Scripts.{IsCompiledScript, batch_of};
 ghost use Rattle.mv_lawful.specs.Lawful.{Lawful};
 ghost use Rattle.mv_explain.specs.Text.{why_text};
 ghost use Rattle.mv_top.specs.Whys.{IsWhyText};
@@ -11,11 +11,11 @@ ghost use Rattle.mv_top.specs.Refusing.{TellsWrong, TellsJournal};
 
 use crate::journals::events_of;
 use crate::refusal::NoText;
-use crate::script::{Prepared, prepare};
+use crate::script::{CompiledProgram, compile_program};
 use mv_catalog::resolved::Program;
 use mv_explain::explain::explain;
 use mv_journal::event::Event;
-use mv_script::script::Script;
+use mv_script::script::CompiledScript;
 use mv_values::calls::Options;
 use mv_values::list::List;
 use mv_values::schema::TableInfo;
@@ -24,15 +24,15 @@ use std::alloc::Global;
 /// Makes the events of a journal, one after another, and returns the lines of their repairs. Costs the work of the calls.
 fn explain_journal(
     alloc: Global,
-    script: Script,
+    script: CompiledScript,
     tables: &[TableInfo],
     events: &[Event],
 ) -> Result<List<u8>, NoText>
-    requires script { IsScript script }
+    requires script { IsCompiledScript script }
     requires few { length events.now < 2 ^ 32 }
-    ensures lawful { IfOk result (λ _. Lawful (work_of script) events.now) }
-    ensures text { IfOk result (λ text. text ≡ why_text tables.now (work_of script) events.now) }
-    ensures wrong { IfErr result (TellsWrong (work_of script) events.now) }
+    ensures lawful { IfOk result (λ _. Lawful (batch_of script) events.now) }
+    ensures text { IfOk result (λ text. text ≡ why_text tables.now (batch_of script) events.now) }
+    ensures wrong { IfErr result (TellsWrong (batch_of script) events.now) }
 {
     Ok(explain(alloc, script, tables, events)?)
 }
@@ -51,6 +51,6 @@ pub(crate) fn why_text(
     ensures refused { IfErr result (TellsJournal options bytes.now program) }
 {
     let events = events_of(alloc, options, bytes, &program)?;
-    let Prepared { script, tables } = prepare(alloc, program, options)?;
+    let CompiledProgram { script, tables } = compile_program(alloc, program, options)?;
     explain_journal(alloc, script, tables.as_slice(), events.as_slice())
 }

@@ -3,18 +3,18 @@
 ghost use Rattle.std.specs.Prelude.{◌≤◌, length, IfOk};
 ghost use Rattle.mv_accept.specs.Accepting.{most_calls};
 ghost use Rattle.mv_record.specs.Databases.{IsProgram};
-ghost use Rattle.mv_script.specs.Scripts.{IsScript, work_of};
+ghost use Rattle.mv_script.specs.Scripts.{IsCompiledScript, batch_of};
 ghost use Rattle.mv_top.specs.Workers.{IsLeftBy};
 ghost use Rattle.mv_top.specs.Answers.{IsTextOfWorkers};
 
-use crate::script::{Prepared, prepare};
+use crate::script::{CompiledProgram, compile_program};
 use mv_catalog::resolved::Program;
 use mv_core::runs::run_in_turn;
 use mv_edge::pace::Pace;
 use mv_gate::gate;
 use mv_journal::outcome::Outcome;
 use mv_report::render::render;
-use mv_script::script::Script;
+use mv_script::script::CompiledScript;
 use mv_values::calls::Options;
 use mv_values::list::List;
 use mv_values::memory::NoMemory;
@@ -38,12 +38,12 @@ pub(crate) fn run_calls<R: Threads + Wait + Sync, P: Pace>(
     rt: &R,
     alloc: Global,
     threads: u32,
-    script: Script,
+    script: CompiledScript,
     pace: &P,
 ) -> Result<Outcome, NoMemory>
-    requires script { IsScript script }
+    requires script { IsCompiledScript script }
     requires few { length script.calls ≤ most_calls }
-    ensures { IfOk result (IsLeftBy threads (work_of script) (length script.calls)) }
+    ensures { IfOk result (IsLeftBy threads (batch_of script) (length script.calls)) }
 {
     if threads > 1 {
         gate::run(rt, alloc, script, threads.min(MOST_WORKERS), pace)
@@ -64,7 +64,7 @@ pub(crate) fn run_text<R: Threads + Wait + Sync, P: Pace>(
     requires few { length program.resolved.calls ≤ most_calls }
     ensures { IfOk result (IsTextOfWorkers crew.threads crew.options program) }
 {
-    let Prepared { script, tables } = prepare(alloc, program, crew.options)?;
+    let CompiledProgram { script, tables } = compile_program(alloc, program, crew.options)?;
     let outcome = run_calls(rt, alloc, crew.threads, script, pace)?;
     render(alloc, &tables, &outcome)
 }

@@ -6,7 +6,7 @@ ghost use Rattle.mv_journal.specs.declared.event.Event.{Event};
 ghost use Rattle.mv_journal.specs.declared.event.Event.TheVariants.{B};
 ghost use Rattle.mv_trace.specs.Bars.{AreBars, AreOpen, is_begin, has_ended};
 
-use crate::fault::Fault;
+use crate::fault::TextFault;
 use mv_journal::event::Event;
 use mv_values::list::List;
 use std::alloc::Global;
@@ -87,13 +87,13 @@ impl Bar {
 }
 
 /// Returns the bar of a call that is live. The line of the event is told where the call isn't.
-fn live_bar(bars: &[Bar], call: u32, line: usize) -> Result<Bar, Fault>
+fn live_bar(bars: &[Bar], call: u32, line: usize) -> Result<Bar, TextFault>
     ensures bar { IfOk result (λ bar. slice_get bars.now call ≡ Some bar) }
     ensures within { OnOk result (call < length bars.now) }
 {
     match bars.get(call as usize) {
         Some(bar) if bar.from == bar.to => Ok(*bar),
-        _ => Err(Fault::Line(line)),
+        _ => Err(TextFault::Line(line)),
     }
 }
 
@@ -106,7 +106,7 @@ fn have_ended(bars: &[Bar]) -> bool
 
 /// Returns the bars of the calls of a journal, by the numbers of the calls: one for each. Fails if a call begins out of
 /// turn, if an event is of a call that isn't live, or if a call doesn't end. The first event is on this line.
-pub(crate) fn bars_of(alloc: Global, first: usize, events: &[Event]) -> Result<List<Bar>, Fault>
+pub(crate) fn bars_of(alloc: Global, first: usize, events: &[Event]) -> Result<List<Bar>, TextFault>
     ensures bars { IfOk result (AreBars events.now) }
     ensures each { IfOk result (λ bars. length bars ≡ count_by is_begin events.now) }
 {
@@ -117,12 +117,12 @@ pub(crate) fn bars_of(alloc: Global, first: usize, events: &[Event]) -> Result<L
     if have_ended(bars.as_slice()) {
         Ok(bars)
     } else {
-        Err(Fault::Line(first.saturating_add(events.len())))
+        Err(TextFault::Line(first.saturating_add(events.len())))
     }
 }
 
 /// Brings the bars past an event, which is on this line.
-fn add_event(bars: &mut List<Bar>, line: usize, at: usize, event: &Event) -> Result<(), Fault>
+fn add_event(bars: &mut List<Bar>, line: usize, at: usize, event: &Event) -> Result<(), TextFault>
     ensures { (events : Seq Event) → length events ≡ at → AreOpen events bars.old → OnOk result (AreOpen (events ++ event.now ∷ []) bars.new) }
 {
     match *event {
@@ -158,11 +158,11 @@ fn add_event(bars: &mut List<Bar>, line: usize, at: usize, event: &Event) -> Res
 }
 
 /// Adds the bar of a call that begins.
-fn begin(bars: &mut List<Bar>, line: usize, at: usize, call: u32) -> Result<(), Fault>
+fn begin(bars: &mut List<Bar>, line: usize, at: usize, call: u32) -> Result<(), TextFault>
     ensures { (events : Seq Event) → length events ≡ at → AreOpen events bars.old → OnOk result (AreOpen (events ++ B call ∷ []) bars.new) }
 {
     if call as usize != bars.len() {
-        return Err(Fault::Line(line));
+        return Err(TextFault::Line(line));
     }
     bars.push(Bar::begun(at))?;
     Ok(())

@@ -4,7 +4,7 @@ ghost use Rattle.std.specs.Prelude.{◌≡◌, map, IfOk, OnOk};
 
 use crate::bars::Bar;
 use crate::costs::{Cost, cost_of};
-use crate::fault::Fault;
+use crate::fault::TextFault;
 use crate::run::{End, Run};
 use mv_journal::outcome::{HistoryLine, Round};
 use mv_values::list::List;
@@ -42,14 +42,14 @@ pub(crate) fn calls_of<'a>(
     run: &Run<'a>,
     bars: &[Bar],
     names: Option<&List<&'a [u8]>>,
-) -> Result<List<Call<'a>>, Fault>
+) -> Result<List<Call<'a>>, TextFault>
     ensures { IfOk result (λ calls. map (λ call. call.bar) calls ≡ bars.now) }
 {
     if run.ends.len() != bars.len() {
-        return Err(Fault::Line(run.history_at));
+        return Err(TextFault::Line(run.history_at));
     }
     if run.history.len() != bars.len() {
-        return Err(Fault::Line(run.journal_at));
+        return Err(TextFault::Line(run.journal_at));
     }
     let mut calls = List::new(alloc);
     for number in 0..bars.len() {
@@ -97,16 +97,16 @@ fn last_start(rounds: &[Round]) -> u32 {
 }
 
 /// Notes a line of the history, and its cost, at its call. The line is at this place.
-fn note_line(calls: &mut List<Call>, place: usize, line: &HistoryLine) -> Result<(), Fault>
+fn note_line(calls: &mut List<Call>, place: usize, line: &HistoryLine) -> Result<(), TextFault>
     ensures { OnOk result (map (λ call. call.bar) calls.new ≡ map (λ call. call.bar) calls.old) }
 {
     let at = line.call as usize;
     let Some(call) = calls.as_slice().get(at) else {
-        return Err(Fault::Line(place));
+        return Err(TextFault::Line(place));
     };
     let call = *call;
     if call.cost.rounds != 0 {
-        return Err(Fault::Line(place));
+        return Err(TextFault::Line(place));
     }
     let noted = Call {
         commit: line.commit,

@@ -7,7 +7,7 @@ use mv_values::memory::NoMemory;
 
 /// Why a text or its script is refused.
 #[derive(Clone, Copy)]
-pub enum Fault {
+pub enum TextFault {
     /// This line of the text, from 1, isn't one that `run`, `replay` or `graph` writes there.
     Line(usize),
     /// From this byte of the script on, from 1, no token begins.
@@ -19,23 +19,23 @@ pub enum Fault {
     NoMemory,
 }
 
-impl Fault {
+impl TextFault {
     /// Adds a sentence on the fault and its place. If memory ran out, nothing is added.
     pub fn add_sentence(self, text: &mut List<u8>) -> Result<(), NoMemory> {
         match self {
-            Fault::Line(line) => {
+            TextFault::Line(line) => {
                 add_count(text, b"show: line ", line)?;
                 text.append(b" of the input isn't what mv3c run, replay or graph writes there\n")
             }
-            Fault::Byte(byte) => {
+            TextFault::Byte(byte) => {
                 add_count(text, b"show: the script can't be read from byte ", byte)?;
                 text.append(b" on\n")
             }
-            Fault::Calls { text: ours, script } => add_difference(text, b"calls", ours, script),
-            Fault::Statements { text: ours, script } => {
+            TextFault::Calls { text: ours, script } => add_difference(text, b"calls", ours, script),
+            TextFault::Statements { text: ours, script } => {
                 add_difference(text, b"statements", ours, script)
             }
-            Fault::NoMemory => Ok(()),
+            TextFault::NoMemory => Ok(()),
         }
     }
 }
@@ -54,19 +54,19 @@ fn add_difference(
     text.push(b'\n')
 }
 
-impl From<NoMemory> for Fault {
-    fn from(_error: NoMemory) -> Fault {
-        Fault::NoMemory
+impl From<NoMemory> for TextFault {
+    fn from(_error: NoMemory) -> TextFault {
+        TextFault::NoMemory
     }
 }
 
-impl From<LexFault> for Fault {
-    fn from(error: LexFault) -> Fault {
+impl From<LexFault> for TextFault {
+    fn from(error: LexFault) -> TextFault {
         match error {
             LexFault::BadByte { at } | LexFault::BadToken { at } => {
-                Fault::Byte((at as usize).saturating_add(1))
+                TextFault::Byte((at as usize).saturating_add(1))
             }
-            LexFault::NoMemory => Fault::NoMemory,
+            LexFault::NoMemory => TextFault::NoMemory,
         }
     }
 }

@@ -1,6 +1,6 @@
 //! What the text of a graph says.
 
-use crate::fault::Fault;
+use crate::fault::TextFault;
 use mv_values::list::List;
 use mv_values::memory::NoMemory;
 use std::alloc::Global;
@@ -39,7 +39,7 @@ pub fn is_graph(text: &[u8]) -> bool {
 }
 
 /// Reads the text of graphs, procedure by procedure.
-pub fn read_graph(alloc: Global, text: &[u8]) -> Result<List<Procedure<'_>>, Fault> {
+pub fn read_graph(alloc: Global, text: &[u8]) -> Result<List<Procedure<'_>>, TextFault> {
     let mut procedures: List<Procedure> = List::new(alloc);
     let mut number = 0usize;
     for line in text.split(|byte| *byte == b'\n') {
@@ -48,10 +48,10 @@ pub fn read_graph(alloc: Global, text: &[u8]) -> Result<List<Procedure<'_>>, Fau
             return Ok(procedures);
         }
         if !read_line(alloc, &mut procedures, line)? {
-            return Err(Fault::Line(number));
+            return Err(TextFault::Line(number));
         }
     }
-    Err(Fault::Line(number))
+    Err(TextFault::Line(number))
 }
 
 /// Reads a line: one of a procedure, or one of a statement of the last procedure. Returns whether it is such a line.

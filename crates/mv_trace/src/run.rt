@@ -1,6 +1,6 @@
 //! The parts of the text of a run.
 
-use crate::fault::Fault;
+use crate::fault::TextFault;
 use crate::rounds::line_in;
 use mv_journal::event::Event;
 use mv_journal::line::read_event;
@@ -41,7 +41,7 @@ enum Part {
 }
 
 /// Reads the text of a run, up to its tables.
-pub(crate) fn read_run(alloc: Global, text: &[u8]) -> Result<Run<'_>, Fault> {
+pub(crate) fn read_run(alloc: Global, text: &[u8]) -> Result<Run<'_>, TextFault> {
     let mut run = Run {
         ends: List::new(alloc),
         history_at: 0,
@@ -58,7 +58,7 @@ pub(crate) fn read_run(alloc: Global, text: &[u8]) -> Result<Run<'_>, Fault> {
             return Ok(run);
         }
     }
-    Err(Fault::Line(number))
+    Err(TextFault::Line(number))
 }
 
 impl<'a> Run<'a> {
@@ -69,7 +69,7 @@ impl<'a> Run<'a> {
         part: Part,
         number: usize,
         line: &'a [u8],
-    ) -> Result<Part, Fault> {
+    ) -> Result<Part, TextFault> {
         match part {
             Part::Replies => self.read_reply(number, line),
             Part::History => self.read_call(alloc, number, line),
@@ -79,40 +79,40 @@ impl<'a> Run<'a> {
 
     /// Reads a line of a reply. After the first one come those of PRINT, which are left out. They have texts in quotes, so
     /// none is like the first line of a reply or like `history`.
-    fn read_reply(&mut self, number: usize, line: &'a [u8]) -> Result<Part, Fault> {
+    fn read_reply(&mut self, number: usize, line: &'a [u8]) -> Result<Part, TextFault> {
         if line == b"history".as_slice() {
             self.history_at = number;
             return Ok(Part::History);
         }
         match end_in(line, self.ends.len()) {
             Some(end) => self.ends.push(end)?,
-            None if self.ends.len() == 0 => return Err(Fault::Line(number)),
+            None if self.ends.len() == 0 => return Err(TextFault::Line(number)),
             None => {}
         }
         Ok(Part::Replies)
     }
 
     /// Reads a line of the history.
-    fn read_call(&mut self, alloc: Global, number: usize, line: &[u8]) -> Result<Part, Fault> {
+    fn read_call(&mut self, alloc: Global, number: usize, line: &[u8]) -> Result<Part, TextFault> {
         if line == b"journal".as_slice() {
             self.journal_at = number;
             return Ok(Part::Journal);
         }
         match line_in(alloc, line)? {
             Some(call) => self.history.push(call)?,
-            None => return Err(Fault::Line(number)),
+            None => return Err(TextFault::Line(number)),
         }
         Ok(Part::History)
     }
 
     /// Reads a line of the journal, or the first line after it.
-    fn read_event(&mut self, number: usize, line: &[u8]) -> Result<Part, Fault> {
+    fn read_event(&mut self, number: usize, line: &[u8]) -> Result<Part, TextFault> {
         if line.starts_with(b"table ") || line == b"end".as_slice() {
             return Ok(Part::Tables);
         }
         match read_event(line) {
             Some(event) => self.journal.push(event)?,
-            None => return Err(Fault::Line(number)),
+            None => return Err(TextFault::Line(number)),
         }
         Ok(Part::Journal)
     }

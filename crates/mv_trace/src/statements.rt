@@ -1,6 +1,6 @@
 //! The statements of a script, as lines.
 
-use crate::fault::Fault;
+use crate::fault::TextFault;
 use crate::tokens::{end_of, is_symbol, is_word, text_of, tokens_of};
 use mv_lex::token::Token;
 use mv_values::list::List;
@@ -33,7 +33,7 @@ pub struct Statement {
 }
 
 /// Returns the statements of all procedures of a script, in the order of the text.
-pub fn statements_of(alloc: Global, script: &[u8]) -> Result<List<Statement>, Fault> {
+pub fn statements_of(alloc: Global, script: &[u8]) -> Result<List<Statement>, TextFault> {
     let tokens = tokens_of(alloc, script)?;
     let tokens = tokens.as_slice();
     let mut statements = List::new(alloc);

@@ -1,6 +1,6 @@
 //! The tokens of a script.
 
-use crate::fault::Fault;
+use crate::fault::TextFault;
 use mv_lex::lexer::lex;
 use mv_lex::token::{Kind, Token};
 use mv_values::list::List;
@@ -10,9 +10,9 @@ use std::alloc::Global;
 const MOST: usize = 16_777_216;
 
 /// Returns the tokens of a script.
-pub(crate) fn tokens_of(alloc: Global, script: &[u8]) -> Result<List<Token>, Fault> {
+pub(crate) fn tokens_of(alloc: Global, script: &[u8]) -> Result<List<Token>, TextFault> {
     if script.len() > MOST {
-        return Err(Fault::Byte(MOST + 1));
+        return Err(TextFault::Byte(MOST + 1));
     }
     Ok(lex(alloc, script)?)
 }

@@ -5,7 +5,7 @@ ghost use Rattle.mv_trace.specs.Bars.{AreBars, is_begin};
 
 use crate::bars::bars_of;
 use crate::calls::{Call, calls_of};
-use crate::fault::Fault;
+use crate::fault::TextFault;
 use crate::names::names_of;
 use crate::run::read_run;
 use mv_journal::event::Event;
@@ -24,7 +24,7 @@ pub fn trace_of<'a>(
     alloc: Global,
     text: &'a [u8],
     script: Option<&'a [u8]>,
-) -> Result<Trace<'a>, Fault>
+) -> Result<Trace<'a>, TextFault>
     ensures bars { IfOk result (λ trace. AreBars trace.events (map (λ call. call.bar) trace.calls)) }
     ensures each { IfOk result (λ trace. length trace.calls ≡ count_by is_begin trace.events) }
 {
@@ -44,13 +44,13 @@ fn names_in<'a>(
     alloc: Global,
     script: Option<&'a [u8]>,
     calls: usize,
-) -> Result<Option<List<&'a [u8]>>, Fault> {
+) -> Result<Option<List<&'a [u8]>>, TextFault> {
     let Some(script) = script else {
         return Ok(None);
     };
     let names = names_of(alloc, script)?;
     if names.len() != calls {
-        return Err(Fault::Calls {
+        return Err(TextFault::Calls {
             text: calls,
             script: names.len(),
         });

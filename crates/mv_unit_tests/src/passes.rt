@@ -36,13 +36,13 @@ impl<N: Making> Model for Held<N> {
 
 /// The gate's pass, which appends the calls in their order. It is behind a lock.
 #[derive(Drop)]
-struct Desk<N: Making> {
+struct Scheduler<N: Making> {
     pass: Pass<N>,
     next: u32,
     calls: u32,
 }
 
-impl<N: Making> Model for Desk<N> {
+impl<N: Making> Model for Scheduler<N> {
     ghost use Rattle.std.specs.Prelude.{◌≡◌, ◌≤◌, ◌<◌, List, ℕ, length, true};
     ghost use Rattle.std.specs.List.{list_any};
     ghost use lib.Dec.{eqb};
@@ -76,13 +76,13 @@ impl<N: Making> Held<N> {
     }
 }
 
-impl<N: Making> Desk<N> {
-    fn new(pass: Pass<N>, calls: u32) -> Desk<N>
+impl<N: Making> Scheduler<N> {
+    fn new(pass: Pass<N>, calls: u32) -> Scheduler<N>
         requires pass { pass ≡ gate_pass }
         requires calls { calls ≡ length N.script.calls }
         ensures { result ≡ [] }
     {
-        Desk {
+        Scheduler {
             pass,
             next: 0,
             calls,
@@ -125,14 +125,14 @@ impl<N: Making> Desk<N> {
 fn work<N: Making, R: Wait>(
     rt: &R,
     board: &Board<N>,
-    desk: &Mutex<Desk<N>>,
+    scheduler: &Mutex<Scheduler<N>>,
     held: &mut Held<N>,
     calls: u32,
 )
     ensures { held.new ≡ held.old }
 {
     for _ in 0..calls {
-        desk.lock(rt).append(board, held);
+        scheduler.lock(rt).append(board, held);
     }
 }
 
@@ -147,16 +147,16 @@ fn append_all<N: Making + Send + Sync, R: Threads + Wait + Sync>(
     requires calls { calls ≡ length N.script.calls }
 {
     let (board, pass) = blank.open::<N>();
-    let mut desk = Desk::new(pass, calls);
-    let mut first = desk.start(&board);
-    let mut second = desk.start(&board);
-    let desk = Mutex::new(desk);
+    let mut scheduler = Scheduler::new(pass, calls);
+    let mut first = scheduler.start(&board);
+    let mut second = scheduler.start(&board);
+    let scheduler = Mutex::new(scheduler);
     join(
         rt,
-        || work(rt, &board, &desk, &mut first, calls),
-        || work(rt, &board, &desk, &mut second, calls),
+        || work(rt, &board, &scheduler, &mut first, calls),
+        || work(rt, &board, &scheduler, &mut second, calls),
     );
-    desk.into_inner().count(&board)
+    scheduler.into_inner().count(&board)
 }
 
 /// Returns calls without arguments.

@@ -8,10 +8,10 @@ ghost use Rattle.mv_exec.specs.Running.{IsRunning, IsTaskOf};
 use crate::cases::between;
 use crate::walks::{is_adopted, next_number, run, run_and_walk};
 use mv_accept::accept::accept;
-use mv_alone::line::line_from;
 use mv_cases::ensure::ensure;
 use mv_catalog::resolved::Program;
 use mv_compile::compile::compile;
+use mv_eval::line::line_from;
 use mv_exec::ahead::Ahead;
 use mv_exec::running::{adopt, peek};
 use mv_exec::step::Stepped;
@@ -411,13 +411,13 @@ fn reads_of(alloc: Global, ahead: &Ahead<'_>) -> Result<List<VarRead>, Fail> {
     Ok(reads)
 }
 
-/// Checks that a record is where it was foreseen.
-fn is_foreseen(alloc: Global, record: &RecordRef<'_>, ahead: &Ahead<'_>) -> Result<(), Fail> {
+/// Checks that a record is where `peek` showed it.
+fn is_peeked(alloc: Global, record: &RecordRef<'_>, ahead: &Ahead<'_>) -> Result<(), Fail> {
     let mut stands = String::new(alloc);
     tell_place_of(&mut stands, record)?;
-    let mut foreseen = String::new(alloc);
+    let mut peeked = String::new(alloc);
     tell_place(
-        &mut foreseen,
+        &mut peeked,
         ahead.statement(),
         ahead.turns(alloc)?.as_slice(),
         ahead.parent(),
@@ -425,16 +425,12 @@ fn is_foreseen(alloc: Global, record: &RecordRef<'_>, ahead: &Ahead<'_>) -> Resu
     )?;
     let turns = record.turns();
     ensure(alloc, ahead.is_in(turns), "other turns are ahead")?;
-    ensure(
-        alloc,
-        stands.as_str() == foreseen.as_str(),
-        foreseen.as_str(),
-    )
+    ensure(alloc, stands.as_str() == peeked.as_str(), peeked.as_str())
 }
 
 // Running calls
 
-/// Adopts the record of the run before the repair that has the next number. `peek` must foresee its place.
+/// Adopts the record of the run before the repair that has the next number. `peek` must show its place.
 fn adopt_next(alloc: Global, graph: &Graph, task: &mut Task) -> Result<(), Fail>
     requires sound { IsSound graph.now }
     requires running { IsRunning graph.now task.old }
@@ -449,7 +445,7 @@ fn adopt_next(alloc: Global, graph: &Graph, task: &mut Task) -> Result<(), Fail>
     if number as usize >= task.past().len() {
         return Err("no record is left".into());
     }
-    is_foreseen(alloc, &task.past().get(number as usize), &ahead)?;
+    is_peeked(alloc, &task.past().get(number as usize), &ahead)?;
     let stepped = adopt(alloc, graph, task, number)?;
     let ended = stepped == Stepped::Ended;
     ensure(alloc, ended == task.ended(), "a step that tells no end")?;
@@ -508,7 +504,7 @@ fn walks(
     has_left(alloc, &task, executed_by_walk(len, first), want)
 }
 
-/// Checks that a call that has run to its end leaves these records if it adopts them all, each where it was foreseen.
+/// Checks that a call that has run to its end leaves these records if it adopts them all, each where `peek` showed it.
 fn adopts(alloc: Global, graph: &Graph, call: &Call, mut task: Task, want: &str) -> Result<(), Fail>
     requires sound { IsSound graph.now }
     requires call { IsTaskOf graph.now call.now task }

@@ -4,7 +4,7 @@ use crate::cases::ensure_at;
 use mv_accept::accept::accept;
 use mv_compile::compile::compile;
 use mv_script::columns::indexed_columns;
-use mv_script::script::Script;
+use mv_script::script::CompiledScript;
 use mv_values::calls::Options;
 use mv_values::list::List;
 use mv_values::tested::Tested;
@@ -78,7 +78,7 @@ CREATE PROCEDURE d (:a INT) BEGIN DELETE FROM pays WHERE a = :a; END;
 
 fn indexed(alloc: Global, text: &str) -> Result<List<Tested>, Fail> {
     let program = accept(alloc, text.as_bytes()).or(Err("refused"))?;
-    let script = Script {
+    let script = CompiledScript {
         graphs: compile(alloc, &program.resolved)?,
         calls: List::new(alloc),
         opening: program.opening,

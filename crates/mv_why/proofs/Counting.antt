@@ -11,14 +11,14 @@ use Rattle.mv_recorded.proofs.Held.{get_last}
 use Rattle.mv_recorded.proofs.Rising.{recorded_rises}
 use Rattle.mv_history.specs.declared.change.Change.{Change}
 use Rattle.mv_history.specs.Kept.{Path, Placed, with_paths, among, kept_paths}
-use Rattle.mv_alike.proofs.Keeping.{Climbs, climbs_of}
+use Rattle.mv_soundness.proofs.Keeping.{Climbs, climbs_of}
 use Rattle.mv_changes.specs.declared.recent.Committed.{Committed}
 use Rattle.mv_why.specs.declared.cause.Cause.{Cause}
 use Rattle.mv_why.specs.declared.cause.Reason.{Reason}
 use Rattle.mv_why.specs.Causes.{why, changes_since, other_numbers, cause_of, causes_of}
 use Rattle.mv_why.specs.Laws.{AreFullRuns, CausesAreThese, OnlyTheseAreCauses, AsManyAsExecuted}
 use Rattle.mv_why.proofs.Fixed.{all_kept, fixed, one_more}
-use Rattle.mv_alike.proofs.Placing.{many_placed}
+use Rattle.mv_soundness.proofs.Placing.{many_placed}
 use Rattle.mv_why.proofs.Ruling.{points}
 
 -- Lists

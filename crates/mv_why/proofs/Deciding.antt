@@ -6,8 +6,8 @@ use Rattle.mv_record.specs.Paths.{paths}
 use Rattle.mv_record.specs.Runs.{writes_in}
 use Rattle.mv_undo.specs.Owning.{earlier}
 use Rattle.mv_history.specs.Kept.{Path, Placed, with_paths, among}
-use Rattle.mv_alike.proofs.Keeping.{Climbs, climbs_of}
-use Rattle.mv_alike.proofs.Placing.{its, its_all, many_paths, many_placed}
+use Rattle.mv_soundness.proofs.Keeping.{Climbs, climbs_of}
+use Rattle.mv_soundness.proofs.Placing.{its, its_all, many_paths, many_placed}
 use Rattle.mv_why.specs.declared.cause.Reason.{Reason}
 use Rattle.mv_why.specs.declared.run.Runs.{Runs}
 use Rattle.mv_why.specs.declared.walk.Walk.{Walk}

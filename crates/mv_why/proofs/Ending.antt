@@ -8,7 +8,7 @@ use Rattle.mv_record.specs.declared.record.Record.{Record}
 use Rattle.mv_record.specs.Paths.{paths, PathsRise}
 use Rattle.mv_undo.specs.Owning.{HasWritesOf}
 use Rattle.mv_history.specs.Kept.{Placed, with_paths}
-use Rattle.mv_alike.proofs.Keeping.{climbs_of}
+use Rattle.mv_soundness.proofs.Keeping.{climbs_of}
 use Rattle.mv_changes.specs.declared.recent.Committed.{Committed}
 use Rattle.mv_why.specs.declared.cause.Cause.{Cause}
 use Rattle.mv_why.specs.declared.cause.Reason.{Reason}
@@ -19,7 +19,7 @@ use Rattle.mv_why.specs.Laws.{AreFullRuns}
 use Rattle.mv_why.specs.Walking.{kept_of, AreOf, AreSound}
 use Rattle.mv_why.proofs.Counting.{told, causes_more, old_rises, fresh_rises}
 use Rattle.mv_why.proofs.Lists.{got_there}
-use Rattle.mv_alike.proofs.Placing.{many_placed}
+use Rattle.mv_soundness.proofs.Placing.{many_placed}
 
 pub sound_of : (old fresh : List Record) (since : List Committed) (runs : Runs) → AreOf old fresh since runs → AreFullRuns old fresh (changes_since since) → AreSound runs
 sound_of old fresh since runs are full =

@@ -10,9 +10,9 @@ use Rattle.mv_recorded.proofs.Inverting.{each_map}
 use Rattle.mv_history.specs.declared.change.Change.{Change}
 use Rattle.mv_history.specs.Hits.{any_hits, touches}
 use Rattle.mv_history.specs.Kept.{Path, Placed, is_path, among, at, front, path_at, is_kept, same_path, reads_stay, other_writes, is_untouched, stays_with, stays, keep}
-use Rattle.mv_alike.proofs.Keeping.{Climbs, among_more, among_new}
-use Rattle.mv_alike.proofs.Placing.{path_is, apart, apart_back, not_itself}
-use Rattle.mv_alike.proofs.Walking.{earlier_then, climbs_parts}
+use Rattle.mv_soundness.proofs.Keeping.{Climbs, among_more, among_new}
+use Rattle.mv_soundness.proofs.Placing.{path_is, apart, apart_back, not_itself}
+use Rattle.mv_soundness.proofs.Walking.{earlier_then, climbs_parts}
 
 -- Step by step
 

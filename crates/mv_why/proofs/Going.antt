@@ -15,9 +15,9 @@ use Rattle.mv_recorded.proofs.Inverting.{each_map, each_join}
 use Rattle.mv_history.specs.declared.change.Change.{Change}
 use Rattle.mv_history.specs.Hits.{touches}
 use Rattle.mv_history.specs.Kept.{Path, Placed, with_paths, among, kept_paths}
-use Rattle.mv_alike.proofs.Keeping.{Climbs, climbs_of}
-use Rattle.mv_alike.proofs.Placing.{its, its_all, placed_paths}
-use Rattle.mv_alike.proofs.Walking.{earlier_then, climbs_parts}
+use Rattle.mv_soundness.proofs.Keeping.{Climbs, climbs_of}
+use Rattle.mv_soundness.proofs.Placing.{its, its_all, placed_paths}
+use Rattle.mv_soundness.proofs.Walking.{earlier_then, climbs_parts}
 use Rattle.mv_why.specs.declared.run.Run.{Run}
 use Rattle.mv_why.specs.declared.walk.Walk.{Walk}
 use Rattle.mv_why.specs.Causes.{is_touching, touching}

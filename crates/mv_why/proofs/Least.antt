@@ -8,9 +8,9 @@ use Rattle.mv_record.specs.declared.record.Record.{Record}
 use Rattle.mv_record.specs.Paths.{IsEarlierPath}
 use Rattle.mv_recorded.specs.Own.{Each}
 use Rattle.mv_history.specs.Kept.{Path, Placed}
-use Rattle.mv_alike.proofs.Keeping.{Climbs}
-use Rattle.mv_alike.proofs.Placing.{not_itself}
-use Rattle.mv_alike.proofs.Walking.{earlier_then}
+use Rattle.mv_soundness.proofs.Keeping.{Climbs}
+use Rattle.mv_soundness.proofs.Placing.{not_itself}
+use Rattle.mv_soundness.proofs.Walking.{earlier_then}
 use Rattle.mv_why.specs.Causes.{is_touching, touching, lesser, least}
 use Rattle.mv_why.specs.Walking.{earlier_of, first_of}
 

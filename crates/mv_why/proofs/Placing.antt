@@ -7,7 +7,7 @@ use Rattle.mv_record.specs.declared.record.Record.{Record}
 use Rattle.mv_record.specs.declared.record.Spot.{Spot}
 use Rattle.mv_record.specs.Paths.{Nest, path, inside, nest_of, nests_behind, paths}
 use Rattle.mv_history.specs.Kept.{Path, Placed, with_paths, next_placed}
-use Rattle.mv_alike.proofs.Placing.{placed_paths, placed_more}
+use Rattle.mv_soundness.proofs.Placing.{placed_paths, placed_more}
 use Rattle.mv_why.specs.Walking.{path_behind}
 use Rattle.mv_why.proofs.Lists.{got_there}
 

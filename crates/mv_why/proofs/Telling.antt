@@ -13,9 +13,9 @@ use Rattle.mv_record.specs.Paths.{paths, IsEarlierPath}
 use Rattle.mv_recorded.specs.Own.{Each}
 use Rattle.mv_recorded.proofs.Inverting.{each_map, each_both}
 use Rattle.mv_history.specs.Kept.{Path, Placed, with_paths, is_path, among, at, front, path_at, is_kept, same_path}
-use Rattle.mv_alike.proofs.Keeping.{Climbs, climbs_of}
-use Rattle.mv_alike.proofs.Placing.{path_is, apart, apart_back, its, placed_paths}
-use Rattle.mv_alike.proofs.Walking.{earlier_then, climbs_parts, at_past}
+use Rattle.mv_soundness.proofs.Keeping.{Climbs, climbs_of}
+use Rattle.mv_soundness.proofs.Placing.{path_is, apart, apart_back, its, placed_paths}
+use Rattle.mv_soundness.proofs.Walking.{earlier_then, climbs_parts, at_past}
 use Rattle.mv_why.specs.declared.cause.Reason.{Reason}
 use Rattle.mv_why.specs.declared.cause.Reason.TheVariants.{New, Controller, Reads, Touched}
 use Rattle.mv_why.specs.declared.run.Runs.{Runs}

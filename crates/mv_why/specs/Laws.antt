@@ -11,7 +11,7 @@ use Rattle.mv_catalog.specs.declared.resolved.ProcInfo.{ProcInfo}
 use Rattle.mv_record.specs.declared.record.Record.{Record}
 use Rattle.mv_recorded.specs.Own.{Each}
 use Rattle.mv_recorded.specs.Recorded.{recorded}
-use Rattle.mv_alike.specs.Laws.{AreRuns}
+use Rattle.mv_soundness.specs.Laws.{AreRuns}
 use Rattle.mv_history.specs.declared.change.Change.{Change}
 use Rattle.mv_history.specs.Changes.{place, InOrder}
 use Rattle.mv_history.specs.Hits.{hits, any_hits}

@@ -5,7 +5,7 @@ use Rattle.std.specs.Option.{option_and_then}
 use Rattle.mv_values.specs.declared.value.Value.{Value}
 use Rattle.mv_values.specs.declared.schema.TableInfo.{TableInfo}
 use Rattle.mv_values.specs.Texts.{line}
-use Rattle.mv_alone.specs.Line.{line_of}
+use Rattle.mv_eval.specs.Line.{line_of}
 use Rattle.mv_record.specs.declared.record.Record.{Record}
 use Rattle.mv_record.specs.Paths.{paths}
 use Rattle.mv_history.specs.Kept.{Path}

@@ -1,6 +1,6 @@
 use Rattle.std.proofs.Common.{◌≡◌, map, drop}
 use Rattle.mv_lawful.specs.Lawful.{first_open}
-use Rattle.mv_audit.specs.Courses.{live_of}
+use Rattle.mv_audit.specs.Schedules.{live_of}
 use Rattle.mv_audit.proofs.judge.first_open.Given as goal
 
 abbrev pub invariant-loop-call : goal.invariant-loop-call

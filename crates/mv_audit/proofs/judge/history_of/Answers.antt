@@ -1,8 +1,8 @@
 use Rattle.std.proofs.Common.{◌++◌, ◌+◌, List, map, drop, sym, ap, ◌∙◌}
 use Rattle.std.proofs.lemmas.List.{get_or_default}
 use Rattle.mv_journal.specs.declared.outcome.HistoryLine.{HistoryLine}
-use Rattle.mv_audit.specs.declared.course.Live.{Live}
-use Rattle.mv_audit.specs.Courses.{line_of}
+use Rattle.mv_audit.specs.declared.schedule.Live.{Live}
+use Rattle.mv_audit.specs.Schedules.{line_of}
 use Rattle.mv_audit.proofs.Ending.{line_more}
 use Rattle.mv_audit.proofs.judge.history_of.Goals as goal
 

@@ -1,5 +1,5 @@
 use Rattle.std.proofs.Common.{◌≡◌, ◌++◌, map, drop}
-use Rattle.mv_audit.specs.Courses.{line_of}
+use Rattle.mv_audit.specs.Schedules.{line_of}
 use Rattle.mv_audit.proofs.judge.history_of.Given as goal
 
 abbrev pub invariant-loop-place : goal.invariant-loop-place

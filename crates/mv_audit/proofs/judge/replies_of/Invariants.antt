@@ -1,5 +1,5 @@
 use Rattle.std.proofs.Common.{◌≡◌, ◌++◌, drop}
-use Rattle.mv_audit.specs.Courses.{replies_in}
+use Rattle.mv_audit.specs.Schedules.{replies_in}
 use Rattle.mv_audit.proofs.judge.replies_of.Given as goal
 
 abbrev pub invariant-loop-call : goal.invariant-loop-call

@@ -1,5 +1,5 @@
 use Rattle.std.proofs.Common.{◌≡◌, ◌++◌, map, drop}
-use Rattle.mv_audit.specs.declared.course.Live.{Live}
+use Rattle.mv_audit.specs.declared.schedule.Live.{Live}
 use Rattle.mv_audit.proofs.judge.starts_of.Given as goal
 
 abbrev pub invariant-loop-call : goal.invariant-loop-call

@@ -1,7 +1,7 @@
 use Rattle.std.proofs.Common.{length, sym, ap, subst, ◌∙◌}
 use Rattle.mv_history.specs.Kept.{zip_paths}
-use Rattle.mv_alike.proofs.Keeping.{Climbs, climbs_of}
-use Rattle.mv_alike.proofs.Placing.{many_paths}
+use Rattle.mv_soundness.proofs.Keeping.{Climbs, climbs_of}
+use Rattle.mv_soundness.proofs.Placing.{many_paths}
 use Rattle.mv_audit.proofs.kept.executions.Goals as goal
 
 pub compared-requires : goal.compared-requires

@@ -1,13 +1,13 @@
 use Rattle.std.proofs.Common.{List, [], ◌∷◌, ◌++◌, slice_set, ap, ◌∙◌}
 use Rattle.mv_values.specs.Tables.{Tables}
 use Rattle.mv_history.specs.declared.change.Change.{Change}
-use Rattle.mv_audit.specs.Courses.{finished, left_by}
+use Rattle.mv_audit.specs.Schedules.{finished, left_by}
 use Rattle.mv_audit.proofs.Stepping.{commit_made}
 use Rattle.mv_audit.proofs.steps.with_commit.Goals as goal
 
 pub returns : goal.returns
 returns c l at =
-    let s = c.args.course in
+    let s = c.args.schedule in
     let old = c.replace-old.result in
     let new = c.args.records.now in
     let reply = c.args.reply in

@@ -1,6 +1,6 @@
 use Rattle.std.proofs.Common.{◌≡◌, ◌≤◌, ◌<◌, ℕ, None, Some}
 use Rattle.std.specs.Prelude.{slice_get}
-use Rattle.mv_audit.specs.declared.course.Live.{Live}
+use Rattle.mv_audit.specs.declared.schedule.Live.{Live}
 use Rattle.mv_audit.proofs.trimming.oldest_start.Given as goal
 
 abbrev pub invariant-loop-live : goal.invariant-loop-live

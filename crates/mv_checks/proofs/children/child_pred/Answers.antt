@@ -1,5 +1,5 @@
 use Rattle.std.proofs.Common.{◌≤◌, length, sym, subst, arith}
-use Rattle.mv_alone.proofs.Few.{key_few}
+use Rattle.mv_eval.proofs.Few.{key_few}
 use Rattle.mv_checks.proofs.children.child_pred.Goals as goal
 
 pub tests_of_key-requires : goal.tests_of_key-requires

@@ -1,7 +1,7 @@
 use Rattle.std.proofs.Common.{◌≡◌, ◌++◌, map, drop}
 use Rattle.mv_values.specs.declared.op.Op.TheVariants.{Eq}
 use Rattle.mv_values.specs.Columns.{column_of}
-use Rattle.mv_alone.specs.Rows.{test_on}
+use Rattle.mv_eval.specs.Rows.{test_on}
 use Rattle.mv_recorded.specs.Asking.{same_key}
 use Rattle.mv_checks.proofs.parents.key_tests.Given as goal
 

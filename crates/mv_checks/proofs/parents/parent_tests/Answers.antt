@@ -1,7 +1,7 @@
 use Rattle.std.proofs.Common.{◌++◌, map, sym, ap, ◌∙◌, append-nil}
 use Rattle.std.proofs.lemmas.List.{drop_all}
 use Rattle.mv_values.specs.declared.op.Op.TheVariants.{Eq}
-use Rattle.mv_alone.specs.Rows.{test_on}
+use Rattle.mv_eval.specs.Rows.{test_on}
 use Rattle.mv_checks.proofs.parents.parent_tests.Goals as goal
 
 pub returns : goal.returns

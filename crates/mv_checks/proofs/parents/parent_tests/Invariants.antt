@@ -1,6 +1,6 @@
 use Rattle.std.proofs.Common.{◌≡◌, ◌++◌, map, drop}
 use Rattle.mv_values.specs.declared.op.Op.TheVariants.{Eq}
-use Rattle.mv_alone.specs.Rows.{test_on}
+use Rattle.mv_eval.specs.Rows.{test_on}
 use Rattle.mv_checks.proofs.parents.parent_tests.Given as goal
 
 abbrev pub invariant-loop-column : goal.invariant-loop-column

@@ -22,5 +22,5 @@ returns-clause-made c = made_after G c.args.book.now c.reserve_event.new.self c.
 
 pub returns-clause-stored : goal.returns-clause-stored
 returns-clause-stored c =
-    stored_raised c.reserve_event.new.self c.collect-low.new.self c.args.store.now c.raise.new.self c.collect-low.new.self.course.low
+    stored_raised c.reserve_event.new.self c.collect-low.new.self c.args.store.now c.raise.new.self c.collect-low.new.self.schedule.low
     (stored_same c.args.book.now c.reserve_event.new.self c.args.store.now c.requires c.reserve_event.ensures.same) c.collect-low.ensures.made refl (subst (λ n. HasRaised n c.args.store.now c.raise.new.self) c.collect-low.ensures.low c.raise.ensures)

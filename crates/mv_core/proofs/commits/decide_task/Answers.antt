@@ -2,12 +2,12 @@ use Rattle.std.proofs.Common.{◌≡◌, ◌<◌, length, Some, ap, sym, ◌∙�
 use Rattle.std.specs.Prelude.{false}
 use Rattle.mv_values.proofs.Deciding.{always_err}
 use Rattle.mv_journal.specs.declared.event.Event.TheVariants.{X}
-use Rattle.mv_lawful.specs.Work.{records_at}
+use Rattle.mv_lawful.specs.Batch.{records_at}
 use Rattle.mv_lawful.specs.Lawful.{Live, is_stale}
-use Rattle.mv_script.specs.Scripts.{work_of}
+use Rattle.mv_script.specs.Scripts.{batch_of}
 use Rattle.mv_core.specs.Calls.{IsLive, IsLiveCall}
-use Rattle.mv_core.specs.Books.{work_in}
-use Rattle.mv_core.specs.Cores.{IsLiveTask, IsRepaired, HasTurns}
+use Rattle.mv_core.specs.Books.{batch_in}
+use Rattle.mv_core.specs.Cores.{IsLiveTask, IsRepaired, HasRoundStarts}
 use Rattle.mv_core.proofs.Stored.{stored_same}
 use Rattle.mv_core.proofs.Taking.{due_live, due_now, task_runs, task_back, task_given}
 use Rattle.mv_core.proofs.Changed.{on_new, on_old, running_same, allowed_same, due_decided, committed_after}
@@ -26,7 +26,7 @@ repair_last-requires-clause-fresh c = on_new (λ s x. (l : Live) → IsLive x c.
 
 pub repair_last-requires-clause-whole : goal.repair_last-requires-clause-whole
 repair_last-requires-clause-whole c =
-    on_new (λ s x. (l : Live) → IsLive x c.args.call l → c.args.running.now.task.log.records ≡ records_at (work_of s) x.order l.start c.args.call) c.args.book.now c.settle.new.self c.settle.ensures.same c.requires.whole
+    on_new (λ s x. (l : Live) → IsLive x c.args.call l → c.args.running.now.task.log.records ≡ records_at (batch_of s) x.order l.start c.args.call) c.args.book.now c.settle.new.self c.settle.ensures.same c.requires.whole
 
 pub returns-in_err-repair_last-clause-stored : goal.returns-in_err-repair_last-clause-stored
 returns-in_err-repair_last-clause-stored c = stored_same c.args.book.now c.settle.new.self c.args.store.now c.requires.stored c.settle.ensures.same
@@ -46,7 +46,7 @@ pub commit_task-committed-requires-clause-number : goal.commit_task-committed-re
 commit_task-committed-requires-clause-number c = on_new (λ s x. c.args.call < length s.calls) c.args.book.now c.settle.new.self c.settle.ensures.same c.requires.call.number
 
 pub commit_task-committed-requires-clause-allowed : goal.commit_task-committed-requires-clause-allowed
-commit_task-committed-requires-clause-allowed c = allowed_same (X c.args.call) c.args.book.now c.settle.new.self c.settle.ensures.same.script c.settle.ensures.same.course c.requires.allowed
+commit_task-committed-requires-clause-allowed c = allowed_same (X c.args.call) c.args.book.now c.settle.new.self c.settle.ensures.same.script c.settle.ensures.same.schedule c.requires.allowed
 
 pub commit_task-committed-requires-clause-whole : goal.commit_task-committed-requires-clause-whole
 commit_task-committed-requires-clause-whole c =
@@ -57,21 +57,21 @@ pub returns-else-is_err-clause-whole : goal.returns-else-is_err-clause-whole
 returns-else-is_err-clause-whole c =
     let live = on_new (λ s x. IsLiveCall x c.args.call) c.args.book.now c.settle.new.self c.settle.ensures.same c.requires.call.live in
     always_ok c.commit_task-committed.result _
-    (on_old (λ s x. c.repair_last.new.running.task.log.records ≡ records_at (work_of s) x.order (length x.order) c.args.call) c.args.book.now c.settle.new.self c.settle.ensures.same (c.in_ok-repair_last.ensures.ok live.0 live.1).records)
+    (on_old (λ s x. c.repair_last.new.running.task.log.records ≡ records_at (batch_of s) x.order (length x.order) c.args.call) c.args.book.now c.settle.new.self c.settle.ensures.same (c.in_ok-repair_last.ensures.ok live.0 live.1).records)
 
 pub commit_task-committed-requires-clause-own : goal.commit_task-committed-requires-clause-own
 commit_task-committed-requires-clause-own c =
     let live = on_new (λ s x. IsLiveCall x c.args.call) c.args.book.now c.settle.new.self c.settle.ensures.same c.requires.call.live in
-    let turns =
-    on_new (λ s x. (l : Live) → IsLive x c.args.call l → HasTurns (length x.order) l) c.args.book.now c.settle.new.self c.settle.ensures.same (λ l at. (c.requires.call.task l at).turns) in
-    due_decided c.settle.new.self c.args.call live.0 live.1 (turns live.0 live.1) ∙ ap Some (sym (c.in_ok-repair_last.ensures.ok live.0 live.1).executed)
+    let round_starts =
+    on_new (λ s x. (l : Live) → IsLive x c.args.call l → HasRoundStarts (length x.order) l) c.args.book.now c.settle.new.self c.settle.ensures.same (λ l at. (c.requires.call.task l at).round_starts) in
+    due_decided c.settle.new.self c.args.call live.0 live.1 (round_starts live.0 live.1) ∙ ap Some (sym (c.in_ok-repair_last.ensures.ok live.0 live.1).executed)
 
 pub returns-then-is_err-clause-task : goal.returns-then-is_err-clause-task
 returns-then-is_err-clause-task c = always_err c.commit_task-committed.result _ (λ l live.
     let due = due_now c.args.book.now c.args.call c.number-number.result c.args.running.now c.requires.call.live c.requires.call.task c.requires.whole c.number-number.ensures in
     let repaired = on_old (λ s x. (m : Live) → IsLive x c.args.call m → IsRepaired s x.order c.args.call m c.repair_last.new.running) c.args.book.now c.settle.new.self c.settle.ensures.same c.in_ok-repair_last.ensures.ok in
-    task_given c.args.book.now.script c.args.book.now.course.order c.args.call c.number-number.result l c.spend.new.self (c.requires.call.task l live).turns
-    (sym (due_live (work_in c.args.book.now) c.args.book.now.course c.args.call l live) ∙ due) c.spend.ensures.count c.spend.ensures.executed
+    task_given c.args.book.now.script c.args.book.now.schedule.order c.args.call c.number-number.result l c.spend.new.self (c.requires.call.task l live).round_starts
+    (sym (due_live (batch_in c.args.book.now) c.args.book.now.schedule c.args.call l live) ∙ due) c.spend.ensures.count c.spend.ensures.executed
     (task_back c.args.book.now.script c.args.call _ c.repair_last.new.running.task c.spend.new.self.task (task_runs c.args.book.now.script c.args.call _ c.repair_last.new.running.task (repaired l live).runs) c.spend.ensures.begins))
 
 pub returns-then-is_err-clause-made : goal.returns-then-is_err-clause-made

@@ -11,6 +11,6 @@ pub returns-clause-ok : goal.returns-clause-ok
 returns-clause-ok c = record {
   last = c.in_ok-put_told.ensures.ok.reads.last ∙ c.requires.stored.last;
   stamped = λ n new is stamp.
-      stored_stamped c.args.book.now.script c.args.book.now.course.order c.args.book.now.course.low c.args.call n c.args.records.now c.args.store.now c.put_told.new.store new
+      stored_stamped c.args.book.now.script c.args.book.now.schedule.order c.args.book.now.schedule.low c.args.call n c.args.records.now c.args.store.now c.put_told.new.store new
       c.requires.stored c.requires.number is c.tell_last.ensures.like c.in_ok-put_told.ensures.ok stamp c.requires.whole;
 }

@@ -10,7 +10,7 @@ whole_task-requires c = λ k. (
     search rules,
     (
       search rules,
-      (database_shown c.args.book.now c.args.call (length c.args.book.now.course.order) c.script.result.now c.new-view.result c.requires.stored.script c.script.ensures
+      (database_shown c.args.book.now c.args.call (length c.args.book.now.schedule.order) c.script.result.now c.new-view.result c.requires.stored.script c.script.ensures
           (shows_last c.args.book.now c.args.store.now c.commits.result c.new-view.result c.requires.stored c.commits.ensures c.new-view.ensures)),
     ),
   ),
@@ -21,5 +21,5 @@ no_memory-requires c = only_memory c.new-view.result c.whole_task.new.view c.in-
 
 pub returns-in-Ok-clause-records : goal.returns-in-Ok-clause-records
 returns-in-Ok-clause-records c =
-    records_back c.args.book.now c.args.call (length c.args.book.now.course.order) c.script.result.now c.new-view.result c.in-Ok.task.log.records c.script.ensures
+    records_back c.args.book.now c.args.call (length c.args.book.now.schedule.order) c.script.result.now c.new-view.result c.in-Ok.task.log.records c.script.ensures
     (shows_last c.args.book.now c.args.store.now c.commits.result c.new-view.result c.requires.stored c.commits.ensures c.new-view.ensures) c.in-Ok.ensures.records

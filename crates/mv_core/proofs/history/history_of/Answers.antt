@@ -4,7 +4,7 @@ use Rattle.std.proofs.lemmas.List.{get_or_default, length-map}
 use Rattle.mv_journal.specs.declared.outcome.HistoryLine.{HistoryLine}
 use Rattle.mv_lawful.specs.Places.{places}
 use Rattle.mv_lawful.specs.declared.places.Place.{Place}
-use Rattle.mv_core.specs.Calls.{line_of, course_with}
+use Rattle.mv_core.specs.Calls.{line_of, schedule_with}
 use Rattle.mv_core.proofs.Ending.{line_more, lines_told, place_within, starts_there, starts_past}
 use Rattle.mv_core.proofs.history.history_of.Goals as goal
 

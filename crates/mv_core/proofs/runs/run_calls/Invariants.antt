@@ -6,4 +6,4 @@ abbrev pub invariant-loop-call : goal.invariant-loop-call
 invariant-loop-call l = IsTurned l.fn.core.book l.core.book
 
 abbrev pub decreases-loop-call : goal.decreases-loop-call
-decreases-loop-call l = length l.core.book.script.calls - length l.core.book.course.calls
+decreases-loop-call l = length l.core.book.script.calls - length l.core.book.schedule.calls

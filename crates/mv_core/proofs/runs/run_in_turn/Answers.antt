@@ -6,7 +6,7 @@ use Rattle.mv_core.proofs.Turning.{turned_shut, turned_outcome}
 use Rattle.mv_core.proofs.runs.run_in_turn.Goals as goal
 
 pub outcome-requires : goal.outcome-requires
-outcome-requires c = turned_shut c.in_ok-core.core.book c.run_calls.new.core.book c.in_ok-core.ensures.course c.in_ok-run_calls.ensures
+outcome-requires c = turned_shut c.in_ok-core.core.book c.run_calls.new.core.book c.in_ok-core.ensures.schedule c.in_ok-run_calls.ensures
 
 if_ok : {P Q : Outcome → Type 0} (r : Result Outcome NoMemory) → IfOk r P → ((o : Outcome) → P o → Q o) → IfOk r Q
 if_ok (Ok o) p f = f o p

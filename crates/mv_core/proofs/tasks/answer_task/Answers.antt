@@ -1,5 +1,5 @@
 use Rattle.std.proofs.Common.{ap, ◌∙◌}
-use Rattle.mv_core.specs.Told.{reply_told}
+use Rattle.mv_core.specs.Output.{reply_told}
 use Rattle.mv_core.proofs.tasks.answer_task.Goals as goal
 
 pub answer_told-requires-clause-reply : goal.answer_told-requires-clause-reply

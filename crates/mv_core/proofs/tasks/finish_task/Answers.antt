@@ -27,7 +27,7 @@ returns-clause-ok g c = on_ok_weaker c.run_all.result
 
 pub returns-clause-task : goal.returns-clause-task
 returns-clause-task g c l live =
-    task_kept c.args.book.now.script c.args.book.now.course.order c.args.call l c.args.running.now c.run_all.new.task (c.requires.call.task l live)
+    task_kept c.args.book.now.script c.args.book.now.schedule.order c.args.call l c.args.running.now c.run_all.new.task (c.requires.call.task l live)
     (runs_back c.args.book.now c.args.call l.start c.script.result.now (g.V.View.sight c.args.view.now) c.run_all.new.task c.script.ensures (c.requires.shows l live) c.run_all.ensures.runs) c.run_all.ensures.counts
 
 pub returns-clause-ran : goal.returns-clause-ran

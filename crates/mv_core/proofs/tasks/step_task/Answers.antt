@@ -23,7 +23,7 @@ run_next-requires g c = λ k. (
 
 pub returns-in_err-run_next-clause-task : goal.returns-in_err-run_next-clause-task
 returns-in_err-run_next-clause-task g c l live =
-    task_kept c.args.book.now.script c.args.book.now.course.order c.args.call l c.args.running.now c.run_next.new.task (c.requires.call.task l live)
+    task_kept c.args.book.now.script c.args.book.now.schedule.order c.args.call l c.args.running.now c.run_next.new.task (c.requires.call.task l live)
     (runs_back c.args.book.now c.args.call l.start c.script.result.now (g.V.View.sight c.args.view.now) c.run_next.new.task c.script.ensures (c.requires.shows l live) c.in_err-run_next.ensures.runs)
     (counts_same c.args.running.now.task c.run_next.new.task c.in_err-run_next.ensures.err)
 
@@ -32,7 +32,7 @@ returns-in_ok-run_next-clause-ok g c l live =
     let few = c.if-len-steps.true in
     let many = c.len.ensures ∙ ap length c.records.ensures in
     let steps = c.steps.ensures l live in
-    task_ran c.args.book.now.script c.args.book.now.course.order c.args.call l c.args.running.now c.run_next.new.task (c.requires.call.task l live)
+    task_ran c.args.book.now.script c.args.book.now.schedule.order c.args.call l c.args.running.now c.run_next.new.task (c.requires.call.task l live)
     (runs_back c.args.book.now c.args.call l.start c.script.result.now (g.V.View.sight c.args.view.now) c.run_next.new.task c.script.ensures (c.requires.shows l live) c.in_ok-run_next.ensures.runs)
     (ran_one c.args.book.now c.args.call l c.args.running.now c.run_next.new.task c.requires.call c.requires.left live (omega (arith, few, many, steps)) c.in_ok-run_next.ensures.ran)
 
@@ -41,7 +41,7 @@ returns-in_ok-run_next-clause-task g c l live =
     let few = c.if-len-steps.true in
     let many = c.len.ensures ∙ ap length c.records.ensures in
     let steps = c.steps.ensures l live in
-    task_kept c.args.book.now.script c.args.book.now.course.order c.args.call l c.args.running.now c.run_next.new.task (c.requires.call.task l live)
+    task_kept c.args.book.now.script c.args.book.now.schedule.order c.args.call l c.args.running.now c.run_next.new.task (c.requires.call.task l live)
     (runs_back c.args.book.now c.args.call l.start c.script.result.now (g.V.View.sight c.args.view.now) c.run_next.new.task c.script.ensures (c.requires.shows l live) c.in_ok-run_next.ensures.runs)
     (counts_one c.args.running.now.task c.run_next.new.task
     (ran_one c.args.book.now c.args.call l c.args.running.now c.run_next.new.task c.requires.call c.requires.left live (omega (arith, few, many, steps)) c.in_ok-run_next.ensures.ran))
@@ -51,7 +51,7 @@ returns-else-len-steps-clause-ok g c l live =
     let few = c.if-len-steps.false in
     let many = c.len.ensures ∙ ap length c.records.ensures in
     let steps = c.steps.ensures l live in
-    task_named c.args.book.now.script c.args.book.now.course.order c.args.call l c.args.running.now (c.requires.call.task l live) (λ le. omega (arith, few, le, many, steps))
+    task_named c.args.book.now.script c.args.book.now.schedule.order c.args.call l c.args.running.now (c.requires.call.task l live) (λ le. omega (arith, few, le, many, steps))
 
 pub returns-in_err-run_next-clause-ran : goal.returns-in_err-run_next-clause-ran
 returns-in_err-run_next-clause-ran g c = record { count = refl; task = counts_same c.args.running.now.task c.run_next.new.task c.in_err-run_next.ensures.err }

@@ -9,7 +9,7 @@ finish_task-requires g c = λ k. ((refl, tt), (search rules, (c.requires.shows (
 
 pub check-requires-clause-writes : goal.check-requires-clause-writes
 check-requires-clause-writes g c =
-    task_writes c.args.book.now.script c.args.book.now.course.order c.args.call c.requires.call.live.0 c.finish_task.new.running c.requires.call.script c.requires.call.number
+    task_writes c.args.book.now.script c.args.book.now.schedule.order c.args.call c.requires.call.live.0 c.finish_task.new.running c.requires.call.script c.requires.call.number
     (c.finish_task.ensures.task c.requires.call.live.0 c.requires.call.live.1)
 
 pub returns-in_err-finish_task-clause-fresh : goal.returns-in_err-finish_task-clause-fresh

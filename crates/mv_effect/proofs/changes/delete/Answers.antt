@@ -10,8 +10,8 @@ use Rattle.mv_values.specs.Patching.{applied, found_by}
 use Rattle.mv_values.specs.Tables.{rows_at}
 use Rattle.mv_catalog.specs.declared.resolved.RCond.{RCond}
 use Rattle.mv_catalog.specs.declared.resolved.RStmt.TheOpen.{Delete}
-use Rattle.mv_alone.specs.declared.state.Env.{Env}
-use Rattle.mv_alone.specs.Rows.{is_some_row}
+use Rattle.mv_eval.specs.declared.state.Env.{Env}
+use Rattle.mv_eval.specs.Rows.{is_some_row}
 use Rattle.mv_log.specs.Logged.{Logged}
 use Rattle.mv_record.proofs.Patching.{rising_applied}
 use Rattle.mv_recorded.specs.Asking.{Check, first_fault, preds_up_to, delete_checks}

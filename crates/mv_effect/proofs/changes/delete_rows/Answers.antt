@@ -3,7 +3,7 @@ use Rattle.mv_values.specs.Patching.{applied}
 use Rattle.mv_undo.specs.Owning.{earlier}
 use Rattle.mv_values.specs.declared.patch.Patch.TheVariants as patch
 use Rattle.mv_values.specs.declared.rows.Keyed.{Keyed}
-use Rattle.mv_alone.specs.Rows.{is_some_row}
+use Rattle.mv_eval.specs.Rows.{is_some_row}
 use Rattle.mv_recorded.specs.Asking.{delete_checks}
 use Rattle.mv_recorded.specs.Doing.{write}
 use Rattle.mv_effect.proofs.Checking.{checked_ends, checked_passes, no_sets, no_writes}

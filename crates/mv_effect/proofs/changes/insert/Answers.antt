@@ -6,7 +6,7 @@ use Rattle.mv_values.specs.declared.patch.Patch.TheVariants as patch
 use Rattle.mv_values.specs.declared.calls.End.{End}
 use Rattle.mv_values.specs.Patching.{applied}
 use Rattle.mv_catalog.specs.declared.resolved.RStmt.TheOpen.{Insert}
-use Rattle.mv_alone.specs.Changes.{new_row, keyed}
+use Rattle.mv_eval.specs.Changes.{new_row, keyed}
 use Rattle.mv_log.specs.Logged.{Logged}
 use Rattle.mv_record.proofs.Patching.{rising_applied}
 use Rattle.mv_recorded.specs.Asking.{on, first_fault, preds_up_to, insert_checks}

@@ -1,5 +1,5 @@
 use Rattle.std.proofs.Common.{◌≡◌, ◌++◌, Ok, drop}
-use Rattle.mv_alone.specs.Outcome.{then_do}
+use Rattle.mv_eval.specs.Results.{then_do}
 use Rattle.mv_recorded.specs.Effects.{changes, new_of}
 use Rattle.mv_effect.specs.Logging.{with_writes}
 use Rattle.mv_effect.proofs.changes.push_sets.Given as goal

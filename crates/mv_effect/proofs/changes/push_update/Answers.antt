@@ -1,7 +1,7 @@
 use Rattle.std.proofs.Common.{◌≡◌, ◌∷◌, [], Ok, sym, ap, ◌∙◌}
 use Rattle.std.proofs.lemmas.Result.{on_ok_weaker}
-use Rattle.mv_alone.specs.Rows.{is_some_row}
-use Rattle.mv_alone.specs.Env.{with_found}
+use Rattle.mv_eval.specs.Rows.{is_some_row}
+use Rattle.mv_eval.specs.Env.{with_found}
 use Rattle.mv_log.specs.Logged.{Logged}
 use Rattle.mv_recorded.specs.Asking.{on}
 use Rattle.mv_recorded.specs.Effects.{changes, new_of, slots_behind}

@@ -1,7 +1,7 @@
 use Rattle.std.proofs.Common.{◌∷◌, [], refl, ap, subst, sym, ◌∙◌}
-use Rattle.mv_alone.specs.Rows.{is_some_row}
-use Rattle.mv_alone.specs.Env.{with_found}
-use Rattle.mv_alone.specs.Outcome.{Fails}
+use Rattle.mv_eval.specs.Rows.{is_some_row}
+use Rattle.mv_eval.specs.Env.{with_found}
+use Rattle.mv_eval.specs.Results.{Fails}
 use Rattle.mv_log.specs.Logged.{Logged}
 use Rattle.mv_record.specs.declared.effect.Effect.{Effect}
 use Rattle.mv_recorded.specs.Effects.{changes, new_of, only_asks, effect_of_writes, slots_behind}

@@ -10,8 +10,8 @@ use Rattle.mv_values.specs.Tables.{KeysStand}
 use Rattle.mv_catalog.specs.declared.resolved.RCond.{RCond}
 use Rattle.mv_catalog.specs.declared.resolved.RSetItem.{RSetItem}
 use Rattle.mv_catalog.specs.declared.resolved.RStmt.TheOpen.{Update}
-use Rattle.mv_alone.specs.declared.state.Env.{Env}
-use Rattle.mv_alone.specs.Rows.{is_some_row}
+use Rattle.mv_eval.specs.declared.state.Env.{Env}
+use Rattle.mv_eval.specs.Rows.{is_some_row}
 use Rattle.mv_log.specs.Logged.{Logged}
 use Rattle.mv_recorded.specs.Asking.{Check, columns_in, on, first_fault, preds_up_to, update_checks}
 use Rattle.mv_recorded.specs.Effects.{asks, changes, effect_unless, new_of}

@@ -1,7 +1,7 @@
 use Rattle.std.proofs.Common.{◌∷◌, [], sym, ◌∙◌}
 use Rattle.mv_values.specs.Patching.{applied}
 use Rattle.mv_undo.specs.Owning.{earlier}
-use Rattle.mv_alone.specs.Rows.{is_some_row}
+use Rattle.mv_eval.specs.Rows.{is_some_row}
 use Rattle.mv_recorded.specs.Asking.{on, first_fault, update_checks}
 use Rattle.mv_recorded.specs.Effects.{changes, new_of}
 use Rattle.mv_recorded.proofs.Checked.{update_checked}

@@ -2,8 +2,8 @@ use Rattle.std.proofs.Common.{List, Result, Ok, sym, ap, ◌∙◌}
 use Rattle.mv_values.specs.declared.value.Value.{Value}
 use Rattle.mv_values.specs.declared.calls.End.{End}
 use Rattle.mv_values.specs.Tables.{columns_at, key_columns}
-use Rattle.mv_alone.specs.Changes.{set_row}
-use Rattle.mv_alone.specs.Outcome.{then_do}
+use Rattle.mv_eval.specs.Changes.{set_row}
+use Rattle.mv_eval.specs.Results.{then_do}
 use Rattle.mv_recorded.specs.Doing.{write, set_patch}
 use Rattle.mv_effect.proofs.changes.write_for.Goals as goal
 

@@ -1,9 +1,9 @@
 use Rattle.std.proofs.Common.{◌≤◌, All, length, sym, subst, arith}
 use Rattle.std.specs.Prelude.{IfOk}
 use Rattle.mv_values.specs.Tables.{key_columns}
-use Rattle.mv_alone.specs.Rows.{IsPlaced}
-use Rattle.mv_alone.proofs.Few.{key_few}
-use Rattle.mv_alone.proofs.Spanning.{placed_where}
+use Rattle.mv_eval.specs.Rows.{IsPlaced}
+use Rattle.mv_eval.proofs.Few.{key_few}
+use Rattle.mv_eval.proofs.Spanning.{placed_where}
 use Rattle.mv_effect.specs.Stops.{leaving}
 use Rattle.mv_effect.proofs.OnePred.{on_leaving}
 use Rattle.mv_effect.proofs.predicates.push_tests.Goals as goal

@@ -1,6 +1,6 @@
 use Rattle.std.proofs.Common.{◌≡◌, ◌++◌, drop, Ok}
-use Rattle.mv_alone.specs.Outcome.{then_do}
-use Rattle.mv_alone.specs.Rows.{tests_of}
+use Rattle.mv_eval.specs.Results.{then_do}
+use Rattle.mv_eval.specs.Rows.{tests_of}
 use Rattle.mv_effect.proofs.predicates.push_tests_by.Given as goal
 
 abbrev pub invariant-loop-cond : goal.invariant-loop-cond

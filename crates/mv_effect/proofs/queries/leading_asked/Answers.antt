@@ -2,7 +2,7 @@ use Rattle.std.proofs.Common.{subst}
 use Rattle.std.specs.Prelude.{IfSome}
 use Rattle.mv_values.specs.declared.pred.Pred.{Pred}
 use Rattle.mv_values.specs.Tables.{key_columns}
-use Rattle.mv_alone.specs.FirstRows.{Leads}
+use Rattle.mv_eval.specs.FirstRows.{Leads}
 use Rattle.mv_effect.proofs.queries.leading_asked.Goals as goal
 
 pub returns-clause-leads : goal.returns-clause-leads

@@ -1,7 +1,7 @@
 use Rattle.std.proofs.Common.{◌≡◌, OnOk, sym, ap, subst, ◌∙◌}
 use Rattle.std.proofs.lemmas.List.{map-id}
 use Rattle.mv_values.specs.Keys.{IsRising}
-use Rattle.mv_alone.specs.Alone.{fixed}
+use Rattle.mv_eval.specs.Alone.{fixed}
 use Rattle.mv_log.specs.Logged.{Logged}
 use Rattle.mv_recorded.specs.Effects.{effect_of_loop}
 use Rattle.mv_effect.specs.Asking.{asked}

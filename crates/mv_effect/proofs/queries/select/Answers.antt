@@ -3,7 +3,7 @@ use mir.Syntax.{w64}
 use Rattle.std.proofs.lemmas.Result.{on_ok_weaker}
 use Rattle.mv_values.specs.Patching.{applied, found_by}
 use Rattle.mv_catalog.specs.declared.resolved.RStmt.TheOpen.{Select}
-use Rattle.mv_alone.specs.Rows.{item_at, ordered}
+use Rattle.mv_eval.specs.Rows.{item_at, ordered}
 use Rattle.mv_log.specs.Logged.{Logged}
 use Rattle.mv_recorded.specs.Asking.{with_sorts}
 use Rattle.mv_undo.specs.Owning.{earlier}

@@ -1,6 +1,6 @@
 use Rattle.std.proofs.Common.{rules, ◌≡◌, [], to_z, of_z, sym, ap, ◌∙◌}
 use mir.Syntax.{w64}
-use Rattle.mv_alone.specs.Rows.{item_at, matching, ordered}
+use Rattle.mv_eval.specs.Rows.{item_at, matching, ordered}
 use Rattle.mv_log.specs.Logged.{Logged}
 use Rattle.mv_undo.specs.Owning.{earlier}
 use Rattle.mv_recorded.specs.Effects.{effect_of_select}

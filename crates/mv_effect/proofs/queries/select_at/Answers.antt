@@ -5,7 +5,7 @@ use Rattle.std.proofs.lemmas.Iterator.Adapters.{option_map_id}
 use Rattle.std.proofs.lemmas.List.{map-id}
 use Rattle.mv_values.specs.declared.rows.Keyed.{Keyed}
 use Rattle.mv_values.specs.Keys.{IsRising}
-use Rattle.mv_alone.specs.Rows.{item_at, matching, ordered}
+use Rattle.mv_eval.specs.Rows.{item_at, matching, ordered}
 use Rattle.mv_log.specs.Logged.{Logged}
 use Rattle.mv_recorded.specs.Effects.{effect_of_select}
 use Rattle.mv_effect.specs.Asking.{asked}

@@ -1,9 +1,9 @@
 use Rattle.std.proofs.Common.{◌∷◌, [], ◌++◌, not, refl, sym, ap, subst, ◌∙◌}
 use Rattle.std.specs.Option.{is_some}
-use Rattle.mv_alone.specs.Alone.{totalled}
-use Rattle.mv_alone.specs.Env.{with_found}
-use Rattle.mv_alone.specs.Outcome.{Fails}
-use Rattle.mv_alone.specs.Rows.{matching, is_some_row, aggregate}
+use Rattle.mv_eval.specs.Alone.{totalled}
+use Rattle.mv_eval.specs.Env.{with_found}
+use Rattle.mv_eval.specs.Results.{Fails}
+use Rattle.mv_eval.specs.Rows.{matching, is_some_row, aggregate}
 use Rattle.mv_log.specs.Logged.{Logged}
 use Rattle.mv_recorded.specs.Doing.{when}
 use Rattle.mv_recorded.specs.Effects.{only_asks, effect_of_aggregate, slots_behind}

@@ -3,7 +3,7 @@ use Rattle.std.proofs.lemmas.Result.{IfOk-weaker}
 use Rattle.mv_undo.specs.Owning.{earlier}
 use Rattle.mv_values.specs.Patching.{applied}
 use Rattle.mv_table.specs.Scans.{foremost}
-use Rattle.mv_alone.proofs.Spanning.{foremost_of_one}
+use Rattle.mv_eval.proofs.Spanning.{foremost_of_one}
 use Rattle.mv_recorded.proofs.Matching.{admitted}
 use Rattle.mv_effect.proofs.rows.first_visible.Goals as goal
 

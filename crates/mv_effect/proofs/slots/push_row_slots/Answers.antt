@@ -1,7 +1,7 @@
 use Rattle.std.proofs.Common.{true, sym, ap, ◌∙◌, ◌+◌, ◌++◌, ◌∷◌, [], take, slice_index_or}
 use Rattle.std.proofs.lemmas.Result.{on_ok_weaker}
 use Rattle.mv_values.specs.Columns.{columns_of}
-use Rattle.mv_alone.specs.Env.{with_found, with_values}
+use Rattle.mv_eval.specs.Env.{with_found, with_values}
 use Rattle.mv_log.specs.Logged.{Logged}
 use Rattle.mv_recorded.specs.Reading.{each_once}
 use Rattle.mv_recorded.specs.Effects.{slots_behind}

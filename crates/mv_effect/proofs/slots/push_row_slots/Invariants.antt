@@ -1,6 +1,6 @@
 use Rattle.std.proofs.Common.{◌≡◌, true, take}
 use Rattle.mv_values.specs.Columns.{columns_of}
-use Rattle.mv_alone.specs.Env.{with_found, with_values}
+use Rattle.mv_eval.specs.Env.{with_found, with_values}
 use Rattle.mv_recorded.specs.Reading.{each_once}
 use Rattle.mv_recorded.specs.Effects.{slots_behind}
 use Rattle.mv_effect.specs.Logging.{with_sets}

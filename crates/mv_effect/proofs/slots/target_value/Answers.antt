@@ -1,5 +1,5 @@
 use Rattle.std.proofs.Common.{None, refl, sym, ap, ◌∙◌}
-use Rattle.mv_alone.specs.Env.{scalar_at}
+use Rattle.mv_eval.specs.Env.{scalar_at}
 use Rattle.mv_effect.proofs.Variables.{value_by, taken_value}
 use Rattle.mv_effect.proofs.slots.target_value.Goals as goal
 

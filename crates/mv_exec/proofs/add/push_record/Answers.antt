@@ -36,4 +36,4 @@ returns-in-Err-clause-err c =
     (cut_closed c.args.task.now.log c.add_record.new.log c.truncate.new.self c.args.origin some.0 c.len-number.result log less c.len-number.ensures)
     (cut_past c.args.task.now.log c.add_record.new.log c.truncate.new.self c.args.origin some.0 c.len-number.result log less)
     (cut_kept c.args.task.now.log c.add_record.new.log c.truncate.new.self c.args.origin some.0 c.len-number.result log less)
-    (c.truncate-in-Err.ensures ∙ ap (λ n. take n c.make_changes_of.new.task.places) c.len-depth.ensures) c.drop_from.ensures
+    (c.truncate-in-Err.ensures ∙ ap (λ n. take n c.make_changes_of.new.task.frames) c.len-depth.ensures) c.drop_from.ensures

@@ -1,10 +1,10 @@
 use Rattle.std.proofs.Common.{take, sym, ap, ◌∙◌}
 use Rattle.mv_recorded.specs.Recorded.{Site, outside}
-use Rattle.mv_exec.specs.Places.{site_of}
-use Rattle.mv_exec.proofs.Placing.{site_step}
+use Rattle.mv_exec.specs.Frames.{site_of}
+use Rattle.mv_exec.proofs.Framing.{site_step}
 use Rattle.mv_exec.proofs.around.turns_around.Goals as goal
 
-pub loop-place-preserved : goal.loop-place-preserved
-loop-place-preserved c =
-    c.in_ok-add_turn.ensures (site_of outside (take c.loop-place.place-index c.args.places.now)) c.loop-place.invariant
-    ∙ ap (λ (s : Site). s.turns) (sym (site_step c.args.places.now c.loop-place.place-index _ c.loop-place-test.true))
+pub loop-frame-preserved : goal.loop-frame-preserved
+loop-frame-preserved c =
+    c.in_ok-add_turn.ensures (site_of outside (take c.loop-frame.frame-index c.args.frames.now)) c.loop-frame.invariant
+    ∙ ap (λ (s : Site). s.turns) (sym (site_step c.args.frames.now c.loop-frame.frame-index _ c.loop-frame-test.true))

@@ -16,47 +16,47 @@ use Rattle.mv_exec.proofs.execute.execute_next.Goals as goal
 use Rattle.mv_exec.proofs.execute.execute_next.Goals.{After-execute, After-from_residual}
 
 pub execute-requires : goal.execute-requires
-execute-requires g c = λ k. ((refl, tt), (search rules, (search rules, (search rules, ((opened_blank c.args.task.now.log c.come_to.new.task.log c.come_to.ensures.log c.requires.rest.blank), (search rules, (search rules, ((subst (λ n. n < 2 ^ 16) (sym c.come_to.ensures.found) c.requires.found), (search rules, (subst (λ (rs : List Record). KeysStand c.args.graph.now.tables (applied (writes_in rs) (g.V.View.sight c.args.view.now).database)) (sym c.come_to.ensures.same.records) c.requires.keys))))))))))
+execute-requires g c = λ k. ((refl, tt), (search rules, (search rules, (search rules, ((opened_blank c.args.task.now.log c.advance.new.task.log c.advance.ensures.log c.requires.rest.blank), (search rules, (search rules, ((subst (λ n. n < 2 ^ 16) (sym c.advance.ensures.found) c.requires.found), (search rules, (subst (λ (rs : List Record). KeysStand c.args.graph.now.tables (applied (writes_in rs) (g.V.View.sight c.args.view.now).database)) (sym c.advance.ensures.same.records) c.requires.keys))))))))))
 
 pub returns-clause-executed : goal.returns-clause-executed
 returns-clause-executed g c =
-    on_ok c.execute.result (HasExecuted c.args.graph.now.tables c.args.graph.now.procedure c.come_to.new.task c.execute.new.task (g.V.View.sight c.args.view.now) (g.V.View.sight c.execute.new.view))
+    on_ok c.execute.result (HasExecuted c.args.graph.now.tables c.args.graph.now.procedure c.advance.new.task c.execute.new.task (g.V.View.sight c.args.view.now) (g.V.View.sight c.execute.new.view))
     (HasExecuted c.args.graph.now.tables c.args.graph.now.procedure c.args.task.now c.execute.new.task (g.V.View.sight c.args.view.now) (g.V.View.sight c.execute.new.view))
-    (λ it. executed_before c.args.graph.now.procedure c.args.graph.now.tables c.args.task.now c.come_to.new.task c.execute.new.task (g.V.View.sight c.args.view.now) (g.V.View.sight c.execute.new.view)
-    c.come_to.ensures.same it)
+    (λ it. executed_before c.args.graph.now.procedure c.args.graph.now.tables c.args.task.now c.advance.new.task c.execute.new.task (g.V.View.sight c.args.view.now) (g.V.View.sight c.execute.new.view)
+    c.advance.ensures.same it)
     c.execute.ensures.executed
 
 pub returns-clause-counted : goal.returns-clause-counted
 returns-clause-counted g c =
-    on_ok c.execute.result (c.execute.new.task.executed ≡ c.come_to.new.task.executed + 1) (c.execute.new.task.executed ≡ c.args.task.now.executed + 1)
-    (λ counted. counted ∙ ap (λ n. n + 1) c.come_to.ensures.same.executed) c.execute.ensures.counted
+    on_ok c.execute.result (c.execute.new.task.executed ≡ c.advance.new.task.executed + 1) (c.execute.new.task.executed ≡ c.args.task.now.executed + 1)
+    (λ counted. counted ∙ ap (λ n. n + 1) c.advance.ensures.same.executed) c.execute.ensures.counted
 
 pub returns-clause-past : goal.returns-clause-past
-returns-clause-past g c = c.execute.ensures.past ∙ ap (λ (l : Logged). l.past) c.come_to.ensures.log
+returns-clause-past g c = c.execute.ensures.past ∙ ap (λ (l : Logged). l.past) c.advance.ensures.log
 
 pub returns-clause-kept : goal.returns-clause-kept
-returns-clause-kept g c = c.execute.ensures.kept ∙ ap (λ (l : Logged). l.kept) c.come_to.ensures.log
+returns-clause-kept g c = c.execute.ensures.kept ∙ ap (λ (l : Logged). l.kept) c.advance.ensures.log
 
 pub returns-clause-err : goal.returns-clause-err
 returns-clause-err g c =
-    on_err c.execute.result (StandsAsBefore c.args.graph.now.procedure c.come_to.new.task c.execute.new.task) (StandsAsBefore c.args.graph.now.procedure c.args.task.now c.execute.new.task)
-    (before_both c.args.graph.now.procedure c.args.task.now c.come_to.new.task c.execute.new.task c.come_to.ensures.same) c.execute.ensures.err
+    on_err c.execute.result (StandsAsBefore c.args.graph.now.procedure c.advance.new.task c.execute.new.task) (StandsAsBefore c.args.graph.now.procedure c.args.task.now c.execute.new.task)
+    (before_both c.args.graph.now.procedure c.args.task.now c.advance.new.task c.execute.new.task c.advance.ensures.same) c.execute.ensures.err
 
 pub returns-clause-bounded : goal.returns-clause-bounded
 returns-clause-bounded g c =
-    asked_before c.args.graph.now.procedure c.args.graph.now.tables c.args.task.now c.come_to.new.task (g.V.View.sight c.args.view.now).database (g.V.View.sight c.args.view.now) (g.V.View.sight c.execute.new.view)
-    c.come_to.ensures.same c.execute.ensures.bounded
+    asked_before c.args.graph.now.procedure c.args.graph.now.tables c.args.task.now c.advance.new.task (g.V.View.sight c.args.view.now).database (g.V.View.sight c.args.view.now) (g.V.View.sight c.execute.new.view)
+    c.advance.ensures.same c.execute.ensures.bounded
 
 -- Where no memory was found before the view was asked
 
 pub returns-in_err-at-clause-past : goal.returns-in_err-at-clause-past
-returns-in_err-at-clause-past g c = ap (λ (l : Logged). l.past) c.come_to.ensures.log
+returns-in_err-at-clause-past g c = ap (λ (l : Logged). l.past) c.advance.ensures.log
 
 pub returns-in_err-at-clause-kept : goal.returns-in_err-at-clause-kept
-returns-in_err-at-clause-kept g c = ap (λ (l : Logged). l.kept) c.come_to.ensures.log
+returns-in_err-at-clause-kept g c = ap (λ (l : Logged). l.kept) c.advance.ensures.log
 
 pub returns-in_err-at-clause-err : goal.returns-in_err-at-clause-err
-returns-in_err-at-clause-err g c = always_err c.from_residual.result (StandsAsBefore c.args.graph.now.procedure c.args.task.now c.come_to.new.task) c.come_to.ensures.same
+returns-in_err-at-clause-err g c = always_err c.from_residual.result (StandsAsBefore c.args.graph.now.procedure c.args.task.now c.advance.new.task) c.advance.ensures.same
 
 pub returns-in_err-at-clause-bounded : goal.returns-in_err-at-clause-bounded
 returns-in_err-at-clause-bounded g c =

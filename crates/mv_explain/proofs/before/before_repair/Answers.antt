@@ -5,10 +5,10 @@ use Rattle.mv_explain.specs.Explained.{AreBefore}
 use Rattle.mv_explain.proofs.before.before_repair.Goals as goal
 
 pub run_whole-requires : goal.run_whole-requires
-run_whole-requires c = some_rounds {Q = IsLiveCall c.args.core.now.book.course c.args.call} c.rounds.result c.rounds.ensures.live (search (rules, c.is_none.ensures, c.if-is_none.false)) (λ rounds h. (h.live, h.is_live))
+run_whole-requires c = some_rounds {Q = IsLiveCall c.args.core.now.book.schedule c.args.call} c.rounds.result c.rounds.ensures.live (search (rules, c.is_none.ensures, c.if-is_none.false)) (λ rounds h. (h.live, h.is_live))
 
 pub copy_since-requires-clause-live : goal.copy_since-requires-clause-live
-copy_since-requires-clause-live c = some_rounds {Q = IsLiveCall c.args.core.now.book.course c.args.call} c.rounds.result c.rounds.ensures.live (search (rules, c.is_none.ensures, c.if-is_none.false)) (λ rounds h. (h.live, h.is_live))
+copy_since-requires-clause-live c = some_rounds {Q = IsLiveCall c.args.core.now.book.schedule c.args.call} c.rounds.result c.rounds.ensures.live (search (rules, c.is_none.ensures, c.if-is_none.false)) (λ rounds h. (h.live, h.is_live))
 
 pub returns-in_ok-since-in-Ok-clause-some : goal.returns-in_ok-since-in-Ok-clause-some
 returns-in_ok-since-in-Ok-clause-some c =

@@ -1,13 +1,13 @@
 use Rattle.std.proofs.Common.{get_or, arith, subst, sym}
 use Rattle.std.proofs.lemmas.Result.{err_from_is_err_and}
 use Rattle.mv_journal.specs.declared.event.Event.TheVariants.{B}
-use Rattle.mv_script.specs.Scripts.{IsScript}
+use Rattle.mv_script.specs.Scripts.{IsCompiledScript}
 use Rattle.mv_core.proofs.Driving.{read_at}
 use Rattle.mv_explain.proofs.Telling.{told_more, told_stop}
 use Rattle.mv_explain.proofs.explain.write_events.Goals as goal
 
 pub write_event-requires : goal.write_event-requires
-write_event-requires c = subst IsScript (sym c.loop-event.invariant.told.stands.made.script) c.requires.script
+write_event-requires c = subst IsCompiledScript (sym c.loop-event.invariant.told.stands.made.script) c.requires.script
 
 pub loop-event-preserved : goal.loop-event-preserved
 loop-event-preserved c =

@@ -5,7 +5,7 @@ use Rattle.mv_values.specs.declared.patch.Write.{Write}
 use Rattle.mv_values.specs.Patching.{applied}
 use Rattle.mv_history.specs.Changes.{changes_between}
 use Rattle.mv_shards.specs.Ledgers.{Entered}
-use Rattle.mv_core.specs.Told.{reply_told, writes_told}
+use Rattle.mv_core.specs.Output.{reply_told, writes_told}
 use Rattle.mv_shards.specs.Histories.{tables_at}
 use Rattle.mv_gate.proofs.Bringing.{told_all, brings_lead, brings_changes, brings_next}
 use Rattle.mv_gate.proofs.installing.install.Goals as goal

@@ -1,6 +1,6 @@
 use Rattle.std.proofs.Common.{length, refl, sym, ap, ◌∙◌}
 use Rattle.mv_view.specs.Viewing.{Sight}
-use Rattle.mv_script.specs.declared.script.Script.{Script}
+use Rattle.mv_script.specs.declared.script.CompiledScript.{CompiledScript}
 use Rattle.mv_shards.specs.Ledgers.{Entered}
 use Rattle.mv_gate.proofs.Seeing.{asked_late, told_low, size_shown, few_shown}
 use Rattle.mv_gate.proofs.latest.last_tables.Goals as goal
@@ -12,7 +12,7 @@ tables_shown-requires g c = λ k. (
     (size_shown g.N.Making.script c.args.ledger.now.knows.seen c.args.ledger.now.commits c.args.beside.now.script.now c.view-view.result.sight.database c.len-count.result c.commits-commits.ensures.kept.script c.args.beside.now.named c.len-count.ensures
         (ap (λ (s : Sight). s.database) c.view-view.ensures.sight)),
     (few_shown g.N.Making.script c.args.ledger.now.knows.seen c.args.ledger.now.commits c.view-view.result.sight.database c.commits-commits.ensures.kept.script
-        (λ none. c.if-len-eq0.false (c.len.ensures ∙ (ap (λ (s : Script). length s.calls) c.args.beside.now.named ∙ none))) (ap (λ (s : Sight). s.database) c.view-view.ensures.sight)),
+        (λ none. c.if-len-eq0.false (c.len.ensures ∙ (ap (λ (s : CompiledScript). length s.calls) c.args.beside.now.named ∙ none))) (ap (λ (s : Sight). s.database) c.view-view.ensures.sight)),
   ),
 )
 

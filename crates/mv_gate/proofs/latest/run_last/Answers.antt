@@ -1,8 +1,8 @@
 use Rattle.std.proofs.Common.{◌<◌, length, refl, sym, ap, subst, ◌∙◌, arith}
 use Rattle.mv_view.specs.Viewing.{Sight}
-use Rattle.mv_script.specs.declared.script.Script.{Script}
-use Rattle.mv_script.specs.Scripts.{IsScript, work_of}
-use Rattle.mv_shards.specs.Scripts.{work}
+use Rattle.mv_script.specs.declared.script.CompiledScript.{CompiledScript}
+use Rattle.mv_script.specs.Scripts.{IsCompiledScript, batch_of}
+use Rattle.mv_shards.specs.Scripts.{batch}
 use Rattle.mv_shards.specs.Ledgers.{Entered}
 use Rattle.mv_shards.specs.Histories.{tables_at}
 use Rattle.mv_gate.proofs.Running.{runs_here}
@@ -12,18 +12,18 @@ use Rattle.mv_gate.proofs.Pins.{leave_shown}
 use Rattle.mv_gate.proofs.latest.run_last.Goals as goal
 
 pub new_task-requires-clause-script : goal.new_task-requires-clause-script
-new_task-requires-clause-script g c = subst IsScript (sym c.args.beside.now.named) c.commits-commits.ensures.kept.script
+new_task-requires-clause-script g c = subst IsCompiledScript (sym c.args.beside.now.named) c.commits-commits.ensures.kept.script
 
 pub new_task-requires-clause-number : goal.new_task-requires-clause-number
-new_task-requires-clause-number g c = subst (λ (s : Script). c.args.call < length s.calls) (sym c.args.beside.now.named) c.requires.there
+new_task-requires-clause-number g c = subst (λ (s : CompiledScript). c.args.call < length s.calls) (sym c.args.beside.now.named) c.requires.there
 
 pub run_all-requires : goal.run_all-requires
 run_all-requires g c = λ k. (
   (refl, tt),
   (
-    (subst IsScript (sym c.args.beside.now.named) c.commits-commits.ensures.kept.script),
+    (subst IsCompiledScript (sym c.args.beside.now.named) c.commits-commits.ensures.kept.script),
     (
-      (subst (λ (s : Script). c.args.call < length s.calls) (sym c.args.beside.now.named) c.requires.there),
+      (subst (λ (s : CompiledScript). c.args.call < length s.calls) (sym c.args.beside.now.named) c.requires.there),
       (
         (shown_in g.N.Making.script c.args.ledger.now.knows.seen c.args.call c.args.ledger.now.commits c.args.beside.now.script.now c.view-view.result.sight.database c.commits-commits.ensures.kept.script c.args.beside.now.named
             (ap (λ (s : Sight). s.database) c.view-view.ensures.sight)),
@@ -48,8 +48,8 @@ returns-in-Ok-clause-runs g c =
 pub returns-in-Ok-clause-records : goal.returns-in-Ok-clause-records
 returns-in-Ok-clause-records g c =
     c.in-Ok.ensures.records
-    ∙ (ap (λ (s : Script). ((work_of s).run c.args.call c.view-view.result.sight.database).records) c.args.beside.now.named
-    ∙ ap (λ (v : Sight). ((work g.N.Making.script).run c.args.call v.database).records) c.view-view.ensures.sight)
+    ∙ (ap (λ (s : CompiledScript). ((batch_of s).run c.args.call c.view-view.result.sight.database).records) c.args.beside.now.named
+    ∙ ap (λ (v : Sight). ((batch g.N.Making.script).run c.args.call v.database).records) c.view-view.ensures.sight)
 
 pub returns-in-Ok-clause-executed : goal.returns-in-Ok-clause-executed
 returns-in-Ok-clause-executed g c =

@@ -1,6 +1,6 @@
 use Rattle.std.proofs.Common.{List, sym, subst}
 use Rattle.mv_record.specs.declared.record.Record.{Record}
-use Rattle.mv_script.specs.Scripts.{IsScript}
+use Rattle.mv_script.specs.Scripts.{IsCompiledScript}
 use Rattle.mv_changes.specs.declared.recent.Committed.{Committed}
 use Rattle.mv_why.specs.Causes.{changes_since}
 use Rattle.mv_why.specs.Laws.{AreFullRuns}
@@ -17,4 +17,4 @@ causes-requires c =
     (c.records_after-fresh.ensures c.args.core.now.book c.in-Ok.ensures.taken)))
 
 pub returns : goal.returns
-returns c = subst IsScript (sym c.in-Ok.ensures.taken.script) c.requires.script
+returns c = subst IsCompiledScript (sym c.in-Ok.ensures.taken.script) c.requires.script

@@ -1,7 +1,7 @@
 use Rattle.std.proofs.Common.{◌≡◌, ◌<◌, ◌≤◌, ◌+◌, ◌++◌, ◌∷◌, [], ℕ, List, Some, length, map, drop, get_or, refl, sym, ap, subst, ◌∙◌, arith}
 use Rattle.std.specs.Prelude.{slice_get}
 use Rattle.std.proofs.lemmas.Option.{same_Some, slice_get_read}
-use Rattle.mv_lawful.specs.Lawful.{Course, begin}
+use Rattle.mv_lawful.specs.Lawful.{Schedule, begin}
 use Rattle.mv_lawful.specs.Places.{Place, answer_place, places_from, places_by}
 use Rattle.mv_lawful.proofs.Placing.{commit_place}
 use Rattle.mv_lawful.proofs.Starting.{calls_of_start, by_starts, starts_long, starts_at, place_more, place_last}
@@ -27,7 +27,7 @@ bounds-answers-order c =
 pub loop-i-preserved : goal.loop-i-preserved
 loop-i-preserved c =
     let within = c.loop-i-test.true in
-    let s : Course = record { order = c.args.order.now; calls = map begin c.args.starts.now; low = 0; answered = c.args.answered.now } in
+    let s : Schedule = record { order = c.args.order.now; calls = map begin c.args.starts.now; low = 0; answered = c.args.answered.now } in
     let i : ℕ = c.loop-i.i in
     let call : ℕ = get_or c.args.order.now i 0 in
     let own = read_is c.args.starts.now c.args.answered.now (length c.args.order.now + 1) i c.as_slice-answers.result.now c.index-answers-i.result (c.as_slice-answers.ensures ∙ c.in_ok-lists.ensures) (omega (arith, within)) c.index-answers-i.is in
@@ -44,7 +44,7 @@ pub returns : goal.returns
 returns c =
     let past = c.loop-i-test.false in
     let within = c.loop-i.invariant.within in
-    let s : Course = record { order = c.args.order.now; calls = map begin c.args.starts.now; low = 0; answered = c.args.answered.now } in
+    let s : Schedule = record { order = c.args.order.now; calls = map begin c.args.starts.now; low = 0; answered = c.args.answered.now } in
     let n : ℕ = length c.args.order.now in
     let all : List Place = places_by c.args.order.now c.args.starts.now c.args.answered.now in
     let same : c.loop-i.i ≡ n = omega (arith, past, within) in

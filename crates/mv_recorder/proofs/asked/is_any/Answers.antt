@@ -1,5 +1,5 @@
 use Rattle.std.proofs.Common.{◌≡◌, not, ◌==◌, List, [], ◌∷◌, length, map, refl, ap, ◌∙◌, rules}
-use Rattle.mv_alone.specs.Rows.{is_some_row}
+use Rattle.mv_eval.specs.Rows.{is_some_row}
 use Rattle.mv_table.specs.declared.table.Entry.{Entry}
 use Rattle.mv_table.specs.Entries.{seen}
 use Rattle.mv_recorder.proofs.asked.is_any.Goals as goal

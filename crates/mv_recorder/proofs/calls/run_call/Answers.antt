@@ -2,7 +2,7 @@ use Rattle.std.proofs.Common.{◌≡◌, List, sym, subst}
 use Rattle.std.specs.Prelude.{IfOk}
 use Rattle.mv_values.specs.declared.schema.TableInfo.{TableInfo}
 use Rattle.mv_catalog.specs.Text.{IsProcedure}
-use Rattle.mv_alone.specs.TableAfter.{reply_in}
+use Rattle.mv_eval.specs.TableAfter.{reply_in}
 use Rattle.mv_recorder.specs.Scenes.{AreSound}
 use Rattle.mv_recorder.proofs.Calling.{is_called, called_records, called_outcome, called_procedure, called_arguments, database_sound}
 use Rattle.mv_recorder.proofs.calls.run_call.Goals as goal

@@ -2,7 +2,7 @@ use Rattle.std.proofs.Common.{◌∷◌, [], true, sym, ap, subst, ◌∙◌}
 use Rattle.mv_values.specs.declared.rows.Keyed.{Keyed}
 use Rattle.mv_values.specs.declared.patch.Patch.TheVariants as patch
 use Rattle.mv_catalog.specs.declared.resolved.RStmt.TheOpen.{Insert}
-use Rattle.mv_alone.specs.Changes.{new_row, keyed}
+use Rattle.mv_eval.specs.Changes.{new_row, keyed}
 use Rattle.mv_recorded.specs.Asking.{first_fault, preds_up_to}
 use Rattle.mv_recorded.specs.Doing.{write}
 use Rattle.mv_recorded.specs.Effects.{IsEffect, effect_unless}

@@ -1,6 +1,6 @@
 use Rattle.std.proofs.Common.{◌≡◌, ◌++◌, Ok, drop, map}
 use Rattle.mv_table.specs.Entries.{seen}
-use Rattle.mv_alone.specs.Outcome.{then_do}
+use Rattle.mv_eval.specs.Results.{then_do}
 use Rattle.mv_recorded.specs.Effects.{changes, new_of}
 use Rattle.mv_recorder.proofs.changes.writes_for.Given as goal
 

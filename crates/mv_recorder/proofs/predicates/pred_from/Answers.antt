@@ -1,7 +1,7 @@
 use Rattle.std.proofs.Common.{◌<◌, length, sym, subst, ◌∙◌}
 use Rattle.std.specs.List.{All}
 use Rattle.mv_values.specs.Tables.{key_columns}
-use Rattle.mv_alone.specs.Rows.{IsPlaced}
+use Rattle.mv_eval.specs.Rows.{IsPlaced}
 use Rattle.mv_recorder.proofs.Few.{bytes_of, once_few}
 use Rattle.mv_recorder.proofs.predicates.pred_from.Goals as goal
 

@@ -1,7 +1,7 @@
 use Rattle.std.proofs.Common.{rules, ◌≡◌, List, ℕ, length, sym, ap, subst, ◌∙◌, append-nil}
 use Rattle.std.proofs.lemmas.List.{nil_from_length}
 use Rattle.mv_catalog.specs.declared.resolved.RSort.{RSort}
-use Rattle.mv_alone.specs.Outcome.{Gives}
+use Rattle.mv_eval.specs.Results.{Gives}
 use Rattle.mv_recorded.specs.Asking.{with_sorts}
 use Rattle.mv_recorded.specs.Effects.{asks}
 use Rattle.mv_recorded.specs.Naming.{AreColumns}

@@ -1,5 +1,5 @@
 use Rattle.std.proofs.Common.{sym, subst, ◌∙◌}
-use Rattle.mv_alone.specs.Outcome.{Gives}
+use Rattle.mv_eval.specs.Results.{Gives}
 use Rattle.mv_recorded.specs.Effects.{asks}
 use Rattle.mv_recorded.specs.Naming.{AreColumns}
 use Rattle.mv_recorder.proofs.predicates.update_pred.Goals as goal

@@ -1,7 +1,7 @@
 use Rattle.std.proofs.Common.{rules, ◌≡◌, map, ap, to_z, of_z, w64, ◌∙◌}
 use Rattle.std.proofs.lemmas.Result.{err_from_is_err_and}
 use Rattle.std.specs.Option.{option_copied, option_map}
-use Rattle.mv_alone.specs.Rows.{item_at, ordered}
+use Rattle.mv_eval.specs.Rows.{item_at, ordered}
 use Rattle.mv_table.specs.Entries.{seen}
 use Rattle.mv_recorder.proofs.Asking.{number_is, select_is, select_stops, offset_stops}
 use Rattle.mv_recorder.proofs.queries.select.Goals as goal

@@ -1,7 +1,7 @@
 use Rattle.std.proofs.Common.{rules, ◌++◌, [], sym, ap, subst, ◌∙◌, arith}
 use Rattle.std.proofs.lemmas.Result.{err_from_is_err_and}
-use Rattle.mv_alone.specs.Alone.{alone}
-use Rattle.mv_alone.specs.Outcome.{Leaves}
+use Rattle.mv_eval.specs.Alone.{alone}
+use Rattle.mv_eval.specs.Results.{Leaves}
 use Rattle.mv_recorded.specs.Recorded.{tell_statements}
 use Rattle.mv_recorder.specs.Sites.{site_of}
 use Rattle.mv_recorder.specs.Running.{Leave}

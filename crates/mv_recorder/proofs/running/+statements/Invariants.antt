@@ -1,5 +1,5 @@
 use Rattle.std.proofs.Common.{◌≡◌, ◌+◌, ◌++◌, drop}
-use Rattle.mv_alone.specs.Alone.{alone, each_turn}
+use Rattle.mv_eval.specs.Alone.{alone, each_turn}
 use Rattle.mv_recorded.specs.Recorded.{tell_statements, tell_turns}
 use Rattle.mv_recorder.specs.Running.{AreFit}
 use Rattle.mv_recorder.specs.Scenes.{IsSound}

@@ -1,7 +1,7 @@
 use Rattle.std.proofs.Common.{◌≡◌, ◌<◌, rules, length, ap, sym, subst, ◌∙◌}
 use Rattle.std.specs.Prelude.{replicate}
 use Rattle.mv_values.specs.Tables.{KeysStand}
-use Rattle.mv_alone.specs.TableAfter.{no_reply}
+use Rattle.mv_eval.specs.TableAfter.{no_reply}
 use Rattle.mv_serial.proofs.InTurn.{length_replies, all_replied, others_silent, place_within}
 use Rattle.mv_catalog.proofs.References.{one_keys}
 use Rattle.mv_serial.proofs.Lawful.{stopped_unchanged}

@@ -1,6 +1,6 @@
 use Rattle.std.proofs.Common.{◌≡◌}
 use Rattle.mv_values.specs.Tables.{KeysStand}
-use Rattle.mv_alone.specs.TableAfter.{table_after}
+use Rattle.mv_eval.specs.TableAfter.{table_after}
 use Rattle.mv_serial.proofs.InTurn.{replies_after}
 use Rattle.mv_serial.proofs.calls.run_alone.Given as goal
 

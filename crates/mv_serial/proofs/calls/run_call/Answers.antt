@@ -1,6 +1,6 @@
 use Rattle.std.proofs.Common.{◌≡◌, subst}
 use Rattle.std.specs.Prelude.{IfOk}
-use Rattle.mv_alone.specs.TableAfter.{tables_left, reply_in}
+use Rattle.mv_eval.specs.TableAfter.{tables_left, reply_in}
 use Rattle.mv_serial.proofs.Calling.{called}
 use Rattle.mv_serial.proofs.calls.run_call.Goals as goal
 

@@ -1,7 +1,7 @@
 use Rattle.std.proofs.Common.{◌≡◌, ap, sym, subst, ◌∙◌}
 use Rattle.std.specs.Prelude.{IfOk}
 use Rattle.mv_serial.specs.Changing.{changed_by}
-use Rattle.mv_alone.specs.TableAfter.{tables_left, reply_in}
+use Rattle.mv_eval.specs.TableAfter.{tables_left, reply_in}
 use Rattle.mv_serial.proofs.calls.run_procedure.Goals as goal
 
 pub returns-clause-tables : goal.returns-clause-tables

@@ -1,5 +1,5 @@
 use Rattle.std.proofs.Common.{◌≡◌, replicate}
-use Rattle.mv_alone.specs.TableAfter.{no_reply}
+use Rattle.mv_eval.specs.TableAfter.{no_reply}
 use Rattle.mv_serial.proofs.calls.silent.Given as goal
 
 abbrev pub invariant-loop-call : goal.invariant-loop-call

@@ -3,11 +3,11 @@ use Rattle.std.specs.Prelude.{IfOk}
 use Rattle.mv_values.specs.declared.op.Op.TheVariants.{Eq}
 use Rattle.mv_values.specs.Tables.{key_columns, rows_at}
 use Rattle.mv_table.specs.Entries.{seen}
-use Rattle.mv_alone.specs.FirstRows.{AdmitMatches}
-use Rattle.mv_alone.specs.Rows.{matching, test_on}
-use Rattle.mv_alone.proofs.Few.{key_few}
-use Rattle.mv_alone.proofs.Holding.{matching_key, key_tests_placed}
-use Rattle.mv_alone.proofs.Spanning.{placed_admit}
+use Rattle.mv_eval.specs.FirstRows.{AdmitMatches}
+use Rattle.mv_eval.specs.Rows.{matching, test_on}
+use Rattle.mv_eval.proofs.Few.{key_few}
+use Rattle.mv_eval.proofs.Holding.{matching_key, key_tests_placed}
+use Rattle.mv_eval.proofs.Spanning.{placed_admit}
 use Rattle.mv_serial.proofs.children.holders.Goals as goal
 
 pub tests_of_key-requires : goal.tests_of_key-requires

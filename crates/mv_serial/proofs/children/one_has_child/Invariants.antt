@@ -2,7 +2,7 @@ use Rattle.std.proofs.Common.{◌≡◌, drop, map}
 use Rattle.std.specs.List.{list_any}
 use Rattle.mv_values.specs.declared.rows.Keyed.{Keyed}
 use Rattle.mv_table.specs.Entries.{seen}
-use Rattle.mv_alone.specs.References.{holds_key, left_in}
+use Rattle.mv_eval.specs.References.{holds_key, left_in}
 use Rattle.mv_serial.proofs.children.one_has_child.Given as goal
 
 abbrev pub invariant-loop-entry : goal.invariant-loop-entry

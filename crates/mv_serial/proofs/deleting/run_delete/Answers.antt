@@ -1,9 +1,9 @@
 use Rattle.std.proofs.Common.{List, All, length, sym, ap, subst, ◌∙◌}
 use Rattle.std.specs.Prelude.{nat_lt}
 use Rattle.mv_values.specs.Tables.{key_columns, rows_at}
-use Rattle.mv_alone.specs.Rows.{matching, IsPlaced}
-use Rattle.mv_alone.specs.FirstRows.{AdmitMatches}
-use Rattle.mv_alone.proofs.Spanning.{placed_admit}
+use Rattle.mv_eval.specs.Rows.{matching, IsPlaced}
+use Rattle.mv_eval.specs.FirstRows.{AdmitMatches}
+use Rattle.mv_eval.proofs.Spanning.{placed_admit}
 use Rattle.mv_serial.proofs.Lawful.{others_left}
 use Rattle.mv_serial.proofs.Renewing.{removals_make, some_removed}
 use Rattle.mv_serial.specs.declared.change.RowChange.{RowChange}

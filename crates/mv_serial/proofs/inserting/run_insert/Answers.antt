@@ -4,7 +4,7 @@ use Rattle.mv_values.specs.declared.rows.Keyed.{Keyed}
 use Rattle.mv_values.specs.Tables.{key_columns, rows_at}
 use Rattle.mv_values.specs.Columns.{columns_of}
 use Rattle.mv_values.proofs.There.{parents_have_one_key}
-use Rattle.mv_alone.specs.Changes.{put_row}
+use Rattle.mv_eval.specs.Changes.{put_row}
 use Rattle.mv_serial.proofs.Lawful.{others_stay}
 use Rattle.mv_serial.proofs.Standing.{insert_stands}
 use Rattle.mv_serial.proofs.Tabling.{insert_ok, insert_stops, insert_fails}

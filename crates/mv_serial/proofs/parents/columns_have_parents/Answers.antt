@@ -2,7 +2,7 @@ use Rattle.std.proofs.Common.{◌+◌, drop, sym, ap, subst, ◌∙◌}
 use Rattle.std.specs.List.{AllByRecursion}
 use Rattle.mv_values.specs.References.{Reference, reference, references_from, HaveOneKey}
 use Rattle.mv_values.specs.Tables.{rows_at}
-use Rattle.mv_alone.specs.References.{has_parents}
+use Rattle.mv_eval.specs.References.{has_parents}
 use Rattle.mv_values.proofs.There.{refs_step, back_of}
 use Rattle.mv_serial.proofs.There.{both, on_then}
 use Rattle.mv_serial.proofs.parents.columns_have_parents.Goals as goal

@@ -2,7 +2,7 @@ use Rattle.std.proofs.Common.{◌≡◌, drop}
 use Rattle.std.specs.List.{AllByRecursion}
 use Rattle.mv_values.specs.References.{Reference, references_from, HaveOneKey}
 use Rattle.mv_values.specs.Tables.{rows_at}
-use Rattle.mv_alone.specs.References.{has_parents}
+use Rattle.mv_eval.specs.References.{has_parents}
 use Rattle.mv_serial.proofs.parents.columns_have_parents.Given as goal
 
 abbrev pub invariant-loop-at : goal.invariant-loop-at

@@ -1,7 +1,7 @@
 use Rattle.std.proofs.Common.{sym, subst}
 use Rattle.mv_values.specs.References.{parent_of}
-use Rattle.mv_alone.specs.Outcome.{Gives, then_do}
-use Rattle.mv_alone.specs.References.{with_parent}
+use Rattle.mv_eval.specs.Results.{Gives, then_do}
+use Rattle.mv_eval.specs.References.{with_parent}
 use Rattle.mv_serial.specs.Referring.{IsOneKeyed}
 use Rattle.mv_serial.proofs.There.{one_keyed}
 use Rattle.mv_serial.proofs.parents.fit_in.Goals as goal

@@ -1,7 +1,7 @@
 use Rattle.std.proofs.Common.{◌∙◌}
 use Rattle.mv_serial.proofs.Turning.{next_statement, next_turn, fixed_first}
-use Rattle.mv_alone.specs.Alone.{alone, fixed, loop_over}
-use Rattle.mv_alone.specs.Rows.{tests_of, matching}
+use Rattle.mv_eval.specs.Alone.{alone, fixed, loop_over}
+use Rattle.mv_eval.specs.Rows.{tests_of, matching}
 use Rattle.mv_values.specs.Tables.{key_columns, rows_at}
 use Rattle.mv_serial.proofs.statements.+statements.Goals as goal
 

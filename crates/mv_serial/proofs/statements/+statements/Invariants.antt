@@ -1,6 +1,6 @@
 use Rattle.std.proofs.Common.{◌≡◌, drop}
 use Rattle.mv_values.specs.Tables.{KeysStand}
-use Rattle.mv_alone.specs.Alone.{alone, each_turn, loop_over}
+use Rattle.mv_eval.specs.Alone.{alone, each_turn, loop_over}
 use Rattle.mv_serial.specs.Changing.{KeepsUndo}
 use Rattle.mv_serial.proofs.statements.+statements.Given as goal
 

@@ -1,6 +1,6 @@
 use Rattle.std.proofs.Common.{◌≡◌, not, ◌==◌, List, [], ◌∷◌, length, refl, rules}
 use Rattle.mv_values.specs.declared.value.Value.{Value}
-use Rattle.mv_alone.specs.Alone.{is_turn}
+use Rattle.mv_eval.specs.Alone.{is_turn}
 use Rattle.mv_serial.proofs.statements.find_rows.Goals as goal
 
 turn_is : (rows : List (List Value)) → not (length rows == 0) ≡ is_turn rows

@@ -1,6 +1,6 @@
 use Rattle.std.proofs.Common.{All, sym, subst}
 use Rattle.mv_values.specs.Tables.{key_columns}
-use Rattle.mv_alone.specs.Rows.{IsPlaced}
+use Rattle.mv_eval.specs.Rows.{IsPlaced}
 use Rattle.mv_serial.proofs.statements.turns_of.Goals as goal
 
 pub found_in-requires-clause-places : goal.found_in-requires-clause-places

@@ -1,8 +1,8 @@
 use Rattle.std.proofs.Common.{◌≡◌, ◌++◌, drop, map, Ok}
 use Rattle.mv_table.specs.Entries.{seen}
-use Rattle.mv_alone.specs.Outcome.{then_do}
-use Rattle.mv_alone.specs.Changes.{set_row_by}
-use Rattle.mv_alone.specs.References.{fit_in}
+use Rattle.mv_eval.specs.Results.{then_do}
+use Rattle.mv_eval.specs.Changes.{set_row_by}
+use Rattle.mv_eval.specs.References.{fit_in}
 use Rattle.mv_serial.specs.Changing.{renewals}
 use Rattle.mv_serial.proofs.updating.renewals_of.Given as goal
 

@@ -1,5 +1,5 @@
-use Rattle.mv_alone.specs.References.{fit_in}
-use Rattle.mv_alone.proofs.Making.{set_step}
+use Rattle.mv_eval.specs.References.{fit_in}
+use Rattle.mv_eval.proofs.Making.{set_step}
 use Rattle.mv_serial.proofs.updating.renewed.Goals as goal
 
 pub loop-item-preserved : goal.loop-item-preserved

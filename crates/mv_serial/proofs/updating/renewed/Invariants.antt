@@ -1,6 +1,6 @@
 use Rattle.std.proofs.Common.{◌≡◌, drop}
-use Rattle.mv_alone.specs.Changes.{set_row_by}
-use Rattle.mv_alone.specs.References.{fit_in}
+use Rattle.mv_eval.specs.Changes.{set_row_by}
+use Rattle.mv_eval.specs.References.{fit_in}
 use Rattle.mv_serial.proofs.updating.renewed.Given as goal
 
 abbrev pub invariant-loop-item : goal.invariant-loop-item

@@ -2,10 +2,10 @@ use Rattle.std.proofs.Common.{All, sym, subst}
 use Rattle.std.proofs.lemmas.Result.{err_from_is_err_and}
 use Rattle.mv_values.specs.Tables.{key_columns, rows_at}
 use Rattle.mv_values.proofs.There.{parents_have_one_key}
-use Rattle.mv_alone.specs.Rows.{matching, IsPlaced}
-use Rattle.mv_alone.specs.Changes.{set_row_by}
-use Rattle.mv_alone.specs.References.{fit_in}
-use Rattle.mv_alone.proofs.Standing.{New}
+use Rattle.mv_eval.specs.Rows.{matching, IsPlaced}
+use Rattle.mv_eval.specs.Changes.{set_row_by}
+use Rattle.mv_eval.specs.References.{fit_in}
+use Rattle.mv_eval.proofs.Standing.{New}
 use Rattle.mv_serial.proofs.Lawful.{others_stay}
 use Rattle.mv_serial.proofs.Renewing.{renewals_make, renewals_fail, some_renewed}
 use Rattle.mv_serial.proofs.Standing.{update_stands}

@@ -1,6 +1,6 @@
 use Rattle.std.proofs.Common.{ap, sym, subst, ◌∙◌}
 use Rattle.mv_values.specs.Counts.{first_numbers}
-use Rattle.mv_alone.specs.TableAfter.{IsOrder}
+use Rattle.mv_eval.specs.TableAfter.{IsOrder}
 use Rattle.mv_top.proofs.Serials.{is_order, text_is}
 use Rattle.mv_top.proofs.serial.serial_text.Goals as goal
 

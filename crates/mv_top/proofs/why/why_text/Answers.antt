@@ -1,6 +1,6 @@
 use Rattle.std.proofs.Common.{◌∙◌, List, length, ap, arith}
 use Rattle.mv_journal.specs.declared.event.Event.{Event}
-use Rattle.mv_script.specs.Scripts.{work_of}
+use Rattle.mv_script.specs.Scripts.{batch_of}
 use Rattle.mv_top.proofs.Whys.{why_is, why_is_told}
 use Rattle.mv_top.proofs.why.why_text.Goals as goal
 
@@ -13,10 +13,10 @@ explain_journal-requires-clause-few c =
 
 pub returns-clause-text : goal.returns-clause-text
 returns-clause-text c =
-    why_is c.args.options c.args.bytes.now c.args.program (work_of c.in_ok-script.field-0.script) c.as_slice.result.now c.as_slice-2.result.now c.in_ok-events.events c.explain_journal.result
-    c.in_ok-script.ensures.work (c.as_slice.ensures ∙ c.in_ok-script.ensures.tables) c.as_slice-2.ensures c.in_ok-events.ensures.events c.explain_journal.ensures.lawful c.explain_journal.ensures.text
+    why_is c.args.options c.args.bytes.now c.args.program (batch_of c.in_ok-script.field-0.script) c.as_slice.result.now c.as_slice-2.result.now c.in_ok-events.events c.explain_journal.result
+    c.in_ok-script.ensures.batch (c.as_slice.ensures ∙ c.in_ok-script.ensures.tables) c.as_slice-2.ensures c.in_ok-events.ensures.events c.explain_journal.ensures.lawful c.explain_journal.ensures.text
 
 pub returns-clause-refused : goal.returns-clause-refused
 returns-clause-refused c =
-    why_is_told c.args.options c.args.bytes.now c.args.program (work_of c.in_ok-script.field-0.script) c.as_slice-2.result.now c.in_ok-events.events c.explain_journal.result
-    c.in_ok-script.ensures.work c.as_slice-2.ensures c.in_ok-events.ensures.events c.explain_journal.ensures.wrong
+    why_is_told c.args.options c.args.bytes.now c.args.program (batch_of c.in_ok-script.field-0.script) c.as_slice-2.result.now c.in_ok-events.events c.explain_journal.result
+    c.in_ok-script.ensures.batch c.as_slice-2.ensures c.in_ok-events.ensures.events c.explain_journal.ensures.wrong

@@ -3,7 +3,7 @@ use Rattle.std.specs.Option.{option_and_then}
 use Rattle.std.specs.Prelude.{slice_get}
 use Rattle.std.proofs.lemmas.Option.{slice_get_read}
 use Rattle.mv_record.specs.Paths.{inside, nests_behind}
-use Rattle.mv_alike.proofs.Placing.{many_paths}
+use Rattle.mv_soundness.proofs.Placing.{many_paths}
 use Rattle.mv_why.proofs.Placing.{around_is}
 use Rattle.mv_why.proofs.paths.around_of.Goals as goal
 

@@ -4,7 +4,7 @@ use Rattle.mv_why.specs.declared.walk.Walk.{Walk}
 use Rattle.mv_why.specs.Causes.{why_reason}
 use Rattle.mv_why.specs.Walking.{IsOn}
 use Rattle.mv_why.proofs.Deciding.{Decision, decided, may_keep, gone_on, none_is, longer}
-use Rattle.mv_alike.proofs.Placing.{many_paths}
+use Rattle.mv_soundness.proofs.Placing.{many_paths}
 use Rattle.mv_why.proofs.reasons.next_reason.Goals as goal
 
 pub path_at-requires : goal.path_at-requires

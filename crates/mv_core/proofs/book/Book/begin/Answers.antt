@@ -4,15 +4,15 @@ use Rattle.mv_core.specs.declared.progress.Progress.{Progress}
 use Rattle.std.specs.Prelude.{All}
 use Rattle.mv_core.specs.Lives.{live_numbers}
 use Rattle.mv_core.specs.Calls.{live_of, IsFresh}
-use Rattle.mv_script.specs.declared.script.Script.{Script}
-use Rattle.mv_script.specs.Scripts.{work_of}
+use Rattle.mv_script.specs.declared.script.CompiledScript.{CompiledScript}
+use Rattle.mv_script.specs.Scripts.{batch_of}
 use Rattle.mv_core.specs.Books.{Booked, IsBook}
-use Rattle.mv_core.proofs.Keeping.{few_inside, live_within, live_comes, kept_begun, begun_none, begun_made, the_course, all_begun}
+use Rattle.mv_core.proofs.Keeping.{few_inside, live_within, live_comes, kept_begun, begun_none, begun_made, the_schedule, all_begun}
 use Rattle.mv_core.proofs.Recents.{recent_begun}
 use Rattle.mv_core.proofs.book.Book.begin.Goals as goal
 
 pub returns-then-len : goal.returns-then-len
-returns-then-len c = all_begun c.self.inside c.args.self.now c.self.view_is c.self.invariant.kept (search (rules, c.if-len.true, c.len.ensures, c.len-2.ensures ∙ ap (λ (s : Script). length s.calls) c.get.ensures))
+returns-then-len c = all_begun c.self.inside c.args.self.now c.self.view_is c.self.invariant.kept (search (rules, c.if-len.true, c.len.ensures, c.len-2.ensures ∙ ap (λ (s : CompiledScript). length s.calls) c.get.ensures))
 
 pub returns-in_err-reserve : goal.returns-in_err-reserve
 returns-in_err-reserve c = begun_none _ c.self.inside c.args.self.now _ c.self.inside.calls.items c.from_residual.result c.self.view_is refl refl refl refl c.reserve.ensures.items c.from_residual.ensures.1
@@ -42,7 +42,7 @@ number : (c : goal.After-put) → c.len-call.result ≡ length c.self.inside.cal
 number c = search (rules, c.len-call.ensures)
 
 less : (c : goal.After-put) → length c.self.inside.calls.items < length c.self.inside.script.calls
-less c = search (rules, c.if-len.false, c.len.ensures, c.len-2.ensures ∙ ap (λ (s : Script). length s.calls) c.get.ensures)
+less c = search (rules, c.if-len.false, c.len.ensures, c.len-2.ensures ∙ ap (λ (s : CompiledScript). length s.calls) c.get.ensures)
 
 fresh : (c : goal.After-put) → IsFresh (length c.self.inside.order.items) c.in_ok-progress.progress
 fresh c = subst (λ n. IsFresh n c.in_ok-progress.progress) c.len-start.ensures c.in_ok-progress.ensures
@@ -53,14 +53,14 @@ adds c = search (rules, c.put.ensures.items, c.reserve.ensures.items)
 pub invariant_of-self-2 : goal.invariant_of-self-2
 invariant_of-self-2 c =
     let live : c.push.new.self ≡ c.self.inside.live ++ length c.self.inside.calls.items ∷ [] = search (rules, c.in_ok-push.ensures.ok, c.len-call.ensures) in
-    subst (λ (ps : List Progress). IsBook c.self.inside.script (the_course c.self.inside.order.items c.self.inside.low c.self.inside.answered.items (map live_of ps)) ps c.put.new.self.items c.push.new.self c.self.inside.recent) (sym (more c)) (record {
+    subst (λ (ps : List Progress). IsBook c.self.inside.script (the_schedule c.self.inside.order.items c.self.inside.low c.self.inside.answered.items (map live_of ps)) ps c.put.new.self.items c.push.new.self c.self.inside.recent) (sym (more c)) (record {
       kept = (kept_begun c.self.inside.script c.self.inside.order.items c.self.inside.low c.self.inside.answered.items c.len-call.result c.self.inside.calls.items c.self.inside.journal.items _ c.in_ok-progress.progress c.self.invariant.kept (less c) (number c) (fresh c) (adds c)).1;
       live = live ∙ (ap (λ ns. ns ++ length c.self.inside.calls.items ∷ []) c.self.invariant.live ∙ sym (live_comes c.self.inside.calls.items (length c.self.inside.order.items) c.in_ok-progress.progress (fresh c)));
-      recent = recent_begun (work_of c.self.inside.script) c.self.inside.order.items c.self.inside.low c.self.inside.answered.items c.self.inside.calls.items c.in_ok-progress.progress c.self.inside.recent c.self.invariant.recent (fresh c);
+      recent = recent_begun (batch_of c.self.inside.script) c.self.inside.order.items c.self.inside.low c.self.inside.answered.items c.self.inside.calls.items c.in_ok-progress.progress c.self.inside.recent c.self.invariant.recent (fresh c);
     })
 
 pub returns : goal.returns
 returns c = (
   begun_made c.self.inside c.args.self.now _ c.len-call.result c.push-2.new.self.items c.in_ok-progress.progress c.self.view_is c.self.invariant.kept (less c) (number c) (fresh c) (more c) refl refl refl (adds c),
-  c.len-start.ensures ∙ ap (λ (b : Booked). length b.course.order) c.self.view_is,
+  c.len-start.ensures ∙ ap (λ (b : Booked). length b.schedule.order) c.self.view_is,
 )

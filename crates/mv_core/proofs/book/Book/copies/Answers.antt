@@ -2,7 +2,7 @@ use Rattle.std.proofs.Common.{◌<◌, ◌≤◌, ◌^◌, ℕ, List, map, lengt
 use Rattle.std.specs.Prelude.{All}
 use Rattle.mv_lawful.specs.Places.{start_in, places}
 use Rattle.mv_core.specs.declared.progress.Progress.{Progress}
-use Rattle.mv_core.specs.Calls.{live_of, line_of, course_with}
+use Rattle.mv_core.specs.Calls.{live_of, line_of, schedule_with}
 use Rattle.mv_core.proofs.Keeping.{few_inside}
 use Rattle.mv_core.proofs.Ending.{order_within, answers_within, answers_past, history_told}
 use Rattle.mv_core.proofs.book.Book.copies.Goals as goal
@@ -29,7 +29,7 @@ history_of-requires-clause-past c =
 pub returns-clause-history : goal.returns-clause-history
 returns-clause-history c =
     c.in_ok-history.ensures
-    ∙ (ap (λ (ps : List Progress). map (line_of ps) (places (course_with ps c.as_slice-2.result.now c.as_slice-3.result.now))) c.as_slice.ensures.value
-    ∙ (ap (λ (xs : List ℕ). map (line_of c.self.inside.calls.items) (places (course_with c.self.inside.calls.items xs c.as_slice-3.result.now))) c.as_slice-2.ensures
-    ∙ (ap (λ (xs : List ℕ). map (line_of c.self.inside.calls.items) (places (course_with c.self.inside.calls.items c.self.inside.order.items xs))) c.as_slice-3.ensures
+    ∙ (ap (λ (ps : List Progress). map (line_of ps) (places (schedule_with ps c.as_slice-2.result.now c.as_slice-3.result.now))) c.as_slice.ensures.value
+    ∙ (ap (λ (xs : List ℕ). map (line_of c.self.inside.calls.items) (places (schedule_with c.self.inside.calls.items xs c.as_slice-3.result.now))) c.as_slice-2.ensures
+    ∙ (ap (λ (xs : List ℕ). map (line_of c.self.inside.calls.items) (places (schedule_with c.self.inside.calls.items c.self.inside.order.items xs))) c.as_slice-3.ensures
     ∙ history_told c.self.inside c.args.self.now c.self.view_is c.self.invariant.kept)))

@@ -3,9 +3,9 @@ use Rattle.std.proofs.lemmas.Result.{on_ok_weaker}
 use Rattle.mv_lawful.specs.Lawful.{Live}
 use Rattle.mv_lawful.specs.Rounds.{last_number}
 use Rattle.mv_core.specs.Calls.{live_of}
-use Rattle.mv_script.specs.Scripts.{work_of}
+use Rattle.mv_script.specs.Scripts.{batch_of}
 use Rattle.mv_core.specs.Books.{Booked}
-use Rattle.mv_core.proofs.Keeping.{live_stays, the_course, here_at, kept_same_told, same_calls, still_settled, room_set, room_left, room_same}
+use Rattle.mv_core.proofs.Keeping.{live_stays, the_schedule, here_at, kept_same_told, same_calls, still_settled, room_set, room_left, room_same}
 use Rattle.mv_core.proofs.Recents.{recent_same, recent_set}
 use Rattle.mv_core.proofs.book.Book.reserve.Goals as goal
 
@@ -17,19 +17,19 @@ invariant_of-self-2 c = record {
   live = c.self.invariant.live ∙ sym (live_stays c.self.inside.calls.items c.args.call c.index_mut.result.now c.reserve-5.new.self (here_at c.self.inside c.args.self.now c.args.call c.index_mut.result.now c.self.view_is c.requires.live c.index_mut.ensures.value).2.at c.reserve-5.ensures.reply);
   recent =
       let start : c.reserve-5.new.self.start ≡ c.index_mut.result.now.start = ap (λ (l : Live). l.start) c.reserve-5.ensures.live in
-      recent_same (work_of c.self.inside.script) c.self.inside.order.items _ c.self.inside.low c.self.inside.answered.items _ _ c.self.inside.recent _
-      (recent_set (work_of c.self.inside.script) c.self.inside.order.items c.self.inside.low c.self.inside.answered.items c.args.call c.self.inside.calls.items c.index_mut.result.now c.reserve-5.new.self c.self.inside.recent c.self.invariant.recent (here_at c.self.inside c.args.self.now c.args.call c.index_mut.result.now c.self.view_is c.requires.live c.index_mut.ensures.value).2.at (here_at c.self.inside c.args.self.now c.args.call c.index_mut.result.now c.self.view_is c.requires.live c.index_mut.ensures.value).2.going (omega (arith, start)))
+      recent_same (batch_of c.self.inside.script) c.self.inside.order.items _ c.self.inside.low c.self.inside.answered.items _ _ c.self.inside.recent _
+      (recent_set (batch_of c.self.inside.script) c.self.inside.order.items c.self.inside.low c.self.inside.answered.items c.args.call c.self.inside.calls.items c.index_mut.result.now c.reserve-5.new.self c.self.inside.recent c.self.invariant.recent (here_at c.self.inside c.args.self.now c.args.call c.index_mut.result.now c.self.view_is c.requires.live c.index_mut.ensures.value).2.at (here_at c.self.inside c.args.self.now c.args.call c.index_mut.result.now c.self.view_is c.requires.live c.index_mut.ensures.value).2.going (omega (arith, start)))
       c.reserve-2.ensures.items c.reserve.ensures.low c.reserve.ensures.commits;
 }
 
 pub returns-clause-same : goal.returns-clause-same
 returns-clause-same c = record {
   script = ap (λ (b : Booked). b.script) c.self.view_is;
-  course =
-      ap (λ (o : List ℕ). the_course o c.self.inside.low c.reserve-3.new.self.items (map live_of (slice_set c.self.inside.calls.items c.args.call c.reserve-5.new.self))) c.reserve-2.ensures.items
-      ∙ (ap (λ (a : List ℕ). the_course c.self.inside.order.items c.self.inside.low a (map live_of (slice_set c.self.inside.calls.items c.args.call c.reserve-5.new.self))) c.reserve-3.ensures.items
-      ∙ (ap (λ (ls : List Live). the_course c.self.inside.order.items c.self.inside.low c.self.inside.answered.items ls) (same_calls c.self.inside.calls.items c.args.call c.index_mut.result.now c.reserve-5.new.self (here_at c.self.inside c.args.self.now c.args.call c.index_mut.result.now c.self.view_is c.requires.live c.index_mut.ensures.value).2.at c.reserve-5.ensures.live)
-      ∙ ap (λ (b : Booked). b.course) c.self.view_is));
+  schedule =
+      ap (λ (o : List ℕ). the_schedule o c.self.inside.low c.reserve-3.new.self.items (map live_of (slice_set c.self.inside.calls.items c.args.call c.reserve-5.new.self))) c.reserve-2.ensures.items
+      ∙ (ap (λ (a : List ℕ). the_schedule c.self.inside.order.items c.self.inside.low a (map live_of (slice_set c.self.inside.calls.items c.args.call c.reserve-5.new.self))) c.reserve-3.ensures.items
+      ∙ (ap (λ (ls : List Live). the_schedule c.self.inside.order.items c.self.inside.low c.self.inside.answered.items ls) (same_calls c.self.inside.calls.items c.args.call c.index_mut.result.now c.reserve-5.new.self (here_at c.self.inside c.args.self.now c.args.call c.index_mut.result.now c.self.view_is c.requires.live c.index_mut.ensures.value).2.at c.reserve-5.ensures.live)
+      ∙ ap (λ (b : Booked). b.schedule) c.self.view_is));
   settled = λ d has.
       still_settled c.self.inside c.args.self.now c.args.call d c.index_mut.result.now c.reserve-5.new.self c.self.view_is (here_at c.self.inside c.args.self.now c.args.call c.index_mut.result.now c.self.view_is c.requires.live c.index_mut.ensures.value).2.at
       (λ is some. ap (λ rs. is_some (last_number rs)) c.reserve-5.ensures.rounds ∙ some) has;

@@ -1,8 +1,8 @@
 use Rattle.std.proofs.Common.{arith, Some, is_some, refl, ap, sym, ◌∙◌}
 use Rattle.mv_lawful.specs.Rounds.{last_number}
 use Rattle.mv_core.specs.Books.{Booked}
-use Rattle.mv_script.specs.Scripts.{work_of}
-use Rattle.mv_core.proofs.Keeping.{live_stays, the_course, here_at, kept_settled, settled_live, settled_told, still_settled, number_set, set_known, missing_due, same_calls, room_left}
+use Rattle.mv_script.specs.Scripts.{batch_of}
+use Rattle.mv_core.proofs.Keeping.{live_stays, the_schedule, here_at, kept_settled, settled_live, settled_told, still_settled, number_set, set_known, missing_due, same_calls, room_left}
 use Rattle.mv_core.proofs.Recents.{recent_set}
 use Rattle.mv_core.proofs.book.Book.settle.Goals as goal
 
@@ -23,7 +23,7 @@ invariant_of-self c =
       kept = kept_settled c.self.inside.script c.self.inside.order.items c.self.inside.low c.self.inside.answered.items c.args.call c.self.inside.calls.items c.self.inside.journal.items c.executed.result c.index_mut.result.now c.settle.new.self
           c.self.invariant.kept here.2.at here.2.going (due ∙ ap Some (sym c.executed.ensures)) c.settle.ensures.start c.settle.ensures.steps c.settle.ensures.rounds c.settle.ensures.reply;
       live = c.self.invariant.live ∙ sym (live_stays c.self.inside.calls.items c.args.call c.index_mut.result.now c.settle.new.self here.2.at c.settle.ensures.reply);
-      recent = recent_set (work_of c.self.inside.script) c.self.inside.order.items c.self.inside.low c.self.inside.answered.items c.args.call c.self.inside.calls.items c.index_mut.result.now c.settle.new.self c.self.inside.recent c.self.invariant.recent here.2.at here.2.going (omega (arith, start));
+      recent = recent_set (batch_of c.self.inside.script) c.self.inside.order.items c.self.inside.low c.self.inside.answered.items c.args.call c.self.inside.calls.items c.index_mut.result.now c.settle.new.self c.self.inside.recent c.self.invariant.recent here.2.at here.2.going (omega (arith, start));
     }
 
 pub returns-clause-settled : goal.returns-clause-settled
@@ -38,10 +38,10 @@ returns-clause-same c =
     let number = number_set c.self.inside.script c.self.inside.order.items c.self.inside.low c.self.inside.answered.items c.args.call c.self.inside.calls.items c.self.inside.journal.items c.executed.result c.index_mut.result.now c.settle.new.self c.self.invariant.kept here.2.at c.settle.ensures.rounds in
     record {
       script = ap (λ (b : Booked). b.script) c.self.view_is;
-      course =
-          ap (the_course c.self.inside.order.items c.self.inside.low c.self.inside.answered.items)
+      schedule =
+          ap (the_schedule c.self.inside.order.items c.self.inside.low c.self.inside.answered.items)
           (same_calls c.self.inside.calls.items c.args.call c.index_mut.result.now c.settle.new.self here.2.at (settled_live (Some c.executed.result) c.index_mut.result.now c.settle.new.self c.settle.ensures.start c.settle.ensures.steps c.settle.ensures.rounds c.settle.ensures.reply))
-          ∙ ap (λ (b : Booked). b.course) c.self.view_is;
+          ∙ ap (λ (b : Booked). b.schedule) c.self.view_is;
       settled = λ d has. still_settled c.self.inside c.args.self.now c.args.call d c.index_mut.result.now c.settle.new.self c.self.view_is here.2.at (λ is was. ap is_some number) has;
       journal = ap (λ (b : Booked). b.journal) c.self.view_is;
     }

@@ -4,8 +4,8 @@ use Rattle.std.proofs.lemmas.Result.{err_from_is_err_and}
 use Rattle.mv_journal.specs.declared.event.Event.TheVariants.{A}
 use Rattle.mv_journal.specs.declared.outcome.Mark.TheVariants.{Plain, Exclusive}
 use Rattle.mv_lawful.specs.Lawful.{has_round}
-use Rattle.mv_core.specs.Books.{Booked, work_in, Made, IsSame, IsNotStale}
-use Rattle.mv_core.specs.Cores.{IsAllowedIfFresh, HasTurns}
+use Rattle.mv_core.specs.Books.{Booked, batch_in, Made, IsSame, IsNotStale}
+use Rattle.mv_core.specs.Cores.{IsAllowedIfFresh, HasRoundStarts}
 use Rattle.mv_core.proofs.Stored.{shows_start, fresh_start, shows_last, fresh_last, stored_same, stored_made}
 use Rattle.mv_core.proofs.Numbered.{numbers_same, numbers_again}
 use Rattle.mv_core.proofs.Taking.{task_there, task_again, tasks_set, tasks_same, restarted_on, call_within, due_first, core_set, running_in}
@@ -20,7 +20,7 @@ apart e = search (rules, e)
 
 pub unreachable-requires : goal.unreachable-requires
 unreachable-requires c =
-    task_there c.self.inside.book.script c.self.inside.book.course c.self.inside.tasks.items c.args.call c.index_mut.result.now c.self.invariant.0.tasks (live_in c.self.inside.book c.args.self.now.book c.args.call (ap book_in c.self.view_is) c.requires.live) c.index_mut.ensures.value c.in_default.is
+    task_there c.self.inside.book.script c.self.inside.book.schedule c.self.inside.tasks.items c.args.call c.index_mut.result.now c.self.invariant.0.tasks (live_in c.self.inside.book c.args.self.now.book c.args.call (ap book_in c.self.view_is) c.requires.live) c.index_mut.ensures.value c.in_default.is
 
 pub finish_task-requires : goal.finish_task-requires
 finish_task-requires c = λ k. (
@@ -45,7 +45,7 @@ rerun_task-requires c = λ k. (
     (record {
       script = c.self.invariant.0.stored.script;
       live = live_in c.self.inside.book c.args.self.now.book c.args.call (ap book_in c.self.view_is) c.requires.live;
-      number = call_within c.self.inside.book.script c.self.inside.book.course c.self.inside.tasks.items c.args.call c.self.invariant.0.tasks (live_in c.self.inside.book c.args.self.now.book c.args.call (ap book_in c.self.view_is) c.requires.live);
+      number = call_within c.self.inside.book.script c.self.inside.book.schedule c.self.inside.tasks.items c.args.call c.self.invariant.0.tasks (live_in c.self.inside.book c.args.self.now.book c.args.call (ap book_in c.self.view_is) c.requires.live);
       task = c.finish_task.ensures.task;
     }),
     (
@@ -59,8 +59,8 @@ rerun_task-requires c = λ k. (
             (
               search rules,
               (let live = live_in c.self.inside.book c.args.self.now.book c.args.call (ap book_in c.self.view_is) c.requires.live in
-                  fresh_now_allowed c.self.inside.book c.args.self.now.book c.args.call live.0 (A c.args.call) (has_round (work_in c.self.inside.book) live.0) (ap book_in c.self.view_is)
-                  (repairs_again (work_in c.self.inside.book) c.self.inside.book.course c.args.call live.0 (again_writes c.self.inside.book c.args.call live.0 live.1 (subst (λ (b : Booked). IsAllowedIfFresh b (A c.args.call)) (sym (ap book_in c.self.view_is)) c.requires.allowed)) live.1) c.requires.allowed
+                  fresh_now_allowed c.self.inside.book c.args.self.now.book c.args.call live.0 (A c.args.call) (has_round (batch_in c.self.inside.book) live.0) (ap book_in c.self.view_is)
+                  (repairs_again (batch_in c.self.inside.book) c.self.inside.book.schedule c.args.call live.0 (again_writes c.self.inside.book c.args.call live.0 live.1 (subst (λ (b : Booked). IsAllowedIfFresh b (A c.args.call)) (sym (ap book_in c.self.view_is)) c.requires.allowed)) live.1) c.requires.allowed
                   (subst (λ (b : Booked). IsNotStale b c.args.call) (sym (ap book_in c.self.view_is)) c.in_ok-refuse_stale.ensures.fresh live.0 live.1)),
             ),
           ),
@@ -75,8 +75,8 @@ invariant_of-self-in_err-executed c = (
   record {
     stored = stored_same c.self.inside.book c.rerun_task.new.book c.self.inside.store c.self.invariant.0.stored c.in_err-executed.ensures.same;
     numbers = numbers_same c.self.inside.book c.rerun_task.new.book c.in_err-executed.ensures.same c.self.invariant.0.numbers;
-    tasks = tasks_same c.self.inside.book.script c.rerun_task.new.book.script c.self.inside.book.course c.rerun_task.new.book.course _
-        (tasks_set c.self.inside.book.script c.self.inside.book.course c.self.inside.tasks.items c.args.call c.rerun_task.new.running c.self.invariant.0.tasks (live_in c.self.inside.book c.args.self.now.book c.args.call (ap book_in c.self.view_is) c.requires.live) c.in_err-executed.ensures.task) c.in_err-executed.ensures.same.script c.in_err-executed.ensures.same.course;
+    tasks = tasks_same c.self.inside.book.script c.rerun_task.new.book.script c.self.inside.book.schedule c.rerun_task.new.book.schedule _
+        (tasks_set c.self.inside.book.script c.self.inside.book.schedule c.self.inside.tasks.items c.args.call c.rerun_task.new.running c.self.invariant.0.tasks (live_in c.self.inside.book c.args.self.now.book c.args.call (ap book_in c.self.view_is) c.requires.live) c.in_err-executed.ensures.task) c.in_err-executed.ensures.same.script c.in_err-executed.ensures.same.schedule;
   },
   last_same c.self.inside.book c.rerun_task.new.book c.self.inside.last c.self.invariant.1 c.in_err-executed.ensures.same,
 )
@@ -85,12 +85,12 @@ pub invariant_of-self-2 : goal.invariant_of-self-2
 invariant_of-self-2 c =
     let live = live_in c.self.inside.book c.args.self.now.book c.args.call (ap book_in c.self.view_is) c.requires.live in
     let made : Made (A c.args.call) c.self.inside.book c.rerun_task.new.book = c.in_ok-executed.ensures.made.0 in
-    let turns : HasTurns (length c.self.inside.book.course.order) live.0 = (c.self.invariant.0.tasks.running c.args.call live.0 live.1).2.turns in (
+    let round_starts : HasRoundStarts (length c.self.inside.book.schedule.order) live.0 = (c.self.invariant.0.tasks.running c.args.call live.0 live.1).2.round_starts in (
       record {
         stored = stored_made (A c.args.call) c.self.inside.book c.rerun_task.new.book c.self.inside.store c.self.invariant.0.stored made refl refl;
         numbers = numbers_again c.args.call c.self.inside.book c.rerun_task.new.book made c.in_ok-executed.ensures.settled c.self.invariant.0.numbers;
         tasks = restarted_on Plain c.self.inside.book c.rerun_task.new.book c.self.inside.tasks.items c.args.call live.0 c.rerun_task.new.running apart c.self.invariant.0.tasks live.1 made
-            (task_again c.self.inside.book.script c.self.inside.book.course.order c.args.call live.0 c.rerun_task.new.running turns (c.in_ok-executed.ensures.repaired live.0 live.1));
+            (task_again c.self.inside.book.script c.self.inside.book.schedule.order c.args.call live.0 c.rerun_task.new.running round_starts (c.in_ok-executed.ensures.repaired live.0 live.1));
       },
       last_other (A c.args.call) c.self.inside.book c.rerun_task.new.book c.self.inside.last c.self.invariant.1 made refl,
     )
@@ -126,5 +126,5 @@ returns-clause-others c = others_set c.args.call c.self.inside.tasks.items (Some
 pub returns-clause-whole : goal.returns-clause-whole
 returns-clause-whole c =
     let live = live_in c.self.inside.book c.args.self.now.book c.args.call (ap book_in c.self.view_is) c.requires.live in
-    whole_set c.self.inside.book.script c.self.inside.book.course c.rerun_task.new.book c.self.inside.tasks.items c.args.call c.rerun_task.new.running c.self.invariant.0.tasks live
+    whole_set c.self.inside.book.script c.self.inside.book.schedule c.rerun_task.new.book c.self.inside.tasks.items c.args.call c.rerun_task.new.running c.self.invariant.0.tasks live
     (whole_again Plain c.self.inside.book c.rerun_task.new.book c.args.call live.0 c.rerun_task.new.running.task.log.records apart live.1 c.in_ok-executed.ensures.made.0 (c.in_ok-executed.ensures.repaired live.0 live.1).records)

@@ -14,7 +14,7 @@ use Rattle.mv_core.proofs.engine.Core.answer_read.Goals as goal
 
 pub unreachable-requires : goal.unreachable-requires
 unreachable-requires c =
-    task_there c.self.inside.book.script c.self.inside.book.course c.self.inside.tasks.items c.args.call c.index_mut.result.now c.self.invariant.0.tasks (live_in c.self.inside.book c.args.self.now.book c.args.call (ap book_in c.self.view_is) c.requires.live) c.index_mut.ensures.value c.in_default.is
+    task_there c.self.inside.book.script c.self.inside.book.schedule c.self.inside.tasks.items c.args.call c.index_mut.result.now c.self.invariant.0.tasks (live_in c.self.inside.book c.args.self.now.book c.args.call (ap book_in c.self.view_is) c.requires.live) c.index_mut.ensures.value c.in_default.is
 
 pub finish_task-requires : goal.finish_task-requires
 finish_task-requires c = λ k. (
@@ -52,7 +52,7 @@ answer_task-requires-clause-live c = live_in c.self.inside.book c.args.self.now.
 
 pub answer_task-requires-clause-number : goal.answer_task-requires-clause-number
 answer_task-requires-clause-number c =
-    call_within c.self.inside.book.script c.self.inside.book.course c.self.inside.tasks.items c.args.call c.self.invariant.0.tasks (live_in c.self.inside.book c.args.self.now.book c.args.call (ap book_in c.self.view_is) c.requires.live)
+    call_within c.self.inside.book.script c.self.inside.book.schedule c.self.inside.tasks.items c.args.call c.self.invariant.0.tasks (live_in c.self.inside.book c.args.self.now.book c.args.call (ap book_in c.self.view_is) c.requires.live)
 
 pub answer_task-requires-clause-kind : goal.answer_task-requires-clause-kind
 answer_task-requires-clause-kind c = subst (λ (b : Booked). IsReader b c.args.call) (sym (ap book_in c.self.view_is)) c.requires.kind
@@ -72,7 +72,7 @@ invariant_of-self-in_err-start c =
 
 pub drop_task-requires : goal.drop_task-requires
 drop_task-requires c =
-    let lt : c.args.call < length c.self.inside.tasks.items = task_within c.self.inside.book.script c.self.inside.book.course c.self.inside.tasks.items c.args.call c.self.invariant.0.tasks (live_in c.self.inside.book c.args.self.now.book c.args.call (ap book_in c.self.view_is) c.requires.live) in
+    let lt : c.args.call < length c.self.inside.tasks.items = task_within c.self.inside.book.script c.self.inside.book.schedule c.self.inside.tasks.items c.args.call c.self.invariant.0.tasks (live_in c.self.inside.book c.args.self.now.book c.args.call (ap book_in c.self.view_is) c.requires.live) in
     search (rules, lt)
 
 pub invariant_of-self-2 : goal.invariant_of-self-2

@@ -14,7 +14,7 @@ use Rattle.mv_core.proofs.engine.Core.attempt.Goals as goal
 
 pub unreachable-requires : goal.unreachable-requires
 unreachable-requires c =
-    task_there c.self.inside.book.script c.self.inside.book.course c.self.inside.tasks.items c.args.call c.index_mut.result.now c.self.invariant.0.tasks (live_in c.self.inside.book c.args.self.now.book c.args.call (ap book_in c.self.view_is) c.requires.live) c.index_mut.ensures.value c.in_default.is
+    task_there c.self.inside.book.script c.self.inside.book.schedule c.self.inside.tasks.items c.args.call c.index_mut.result.now c.self.invariant.0.tasks (live_in c.self.inside.book c.args.self.now.book c.args.call (ap book_in c.self.view_is) c.requires.live) c.index_mut.ensures.value c.in_default.is
 
 pub check_task-requires-clause-kind : goal.check_task-requires-clause-kind
 check_task-requires-clause-kind c = subst (λ (b : Booked). IsNoReader b c.args.call) (sym (ap book_in c.self.view_is)) c.requires.kind
@@ -34,7 +34,7 @@ settle_and_commit-requires-clause-live c = live_in c.self.inside.book c.args.sel
 
 pub settle_and_commit-requires-clause-number : goal.settle_and_commit-requires-clause-number
 settle_and_commit-requires-clause-number c =
-    call_within c.self.inside.book.script c.self.inside.book.course c.self.inside.tasks.items c.args.call c.self.invariant.0.tasks (live_in c.self.inside.book c.args.self.now.book c.args.call (ap book_in c.self.view_is) c.requires.live)
+    call_within c.self.inside.book.script c.self.inside.book.schedule c.self.inside.tasks.items c.args.call c.self.invariant.0.tasks (live_in c.self.inside.book c.args.self.now.book c.args.call (ap book_in c.self.view_is) c.requires.live)
 
 pub settle_and_commit-requires-clause-allowed : goal.settle_and_commit-requires-clause-allowed
 settle_and_commit-requires-clause-allowed c =
@@ -53,7 +53,7 @@ invariant_of-self-in_err-commit-in-Free c =
 
 pub end_task-requires : goal.end_task-requires
 end_task-requires c =
-    let lt : c.args.call < length c.self.inside.tasks.items = task_within c.self.inside.book.script c.self.inside.book.course c.self.inside.tasks.items c.args.call c.self.invariant.0.tasks (live_in c.self.inside.book c.args.self.now.book c.args.call (ap book_in c.self.view_is) c.requires.live) in
+    let lt : c.args.call < length c.self.inside.tasks.items = task_within c.self.inside.book.script c.self.inside.book.schedule c.self.inside.tasks.items c.args.call c.self.invariant.0.tasks (live_in c.self.inside.book c.args.self.now.book c.args.call (ap book_in c.self.view_is) c.requires.live) in
     search (rules, lt)
 
 pub invariant_of-self-in-Free : goal.invariant_of-self-in-Free
@@ -66,7 +66,7 @@ invariant_of-self-in-Free c =
         numbers = numbers_other (C c.args.call) c.self.inside.book c.settle_and_commit.new.book made (λ d. refl) c.self.invariant.0.numbers;
         tasks = committed_on None c.self.inside.book c.settle_and_commit.new.book _ c.args.call live.0 k.tasks live.1 made;
       }),
-      last_committed (C c.args.call) c.args.call c.self.inside.book c.settle_and_commit.new.book c.check_task.new.running c.end_task.new.last made refl (last_records c.self.inside.book c.args.call c.check_task.new.running.task.log.records c.self.invariant.0.stored.script (call_within c.self.inside.book.script c.self.inside.book.course c.self.inside.tasks.items c.args.call c.self.invariant.0.tasks live) live (c.in_ok-check_task.ensures.records c.in-Free.is) made.allowed) (last_ended c.self.inside.book.script c.self.inside.book.course c.self.inside.tasks.items c.args.call c.check_task.new.running c.end_task.new.last c.self.invariant.0.tasks live c.end_task.ensures.last),
+      last_committed (C c.args.call) c.args.call c.self.inside.book c.settle_and_commit.new.book c.check_task.new.running c.end_task.new.last made refl (last_records c.self.inside.book c.args.call c.check_task.new.running.task.log.records c.self.invariant.0.stored.script (call_within c.self.inside.book.script c.self.inside.book.schedule c.self.inside.tasks.items c.args.call c.self.invariant.0.tasks live) live (c.in_ok-check_task.ensures.records c.in-Free.is) made.allowed) (last_ended c.self.inside.book.script c.self.inside.book.schedule c.self.inside.tasks.items c.args.call c.check_task.new.running c.end_task.new.last c.self.invariant.0.tasks live c.end_task.ensures.last),
     )
 
 pub invariant_of-self-in-Hit : goal.invariant_of-self-in-Hit
@@ -83,7 +83,7 @@ returns-in_err-commit-in-Free-clause-made c =
 pub returns-in_ok-commit-in-Free-clause-made : goal.returns-in_ok-commit-in-Free-clause-made
 returns-in_ok-commit-in-Free-clause-made c = (
   subst (λ (b : Booked). Made (C c.args.call) b c.settle_and_commit.new.book) (ap book_in c.self.view_is) c.in_ok-commit-in-Free.ensures.made.0,
-  c.in_ok-commit-in-Free.ensures.made.1 ∙ ap (λ (b : Booked). length b.course.order + 1) (ap book_in c.self.view_is),
+  c.in_ok-commit-in-Free.ensures.made.1 ∙ ap (λ (b : Booked). length b.schedule.order + 1) (ap book_in c.self.view_is),
 )
 
 pub returns-in-Hit-clause-made : goal.returns-in-Hit-clause-made
@@ -116,5 +116,5 @@ returns-in-Stale-clause-others c = others_set c.args.call c.self.inside.tasks.it
 pub returns-in-Hit-clause-whole : goal.returns-in-Hit-clause-whole
 returns-in-Hit-clause-whole c =
     let live = live_in c.self.inside.book c.args.self.now.book c.args.call (ap book_in c.self.view_is) c.requires.live in
-    whole_set c.self.inside.book.script c.self.inside.book.course c.self.inside.book c.self.inside.tasks.items c.args.call c.check_task.new.running c.self.invariant.0.tasks live
+    whole_set c.self.inside.book.script c.self.inside.book.schedule c.self.inside.book c.self.inside.tasks.items c.args.call c.check_task.new.running c.self.invariant.0.tasks live
     (c.in_ok-check_task.ensures.hit c.in-Hit.number c.in-Hit.commit c.in-Hit.is)

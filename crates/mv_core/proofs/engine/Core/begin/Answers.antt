@@ -4,7 +4,7 @@ use Rattle.std.specs.Prelude.{slice_get}
 use Rattle.mv_values.specs.Tables.{Tables}
 use Rattle.mv_core.specs.declared.tasks.Running.{Running}
 use Rattle.mv_journal.specs.declared.event.Event.TheVariants.{B}
-use Rattle.mv_script.specs.declared.script.Script.{Script}
+use Rattle.mv_script.specs.declared.script.CompiledScript.{CompiledScript}
 use Rattle.mv_core.specs.declared.book.Begun.{Begun}
 use Rattle.mv_core.specs.Books.{Made, HasBegun}
 use Rattle.mv_core.specs.Cores.{RunsOn, IsCore, records_by}
@@ -27,7 +27,7 @@ invariant_of-self-in-Ok-Some c =
         stored = stored_made (B c.in-Some.call) c.self.inside.book c.begin.new.self c.self.inside.store c.self.invariant.0.stored made refl refl;
         numbers = numbers_other (B c.in-Some.call) c.self.inside.book c.begin.new.self made (λ d. refl) c.self.invariant.0.numbers;
         tasks = begun_on c.self.inside.book c.begin.new.self c.self.inside.tasks.items c.in-Some.call c.in_ok-task.task c.self.invariant.0.tasks made next.0 next.1
-            (subst (λ (s : Script). (db : Tables) → RunsOn s c.in-Some.call db c.in_ok-task.task) c.script.ensures c.in_ok-task.ensures.runs)
+            (subst (λ (s : CompiledScript). (db : Tables) → RunsOn s c.in-Some.call db c.in_ok-task.task) c.script.ensures c.in_ok-task.ensures.runs)
             (c.in_ok-task.ensures.executed ∙ sym (ap length c.in_ok-task.ensures.records));
       }),
       last_other (B c.in-Some.call) c.self.inside.book c.begin.new.self c.self.inside.last c.self.invariant.1 made refl,

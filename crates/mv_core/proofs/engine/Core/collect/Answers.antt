@@ -15,7 +15,7 @@ use Rattle.mv_core.proofs.engine.Core.collect.Goals as goal
 -- versions were collected, or nothing happened
 core_collected : (r : Result (Unit {0}) NoMemory) (old new : Booked) (store raised : Versioned) (ts : List (Option Running)) → IsCore old store ts → HasCollected r old new → IsStoreOf new raised → IsCore new raised ts
 core_collected (Ok x) old new store raised ts k made stored = record { stored = stored; numbers = numbers_other G old new made (λ d. refl) k.numbers; tasks = collected_on old new ts k.tasks made }
-core_collected (Err e) old new store raised ts k same stored = record { stored = stored; numbers = numbers_same old new same k.numbers; tasks = tasks_same old.script new.script old.course new.course ts k.tasks same.script same.course }
+core_collected (Err e) old new store raised ts k same stored = record { stored = stored; numbers = numbers_same old new same k.numbers; tasks = tasks_same old.script new.script old.schedule new.schedule ts k.tasks same.script same.schedule }
 
 pub invariant_of-self : goal.invariant_of-self
 invariant_of-self c = (core_collected c.collect_versions.result c.self.inside.book c.collect_versions.new.book c.self.inside.store c.collect_versions.new.store c.self.inside.tasks.items c.self.invariant.0 c.collect_versions.ensures.made c.collect_versions.ensures.stored, last_collected c.collect_versions.result c.self.inside.book c.collect_versions.new.book c.self.inside.last c.self.invariant.1 c.collect_versions.ensures.made)

@@ -7,7 +7,7 @@ use Rattle.mv_core.proofs.engine.Core.may_step.Goals as goal
 
 pub unreachable-requires : goal.unreachable-requires
 unreachable-requires c =
-    task_there c.self.inside.book.script c.self.inside.book.course c.self.inside.tasks.items c.args.call c.index.result.now c.self.invariant.0.tasks (c.in-Some.ensures.live.live, c.in-Some.ensures.live.is_live) c.index.ensures c.in_default-index.is
+    task_there c.self.inside.book.script c.self.inside.book.schedule c.self.inside.tasks.items c.args.call c.index.result.now c.self.invariant.0.tasks (c.in-Some.ensures.live.live, c.in-Some.ensures.live.is_live) c.index.ensures c.in_default-index.is
 
 pub has_step-requires-clause-script : goal.has_step-requires-clause-script
 has_step-requires-clause-script c = c.self.invariant.0.stored.script
@@ -16,10 +16,10 @@ pub has_step-requires-clause-live : goal.has_step-requires-clause-live
 has_step-requires-clause-live c = (c.in-Some.ensures.live.live, c.in-Some.ensures.live.is_live)
 
 pub has_step-requires-clause-number : goal.has_step-requires-clause-number
-has_step-requires-clause-number c = call_within c.self.inside.book.script c.self.inside.book.course c.self.inside.tasks.items c.args.call c.self.invariant.0.tasks (c.in-Some.ensures.live.live, c.in-Some.ensures.live.is_live)
+has_step-requires-clause-number c = call_within c.self.inside.book.script c.self.inside.book.schedule c.self.inside.tasks.items c.args.call c.self.invariant.0.tasks (c.in-Some.ensures.live.live, c.in-Some.ensures.live.is_live)
 
 pub has_step-requires-clause-task : goal.has_step-requires-clause-task
-has_step-requires-clause-task c = task_read c.self.inside.book.script c.self.inside.book.course c.self.inside.tasks.items c.args.call c.index.result.now c.get-running.result.now c.self.invariant.0.tasks c.index.ensures (c.in-Some-index.is ∙ ap Some (sym c.get-running.ensures))
+has_step-requires-clause-task c = task_read c.self.inside.book.script c.self.inside.book.schedule c.self.inside.tasks.items c.args.call c.index.result.now c.get-running.result.now c.self.invariant.0.tasks c.index.ensures (c.in-Some-index.is ∙ ap Some (sym c.get-running.ensures))
 
 pub returns : goal.returns
 returns c =

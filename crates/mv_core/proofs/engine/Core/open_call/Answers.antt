@@ -16,5 +16,5 @@ returns-then-is_some c =
 
 pub loop-call-preserved : goal.loop-call-preserved
 loop-call-preserved c =
-    open_next c.args.self.now.book.course c.loop-call.call c.loop-call.invariant (of_none c.rounds.result c.rounds.ensures.none (sym c.is_some.ensures ∙ c.if-is_some.false))
+    open_next c.args.self.now.book.schedule c.loop-call.call c.loop-call.invariant (of_none c.rounds.result c.rounds.ensures.none (sym c.is_some.ensures ∙ c.if-is_some.false))
     (let lt = c.loop-call-test.true in let is = c.begun-call-end.ensures.begun in omega (arith, lt, is))

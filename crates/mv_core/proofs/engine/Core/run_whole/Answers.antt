@@ -1,6 +1,6 @@
 use Rattle.std.proofs.Common.{refl, rules, ◌<◌, length, ap, sym, subst}
 use Rattle.std.proofs.lemmas.Result.{err_from_is_err_and}
-use Rattle.mv_script.specs.declared.script.Script.{Script}
+use Rattle.mv_script.specs.declared.script.CompiledScript.{CompiledScript}
 use Rattle.mv_core.specs.Books.{Booked, IsNotStale, AreRecordsOf}
 use Rattle.mv_core.proofs.Taking.{call_within, records_back}
 use Rattle.mv_core.proofs.Stored.{shows_start, fresh_start, database_shown}
@@ -13,8 +13,8 @@ whole_task-requires c = λ k. (
   (
     search rules,
     (
-      (subst (λ (s : Script). c.args.call < length s.calls) (sym c.script.ensures)
-          (call_within c.self.inside.book.script c.self.inside.book.course c.self.inside.tasks.items c.args.call c.self.invariant.0.tasks (live_in c.self.inside.book c.args.self.now.book c.args.call (ap book_in c.self.view_is) c.requires))),
+      (subst (λ (s : CompiledScript). c.args.call < length s.calls) (sym c.script.ensures)
+          (call_within c.self.inside.book.script c.self.inside.book.schedule c.self.inside.tasks.items c.args.call c.self.invariant.0.tasks (live_in c.self.inside.book c.args.self.now.book c.args.call (ap book_in c.self.view_is) c.requires))),
       (let b : Booked = c.self.inside.book in
           let live = live_in b c.args.self.now.book c.args.call (ap book_in c.self.view_is) c.requires in
           let fresh = subst (λ (b : Booked). IsNotStale b c.args.call) (sym (ap book_in c.self.view_is)) c.in_ok-refuse_stale.ensures.fresh in
@@ -35,7 +35,7 @@ returns-clause-records c =
 pub returns-clause-number : goal.returns-clause-number
 returns-clause-number c =
     subst (λ (b : Booked). c.args.call < length b.script.calls) (ap book_in c.self.view_is)
-    (call_within c.self.inside.book.script c.self.inside.book.course c.self.inside.tasks.items c.args.call c.self.invariant.0.tasks (live_in c.self.inside.book c.args.self.now.book c.args.call (ap book_in c.self.view_is) c.requires))
+    (call_within c.self.inside.book.script c.self.inside.book.schedule c.self.inside.tasks.items c.args.call c.self.invariant.0.tasks (live_in c.self.inside.book c.args.self.now.book c.args.call (ap book_in c.self.view_is) c.requires))
 
 pub returns-in_err-task-clause-refused : goal.returns-in_err-task-clause-refused
 returns-in_err-task-clause-refused c =

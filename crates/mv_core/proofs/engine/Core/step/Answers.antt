@@ -2,10 +2,10 @@ use Rattle.std.proofs.Common.{arith, rules, ◌≡◌, ◌+◌, ◌<◌, length,
 use Rattle.std.specs.Prelude.{not}
 use Rattle.std.proofs.lemmas.Result.{err_from_is_err_and}
 use Rattle.mv_journal.specs.declared.event.Event.TheVariants.{S}
-use Rattle.mv_lawful.specs.Lawful.{Live, Course, used, is_stale}
+use Rattle.mv_lawful.specs.Lawful.{Live, Schedule, used, is_stale}
 use Rattle.mv_exec.specs.Running.{stepped}
 use Rattle.mv_core.specs.Calls.{IsLive}
-use Rattle.mv_core.specs.Books.{Booked, IsSame, work_in}
+use Rattle.mv_core.specs.Books.{Booked, IsSame, batch_in}
 use Rattle.mv_core.proofs.Stored.{shows_start, fresh_start, stored_made}
 use Rattle.mv_core.proofs.Numbered.{numbers_other}
 use Rattle.mv_core.proofs.Taking.{task_there, task_within, call_within, stepped_on, running_in, core_set}
@@ -20,14 +20,14 @@ invariant_of-self c = (core_same c.self.inside.book c.reserve.new.self c.self.in
 pub index_mut-requires : goal.index_mut-requires
 index_mut-requires c =
     let k = core_same c.self.inside.book c.reserve.new.self c.self.inside.store c.self.inside.tasks.items c.self.invariant.0 c.reserve.ensures.same in
-    let lt : c.args.call < length c.self.inside.tasks.items = task_within c.reserve.new.self.script c.reserve.new.self.course c.self.inside.tasks.items c.args.call k.tasks
+    let lt : c.args.call < length c.self.inside.tasks.items = task_within c.reserve.new.self.script c.reserve.new.self.schedule c.self.inside.tasks.items c.args.call k.tasks
     (live_now c.self.inside.book c.args.self.now.book c.reserve.new.self c.args.call (ap book_in c.self.view_is) c.requires.live c.reserve.ensures.same) in
     search (rules, lt)
 
 pub unreachable-requires : goal.unreachable-requires
 unreachable-requires c =
     let k = core_same c.self.inside.book c.reserve.new.self c.self.inside.store c.self.inside.tasks.items c.self.invariant.0 c.reserve.ensures.same in
-    task_there c.reserve.new.self.script c.reserve.new.self.course c.self.inside.tasks.items c.args.call c.index_mut.result.now k.tasks
+    task_there c.reserve.new.self.script c.reserve.new.self.schedule c.self.inside.tasks.items c.args.call c.index_mut.result.now k.tasks
     (live_now c.self.inside.book c.args.self.now.book c.reserve.new.self c.args.call (ap book_in c.self.view_is) c.requires.live c.reserve.ensures.same) c.index_mut.ensures.value c.in_default.is
 
 pub start-requires : goal.start-requires
@@ -62,7 +62,7 @@ steps-requires c =
 pub has_more-requires : goal.has_more-requires
 has_more-requires c none =
     let live = live_now c.self.inside.book c.args.self.now.book c.reserve.new.self c.args.call (ap book_in c.self.view_is) c.requires.live c.reserve.ensures.same in
-    let first : used live.0 ≡ 0 = step_used (work_in c.reserve.new.self) c.reserve.new.self.course c.args.call live.0 (step_now c.self.inside.book c.args.self.now.book c.reserve.new.self c.args.call (ap book_in c.self.view_is) c.requires.left c.reserve.ensures.same live.0 live.1) in
+    let first : used live.0 ≡ 0 = step_used (batch_in c.reserve.new.self) c.reserve.new.self.schedule c.args.call live.0 (step_now c.self.inside.book c.args.self.now.book c.reserve.new.self c.args.call (ap book_in c.self.view_is) c.requires.left c.reserve.ensures.same live.0 live.1) in
     let le = (c.in_ok-step_task.ensures.ok live.0 live.1).steps none first in
     let is = c.steps.ensures (record live.0 { steps = live.0.steps + 1 }) (live_stepped c.args.call c.reserve.new.self c.ran.new.self live.0 live.1 c.ran.ensures.made) in
     omega (arith, le, is)
@@ -83,11 +83,11 @@ pub returns-clause-made : goal.returns-clause-made
 returns-clause-made c =
     let k = core_same c.self.inside.book c.reserve.new.self c.self.inside.store c.self.inside.tasks.items c.self.invariant.0 c.reserve.ensures.same in
     let live = live_now c.self.inside.book c.args.self.now.book c.reserve.new.self c.args.call (ap book_in c.self.view_is) c.requires.live c.reserve.ensures.same in
-    let first : used live.0 ≡ 0 = step_used (work_in c.reserve.new.self) c.reserve.new.self.course c.args.call live.0 (step_now c.self.inside.book c.args.self.now.book c.reserve.new.self c.args.call (ap book_in c.self.view_is) c.requires.left c.reserve.ensures.same live.0 live.1) in (
+    let first : used live.0 ≡ 0 = step_used (batch_in c.reserve.new.self) c.reserve.new.self.schedule c.args.call live.0 (step_now c.self.inside.book c.args.self.now.book c.reserve.new.self c.args.call (ap book_in c.self.view_is) c.requires.left c.reserve.ensures.same live.0 live.1) in (
       made_now (S c.args.call) c.self.inside.book c.args.self.now.book c.reserve.new.self c.ran.new.self (ap book_in c.self.view_is) c.reserve.ensures.same c.ran.ensures.made,
       λ m at. c.stepped_of.ensures ∙ ap (λ b. stepped (not b)) (sym
           (step_told c.reserve.new.self c.ran.new.self c.self.inside.store c.args.call live.0 c.step_task.new.running c.steps.result c.has_more.result k.stored
-          (call_within c.reserve.new.self.script c.reserve.new.self.course c.self.inside.tasks.items c.args.call k.tasks live) live.1 c.ran.ensures.made (c.in_ok-step_task.ensures.ok live.0 live.1) first c.steps.ensures c.has_more.ensures.known c.has_more.ensures.unknown m at)),
+          (call_within c.reserve.new.self.script c.reserve.new.self.schedule c.self.inside.tasks.items c.args.call k.tasks live) live.1 c.ran.ensures.made (c.in_ok-step_task.ensures.ok live.0 live.1) first c.steps.ensures c.has_more.ensures.known c.has_more.ensures.unknown m at)),
     )
 
 pub returns-in_err-step_task-clause-made : goal.returns-in_err-step_task-clause-made
@@ -115,6 +115,6 @@ pub returns-clause-one : goal.returns-clause-one
 returns-clause-one c =
     let k = core_same c.self.inside.book c.reserve.new.self c.self.inside.store c.self.inside.tasks.items c.self.invariant.0 c.reserve.ensures.same in
     let live = live_now c.self.inside.book c.args.self.now.book c.reserve.new.self c.args.call (ap book_in c.self.view_is) c.requires.live c.reserve.ensures.same in
-    runs_one c.reserve.new.self.script c.reserve.new.self.course c.self.inside.tasks.items c.args.call c.index_mut.result.now c.get_mut-running.result.now c.step_task.new.running c.args.self.now c.ran.new.self
-    k.tasks live c.index_mut.ensures.value (c.in-Some.is ∙ ap Some (sym c.get_mut-running.ensures.value)) (ap tasks_in c.self.view_is) (c.reserve.ensures.same.course ∙ ap (λ (b : Booked). b.course) (ap book_in c.self.view_is))
+    runs_one c.reserve.new.self.script c.reserve.new.self.schedule c.self.inside.tasks.items c.args.call c.index_mut.result.now c.get_mut-running.result.now c.step_task.new.running c.args.self.now c.ran.new.self
+    k.tasks live c.index_mut.ensures.value (c.in-Some.is ∙ ap Some (sym c.get_mut-running.ensures.value)) (ap tasks_in c.self.view_is) (c.reserve.ensures.same.schedule ∙ ap (λ (b : Booked). b.schedule) (ap book_in c.self.view_is))
     c.in_ok-step_task.ensures.one c.in_ok-step_task.ensures.named

@@ -6,7 +6,7 @@ use Rattle.mv_core.proofs.engine.Core.validate.Goals as goal
 
 pub unreachable-requires : goal.unreachable-requires
 unreachable-requires c =
-    task_there c.self.inside.book.script c.self.inside.book.course c.self.inside.tasks.items c.args.call c.index_mut.result.now c.self.invariant.0.tasks (live_in c.self.inside.book c.args.self.now.book c.args.call (ap book_in c.self.view_is) c.requires.live) c.index_mut.ensures.value c.in_default.is
+    task_there c.self.inside.book.script c.self.inside.book.schedule c.self.inside.tasks.items c.args.call c.index_mut.result.now c.self.invariant.0.tasks (live_in c.self.inside.book c.args.self.now.book c.args.call (ap book_in c.self.view_is) c.requires.live) c.index_mut.ensures.value c.in_default.is
 
 pub check_task-requires-clause-kind : goal.check_task-requires-clause-kind
 check_task-requires-clause-kind c = subst (λ (b : Booked). IsNoReader b c.args.call) (sym (ap book_in c.self.view_is)) c.requires.kind

@@ -1,5 +1,5 @@
 use Rattle.std.proofs.Common.{◌≡◌, [], ap}
-use Rattle.mv_alone.specs.declared.state.Env.{Env}
+use Rattle.mv_eval.specs.declared.state.Env.{Env}
 use Rattle.mv_log.specs.Logged.{Logged}
 use Rattle.mv_exec.specs.Running.{IsTaskOf}
 use Rattle.mv_exec.proofs.Fronts.{begins, begins_on}

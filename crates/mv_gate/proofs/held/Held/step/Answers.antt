@@ -1,8 +1,8 @@
 use Rattle.std.proofs.Common.{◌<◌, Option, length, refl, sym, ap, subst, ◌∙◌}
 use Rattle.mv_values.specs.Tables.{Tables}
 use Rattle.mv_view.specs.Viewing.{Sight}
-use Rattle.mv_script.specs.declared.script.Script.{Script}
-use Rattle.mv_script.specs.Scripts.{IsScript}
+use Rattle.mv_script.specs.declared.script.CompiledScript.{CompiledScript}
+use Rattle.mv_script.specs.Scripts.{IsCompiledScript}
 use Rattle.mv_shards.specs.Scripts.{script_in}
 use Rattle.mv_core.specs.Cores.{RunsOn}
 use Rattle.mv_lawful.specs.Rounds.{IsPast}
@@ -19,13 +19,13 @@ pub run_next-requires : goal.run_next-requires
 run_next-requires g c = λ k. (
   (refl, tt),
   (
-    (subst IsScript (sym c.args.beside.now.named) c.self.invariant.sound),
+    (subst IsCompiledScript (sym c.args.beside.now.named) c.self.invariant.sound),
     (
-      (subst (λ (s : Script). c.self.inside.call < length s.calls) (sym c.args.beside.now.named) c.self.invariant.there),
+      (subst (λ (s : CompiledScript). c.self.inside.call < length s.calls) (sym c.args.beside.now.named) c.self.invariant.there),
       (
         (shown_in g.N.Making.script c.self.inside.start.knows.seen c.self.inside.call c.self.inside.start.number c.args.beside.now.script.now c.view-view.result.sight.database c.self.invariant.sound c.args.beside.now.named
             (ap (λ (s : Sight). s.database) c.view-view.ensures.sight)),
-        (subst (λ (s : Script). RunsOn s c.self.inside.call c.view-view.result.sight.database c.self.inside.task) (sym c.args.beside.now.named)
+        (subst (λ (s : CompiledScript). RunsOn s c.self.inside.call c.view-view.result.sight.database c.self.inside.task) (sym c.args.beside.now.named)
             (subst (λ (db : Tables). RunsOn (script_in g.N.Making.script) c.self.inside.call db c.self.inside.task) (sym (ap (λ (s : Sight). s.database) c.view-view.ensures.sight)) c.self.invariant.runs)),
       ),
     ),

@@ -1,7 +1,7 @@
 use Rattle.std.proofs.Common.{◌<◌, length, refl, sym, ap, subst, ◌∙◌}
 use Rattle.mv_view.specs.Viewing.{Sight}
-use Rattle.mv_script.specs.declared.script.Script.{Script}
-use Rattle.mv_script.specs.Scripts.{IsScript}
+use Rattle.mv_script.specs.declared.script.CompiledScript.{CompiledScript}
+use Rattle.mv_script.specs.Scripts.{IsCompiledScript}
 use Rattle.mv_shards.specs.Histories.{tables_at}
 use Rattle.mv_shards.specs.Reads.{Started}
 use Rattle.mv_gate.specs.Gates.{Waiting, Holding}
@@ -12,18 +12,18 @@ use Rattle.mv_gate.proofs.Pins.{leave_at, leave_shown}
 use Rattle.mv_gate.proofs.pinned.PinnedBegun.run_whole.Goals as goal
 
 pub new_task-requires-clause-script : goal.new_task-requires-clause-script
-new_task-requires-clause-script g c = subst IsScript (sym c.args.beside.now.named) c.begun.invariant.sound
+new_task-requires-clause-script g c = subst IsCompiledScript (sym c.args.beside.now.named) c.begun.invariant.sound
 
 pub new_task-requires-clause-number : goal.new_task-requires-clause-number
-new_task-requires-clause-number g c = subst (λ (s : Script). c.begun.inside.call < length s.calls) (sym c.args.beside.now.named) c.begun.invariant.there
+new_task-requires-clause-number g c = subst (λ (s : CompiledScript). c.begun.inside.call < length s.calls) (sym c.args.beside.now.named) c.begun.invariant.there
 
 pub run_all-requires : goal.run_all-requires
 run_all-requires g c = λ k. (
   (refl, tt),
   (
-    (subst IsScript (sym c.args.beside.now.named) c.begun.invariant.sound),
+    (subst IsCompiledScript (sym c.args.beside.now.named) c.begun.invariant.sound),
     (
-      (subst (λ (s : Script). c.begun.inside.call < length s.calls) (sym c.args.beside.now.named) c.begun.invariant.there),
+      (subst (λ (s : CompiledScript). c.begun.inside.call < length s.calls) (sym c.args.beside.now.named) c.begun.invariant.there),
       (
         (shown_in g.N.Making.script c.begun.inside.start.knows.seen c.begun.inside.call c.begun.inside.start.number c.args.beside.now.script.now c.view-view.result.sight.database c.begun.invariant.sound c.args.beside.now.named
             (ap (λ (s : Sight). s.database) c.view-view.ensures.sight)),

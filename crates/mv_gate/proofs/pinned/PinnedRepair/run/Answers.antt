@@ -2,11 +2,11 @@ use Rattle.std.proofs.Common.{Some, List, ◌<◌, length, refl, sym, ap, subst,
 use Rattle.mv_view.specs.Viewing.{Sight}
 use Rattle.mv_changes.specs.declared.recent.Committed.{Committed}
 use Rattle.mv_repair.specs.Repairing.{changes_since}
-use Rattle.mv_script.specs.declared.script.Script.{Script}
-use Rattle.mv_script.specs.Scripts.{IsScript, work_of}
+use Rattle.mv_script.specs.declared.script.CompiledScript.{CompiledScript}
+use Rattle.mv_script.specs.Scripts.{IsCompiledScript, batch_of}
 use Rattle.mv_shards.specs.Scripts.{script_in}
 use Rattle.mv_history.specs.Kept.{executions}
-use Rattle.mv_shards.specs.Scripts.{work}
+use Rattle.mv_shards.specs.Scripts.{batch}
 use Rattle.mv_shards.specs.Histories.{tables_at}
 use Rattle.mv_core.specs.Cores.{IsTaskFor, CanRepair}
 use Rattle.mv_core.proofs.Taking.{task_runs}
@@ -22,13 +22,13 @@ pub repair_over-requires : goal.repair_over-requires
 repair_over-requires g c = λ k. (
   (refl, tt),
   (
-    (subst IsScript (sym c.args.beside.now.named) c.repair.invariant.sound),
+    (subst IsCompiledScript (sym c.args.beside.now.named) c.repair.invariant.sound),
     (
-      (subst (λ (s : Script). c.repair.inside.call < length s.calls) (sym c.args.beside.now.named) c.repair.invariant.there),
+      (subst (λ (s : CompiledScript). c.repair.inside.call < length s.calls) (sym c.args.beside.now.named) c.repair.invariant.there),
       (
-        (subst (λ (s : Script). IsTaskFor s c.repair.inside.call c.repair.inside.task) (sym c.args.beside.now.named) (task_runs (script_in g.N.Making.script) c.repair.inside.call _ c.repair.inside.task c.repair.invariant.runs)),
+        (subst (λ (s : CompiledScript). IsTaskFor s c.repair.inside.call c.repair.inside.task) (sym c.args.beside.now.named) (task_runs (script_in g.N.Making.script) c.repair.inside.call _ c.repair.inside.task c.repair.invariant.runs)),
         (let r : Repairing = record { call = c.repair.inside.call; start = c.repair.inside.start; from = c.repair.inside.from; task = c.repair.inside.task; since = c.repair.inside.since } in
-            subst (λ (s : Script). CanRepair s r.call r.task (changes_since c.as_slice-commits.result.now) c.view-view.result.sight.database) (sym c.args.beside.now.named)
+            subst (λ (s : CompiledScript). CanRepair s r.call r.task (changes_since c.as_slice-commits.result.now) c.view-view.result.sight.database) (sym c.args.beside.now.named)
             (subst (λ (cs : List Committed). CanRepair (script_in g.N.Making.script) r.call r.task (changes_since cs) c.view-view.result.sight.database) (sym c.as_slice-commits.ensures)
             (may_repair g.N.Making.script r c.view-view.result.sight.database c.repair.invariant (ap (λ (v : Sight). v.database) c.view-view.ensures.sight)))),
       ),
@@ -51,7 +51,7 @@ invariant_of-held g c =
     (runs_here s c.args.beside.now.script.now c.repair.inside.call c.view-view.result.sight.database (tables_at s c.repair.inside.start.knows.seen c.repair.inside.start.number) c.repair_over.new.task c.args.beside.now.named (ap (λ (v : Sight). v.database) c.view-view.ensures.sight)
     c.in-Ok.ensures.runs)
     (c.in-Ok.ensures.records
-    ∙ (ap (λ (x : Script). ((work_of x).run c.repair.inside.call c.view-view.result.sight.database).records) c.args.beside.now.named ∙ ap (λ (v : Sight). ((work s).run c.repair.inside.call v.database).records) c.view-view.ensures.sight))
+    ∙ (ap (λ (x : CompiledScript). ((batch_of x).run c.repair.inside.call c.view-view.result.sight.database).records) c.args.beside.now.named ∙ ap (λ (v : Sight). ((batch s).run c.repair.inside.call v.database).records) c.view-view.ensures.sight))
     (c.in-Ok.ensures.executed ∙ ap (λ (cs : List Committed). executions c.repair.inside.task.log.records c.repair_over.new.task.log.records (changes_since cs)) c.as_slice-commits.ensures)).0
 
 pub new-requires : goal.new-requires
@@ -61,7 +61,7 @@ new-requires g c =
     (runs_here s c.args.beside.now.script.now c.repair.inside.call c.view-view.result.sight.database (tables_at s c.repair.inside.start.knows.seen c.repair.inside.start.number) c.repair_over.new.task c.args.beside.now.named (ap (λ (v : Sight). v.database) c.view-view.ensures.sight)
     c.in-Ok.ensures.runs)
     (c.in-Ok.ensures.records
-    ∙ (ap (λ (x : Script). ((work_of x).run c.repair.inside.call c.view-view.result.sight.database).records) c.args.beside.now.named ∙ ap (λ (v : Sight). ((work s).run c.repair.inside.call v.database).records) c.view-view.ensures.sight))
+    ∙ (ap (λ (x : CompiledScript). ((batch_of x).run c.repair.inside.call c.view-view.result.sight.database).records) c.args.beside.now.named ∙ ap (λ (v : Sight). ((batch s).run c.repair.inside.call v.database).records) c.view-view.ensures.sight))
     (c.in-Ok.ensures.executed ∙ ap (λ (cs : List Committed). executions c.repair.inside.task.log.records c.repair_over.new.task.log.records (changes_since cs)) c.as_slice-commits.ensures)).1
 
 pub of-requires : goal.of-requires

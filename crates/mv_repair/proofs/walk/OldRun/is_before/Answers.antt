@@ -2,7 +2,7 @@ use Rattle.std.proofs.Common.{sym, ap, arith}
 use Rattle.std.proofs.lemmas.Option.{slice_get_past}
 use Rattle.mv_record.specs.Paths.{paths}
 use Rattle.mv_repair.specs.Walking.{is_before}
-use Rattle.mv_alike.proofs.Placing.{many_paths}
+use Rattle.mv_soundness.proofs.Placing.{many_paths}
 use Rattle.mv_repair.proofs.walk.OldRun.is_before.Goals as goal
 
 pub returns-then-self-len-clause-is : goal.returns-then-self-len-clause-is

@@ -1,7 +1,7 @@
 use Rattle.std.proofs.Common.{rules, ap, ◌∙◌, ℕ, subst, sym, ◌<◌, ◌≤◌, ◌≡◌, true, length, slice_index, arith}
 use Rattle.atomic_table.specs.Table.{Me}
 use Rattle.mv_seats.specs.Rule.{View}
-use Rattle.mv_seats.specs.Scripts.{Script}
+use Rattle.mv_seats.specs.Scripts.{BoardScript}
 use Rattle.mv_seats.specs.Knowing.{Knows, has_role}
 use Rattle.mv_seats.proofs.Marks.{at_stepped}
 use Rattle.mv_seats.proofs.Steps.{raises}
@@ -11,7 +11,7 @@ pub store-requires : goal.store-requires
 store-requires g c =
     let q = c.args.shard in
     let own = subst (λ (k : Knows). has_role k q ≡ true) (sym c.self.view_is) c.requires.own in
-    let there = subst (λ (s : Script). q < s.shards) (sym c.self.invariant.of_script) c.requires.there in
+    let there = subst (λ (s : BoardScript). q < s.shards) (sym c.self.invariant.of_script) c.requires.there in
     let rises = subst (λ (k : Knows). slice_index k.marks q ≤ c.args.upto) (sym c.self.view_is) c.requires.rises in
     let seen = subst (λ (k : Knows). c.args.upto ≤ length k.seen) (sym c.self.view_is) c.requires.seen in
     let n = c.from.result in

@@ -1,5 +1,0 @@
-use Rattle.mv_alike.proofs.Meant.{next_same}
-use Rattle.mv_alike.proofs.laws.next_record_is_alike.Goals as goal
-
-pub returns : goal.returns
-returns c = next_same

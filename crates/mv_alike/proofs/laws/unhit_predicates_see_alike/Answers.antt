@@ -1,5 +1,0 @@
-use Rattle.mv_alike.proofs.Asked.{seen_unhit}
-use Rattle.mv_alike.proofs.laws.unhit_predicates_see_alike.Goals as goal
-
-pub returns : goal.returns
-returns c = seen_unhit

@@ -1,7 +1,0 @@
-use Rattle.std.proofs.Common.{map}
-use Rattle.mv_alone.specs.Rows.{projected}
-use Rattle.mv_alone.proofs.Once.{distinct_is}
-use Rattle.mv_alone.proofs.fixing.distinct_rows.Goals as goal
-
-pub returns : goal.returns
-returns g c = rw (c.as_slice.ensures.value, c.in_ok-found.ensures, distinct_is (projected c.args.columns.now (map g.R.Stored.keyed c.args.rows.now))) at c.without_repeats.ensures

@@ -1,5 +1,0 @@
-use Rattle.std.proofs.Common.{rules}
-use Rattle.mv_alone.proofs.totals.total_from.Goals as goal
-
-pub returns-then-n-ltminus9223372036854775808 : goal.returns-then-n-ltminus9223372036854775808
-returns-then-n-ltminus9223372036854775808 c = search rules

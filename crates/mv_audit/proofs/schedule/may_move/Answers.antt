@@ -1,0 +1,10 @@
+use Rattle.std.proofs.Common.{sym}
+use Rattle.mv_audit.specs.Schedules.{audited}
+use Rattle.mv_audit.proofs.Refusing.{allows_move, refuses_none}
+use Rattle.mv_audit.proofs.schedule.may_move.Goals as goal
+
+pub returns-in-Some : goal.returns-in-Some
+returns-in-Some c = sym (allows_move (audited c.args.program.now c.args.rounds) c.args.schedule.now c.args.call c.in-Some.field-0.now c.in-Some.ensures.found)
+
+pub returns-in-None : goal.returns-in-None
+returns-in-None c = sym (refuses_none c.args.schedule.now c.args.call _ c.in-None.ensures.none)

@@ -1,0 +1,13 @@
+pub mod Results
+pub mod Env
+pub mod Value
+pub mod Known
+pub mod Rows
+pub mod Changes
+pub mod References
+pub mod Line
+pub mod Alone
+pub mod TableAfter
+pub mod Own
+pub mod Once
+pub mod FirstRows

@@ -1,7 +1,0 @@
-use Rattle.std.proofs.Common.{length, ap, ◌∙◌, slice_set}
-use Rattle.mv_exec.proofs.Stepping.{set_between}
-use Rattle.mv_exec.proofs.add.put_place.Goals as goal
-
-pub returns-then-at-len : goal.returns-then-at-len
-returns-then-at-len c = λ outer inner p e n.
-    c.set.ensures ∙ (ap (λ k. slice_set c.args.places.now k c.args.place) n ∙ (ap (λ ps. slice_set ps (length outer) c.args.place) e ∙ set_between outer inner p c.args.place))
