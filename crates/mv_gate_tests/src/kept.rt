@@ -5,7 +5,7 @@ ghost use Rattle.mv_seats.specs.Knowing.{Plain};
 ghost use Rattle.mv_script.specs.Scripts.{IsCompiledScript};
 ghost use Rattle.mv_shards.specs.Scripts.{script_in};
 
-use crate::pins::{Holding, script_of};
+use crate::pins::script_of;
 use crate::scripts::prepared;
 use crate::starts::blank_of;
 use mv_cases::ensure::ensure;
@@ -18,6 +18,7 @@ use mv_seats::pass::Pass;
 use mv_top::script::CompiledProgram;
 use mv_values::calls::Options;
 use std::alloc::Global;
+use std::hint::spin_loop;
 use std::marker::Brand;
 use std::sync::Wait;
 use std::sync::atomic::{AtomicU64, Ordering};
@@ -34,24 +35,93 @@ const AFTER: u64 = 1_000;
 /// The number of workers. One of them executes the reader.
 const WORKERS: u32 = 4;
 
-/// Holds call 0, and counts the old versions of the shards after that.
-struct Counting<'a, N: Making + Naming> {
-    gate: &'a Gate<N>,
-    holding: &'a Holding,
-    kept: AtomicU64,
+/// The number of the others.
+const OTHER_WORKERS: u64 = 3;
+
+/// How many of those calls commit after the reader's start, at least.
+const SINCE: u64 = BESIDE - OTHER_WORKERS;
+
+/// How often a thread looks whether it may go on.
+const LOOKS: u64 = 10_000_000_000;
+
+/// Looks until a number is at least this, or for so many looks.
+fn wait_for(number: &AtomicU64, least: u64) {
+    for _ in 0..LOOKS {
+        if number.load(Ordering::SeqCst) >= least {
+            return;
+        }
+        spin_loop();
+    }
 }
 
-impl<'a, N: Making + Naming + Send + Sync> Pace for Counting<'a, N> {
-    fn at<R: Wait>(&self, rt: &R, point: Point) {
-        self.holding.at(rt, point);
-        if let (0, Moment::Ran) = (point.call, point.moment) {
-            self.kept
-                .store(self.gate.old_versions(rt), Ordering::SeqCst);
+/// Holds the reader, call 0, until so many other calls were answered and the old versions were counted. Then the other
+/// workers wait, and the reader's worker executes what is left alone. Each of the other workers answers at most one call
+/// before the reader has run.
+#[derive(Drop)]
+struct Held {
+    /// 1 once the reader has run.
+    ran: AtomicU64,
+    /// How many other calls were answered.
+    answered: AtomicU64,
+    /// How many old versions the shards keep beside the reader.
+    kept: AtomicU64,
+    /// 1 once they are counted.
+    counted: AtomicU64,
+    /// How many workers wait for the end.
+    waiting: AtomicU64,
+}
+
+impl Held {
+    fn new() -> Held {
+        Held {
+            ran: AtomicU64::new(0),
+            answered: AtomicU64::new(0),
+            kept: AtomicU64::new(0),
+            counted: AtomicU64::new(0),
+            waiting: AtomicU64::new(0),
+        }
+    }
+
+    /// Counts the old versions beside the reader, and lets it go.
+    fn count<N: Making + Naming, R: Wait>(&self, rt: &R, gate: &Gate<N>) {
+        wait_for(&self.answered, BESIDE);
+        self.kept.store(gate.old_versions(rt), Ordering::SeqCst);
+        self.counted.store(1, Ordering::SeqCst);
+    }
+
+    /// Notes that the reader has run, and holds it until the old versions were counted.
+    fn hold(&self) {
+        self.ran.store(1, Ordering::SeqCst);
+        wait_for(&self.counted, 1);
+    }
+
+    /// Notes that another call was answered. Once they are enough, its worker waits for the end, if it isn't the last one.
+    fn answer(&self) {
+        wait_for(&self.ran, 1);
+        let before = self.answered.fetch_add(1, Ordering::SeqCst);
+        if before >= BESIDE && self.waiting.load(Ordering::SeqCst) < OTHER_WORKERS {
+            let _before = self.waiting.fetch_add(1, Ordering::SeqCst);
+            wait_for(&self.answered, BESIDE + AFTER);
+        }
+    }
+
+    fn kept(&self) -> u64 {
+        self.kept.load(Ordering::SeqCst)
+    }
+}
+
+impl Pace for Held {
+    fn at<R: Wait>(&self, _rt: &R, point: Point) {
+        match (point.call, point.moment) {
+            (0, Moment::Ran) => self.hold(),
+            (0, Moment::Answered) => wait_for(&self.waiting, OTHER_WORKERS),
+            (_, Moment::Answered) => self.answer(),
+            _ => {}
         }
     }
 }
 
-/// The post of a worker: its pass and its number.
+/// The post of a worker, or of the thread that counts: its pass and its number.
 #[derive(Drop)]
 struct Post<N: Making> {
     pass: Pass<N>,
@@ -65,30 +135,35 @@ fn post_of<N: Making>(pass: Pass<N>, number: u32) -> Post<N>
     Post { pass, number }
 }
 
-fn work_at<N: Making + Naming, R: Threads + Wait + Sync, P: Pace>(
+/// Works at a post, as a worker or as the thread that counts.
+fn work_at<N: Making + Naming, R: Threads + Wait + Sync>(
     rt: &R,
     alloc: Global,
     gate: &Gate<N>,
     post: &mut Post<N>,
-    pace: &P,
+    held: &Held,
 ) {
     let number = post.number;
-    let _left = worker(rt, alloc, gate, &mut post.pass, number, pace);
+    if number == WORKERS {
+        held.count(rt, gate);
+        return;
+    }
+    let _left = worker(rt, alloc, gate, &mut post.pass, number, held);
 }
 
-/// Works at each post, beside each other.
-fn work_at_each<N: Making + Naming + Send + Sync, R: Threads + Wait + Sync, P: Pace>(
+/// Works at each post, beside each other. The last post is that of the thread that counts.
+fn work_at_each<N: Making + Naming + Send + Sync, R: Threads + Wait + Sync>(
     rt: &R,
     alloc: Global,
     gate: &Gate<N>,
     posts: &mut [Post<N>],
-    pace: &P,
+    held: &Held,
 ) {
     thread::for_each_mut(
         rt,
         posts,
-        WORKERS as usize,
-        &|_, post: &mut Post<N>| work_at(rt, alloc, gate, post, pace),
+        WORKERS as usize + 1,
+        &|_, post: &mut Post<N>| work_at(rt, alloc, gate, post, held),
     );
 }
 
@@ -109,18 +184,13 @@ fn counts<N: Making + Naming + Send + Sync, R: Threads + Wait + Sync>(
 {
     let (gate, mut pass) = Gate::<N>::new(alloc, blank, grace, script)?;
     let mut posts = Vec::new(alloc);
-    for number in 0..WORKERS {
+    for number in 0..=WORKERS {
         let mine = pass.note(gate.board())?;
         posts.push(post_of(mine, number))?;
     }
-    let holding = Holding::new(BESIDE);
-    let counting = Counting {
-        gate: &gate,
-        holding: &holding,
-        kept: AtomicU64::new(0),
-    };
-    work_at_each(rt, alloc, &gate, posts.as_mut_slice(), &counting);
-    Ok((counting.kept.load(Ordering::SeqCst), gate.old_versions(rt)))
+    let held = Held::new();
+    work_at_each(rt, alloc, &gate, posts.as_mut_slice(), &held);
+    Ok((held.kept(), gate.old_versions(rt)))
 }
 
 #[test]
@@ -137,8 +207,8 @@ fn a_reader_holds_versions_back_until_it_is_gone(rt: HostRuntime) -> Result<(), 
     let (kept, left) = counts::<Brand, _>(&rt, alloc, blank, grace, script)?;
     ensure(
         alloc,
-        kept >= BESIDE,
+        kept >= SINCE,
         "the versions since its start are kept",
     )?;
-    ensure(alloc, left < AFTER, "they go once it is gone")
+    ensure(alloc, left < AFTER / 2, "they go once it is gone")
 }

@@ -23,14 +23,14 @@ const LOOKS: u64 = 100_000_000;
 
 /// Holds call 0 after its first statement until so many other calls were answered.
 #[derive(Drop)]
-pub(crate) struct Holding {
+struct Holding {
     others: u64,
     answered: AtomicU64,
     ran: AtomicU64,
 }
 
 impl Holding {
-    pub(crate) fn new(others: u64) -> Holding {
+    fn new(others: u64) -> Holding {
         Holding {
             others,
             answered: AtomicU64::new(0),
