@@ -1,9 +1,12 @@
 //! Calls outside of the lock, with the pins of their starts. If a horizon is given, there are no pins.
 
-ghost use Rattle.std.specs.Prelude.{◌≡◌, true, false, IfOk, length};
+ghost use Rattle.std.specs.Prelude.{◌≡◌, true, false, IfOk, OnErr, length};
+ghost use mathlib.Core.List.{IsPrefix};
 ghost use Rattle.mv_seats.specs.Knowing.{Plain};
 ghost use Rattle.mv_lawful.specs.Rounds.{IsPast};
+ghost use Rattle.mv_exec.specs.Running.{IsUnchanged};
 ghost use Rattle.mv_shards.specs.Leaves.{IsLeave, start_shown};
+ghost use Rattle.mv_core.specs.Cores.{HasRunOne};
 
 use crate::answers::Answer;
 use crate::beside::Beside;
@@ -195,8 +198,14 @@ impl<N: Making + Naming> PinnedHeld<N> {
         beside: &Beside<'_, N, R>,
     ) -> Result<bool, NoMemory>
         requires { self.old.held.task.ended ≡ false }
-        ensures call { self.new.held.call ≡ self.old.held.call }
+        ensures one { IfOk result (λ ran. ran ≡ true → HasRunOne self.old.held.task self.new.held.task) }
+        ensures none { IfOk result (λ ran. ran ≡ false → IsUnchanged self.old.held.task self.new.held.task) }
         ensures past { IfOk result (λ ran. ran ≡ false → IsPast N.script.options.horizon self.new.held.start.number (length self.new.held.start.knows.seen)) }
+        ensures err { OnErr result (IsUnchanged self.old.held.task self.new.held.task) }
+        ensures call { self.new.held.call ≡ self.old.held.call }
+        ensures from { self.new.held.from ≡ self.old.held.from }
+        ensures number { self.new.held.start.number ≡ self.old.held.start.number }
+        ensures seen { IsPrefix self.old.held.start.knows.seen self.new.held.start.knows.seen }
     {
         self.held.step(alloc, beside, &mut self.pin)
     }
