@@ -20,7 +20,7 @@ returns-clause-found g c =
     let pred = c.args.pred.now in
     let key = c.args.key.now in
     let q = c.shard_of-shard.result in
-    let is : q ≡ shard_of pred.table key = c.shard_of-shard.ensures in
+    let is : q ≡ shard_of pred.table key = c.shard_of-shard.ensures ∙ ap (λ t. shard_of t key) c.table.ensures in
     let less : q < 8 = subst (λ z. z < 8) (sym is) (below_8 pred.table key) in
     let same : row_of (rows_at (part q db) pred.table) key ≡ row_of (rows_at db pred.table) key =
     ap (λ z. row_of (rows_at (part z db) pred.table) key) is ∙ row_there pred.table key db (tables_rise (script_in g.N.Making.script) c.args.pass.now.seen c.args.n c.requires.may.script) in
