@@ -447,7 +447,7 @@ fn add_others(alloc: Global, index: &mut Index, random: &mut SplitMix64) -> Resu
 }
 
 /// Whether a view finds the same rows with an index as without one.
-fn finds_rows(alloc: Global, index: &Index, tables: &Database, pred: &PredRef<'_>) -> bool
+fn finds_rows<'x>(alloc: Global, index: &'x Index, tables: &'x Database, pred: &PredRef<'_>) -> bool
     requires covers { Covers index.now tables.now }
     requires rising { AreRising tables.now }
     requires admitted { Admitted pred.now (rows_at tables.now pred.now.table) }
@@ -470,10 +470,10 @@ fn is_same_end(found: &Option<Found<'_>>, want: &Option<Found<'_>>) -> bool {
 }
 
 /// Whether a view finds the same row from this end with an index as without one, outside some keys.
-fn finds_end(
+fn finds_end<'x>(
     alloc: Global,
-    index: &Index,
-    tables: &Database,
+    index: &'x Index,
+    tables: &'x Database,
     pred: &PredRef<'_>,
     direction: Direction,
     passed: &PredRef<'_>,

@@ -1,7 +1,14 @@
-use Rattle.std.proofs.Common.{subst, sym, ap}
+use Rattle.std.proofs.Common.{refl, subst, sym, ap}
 use Rattle.mv_view.specs.Viewing.{Sight}
+use Rattle.mv_record.specs.Writes.{AreRising}
 use Rattle.mv_index.specs.Indexing.{Covers}
 use Rattle.mv_unit_tests.proofs.indexes.finds_end.Goals as goal
 
-pub new-view-requires-clause-covers : goal.new-view-requires-clause-covers
-new-view-requires-clause-covers c = subst (Covers c.args.index.now) (sym (ap (λ (s : Sight). s.database) c.new-inner.ensures)) c.requires.covers
+pub new-view-requires : goal.new-view-requires
+new-view-requires c = λ k. (
+  (refl, tt),
+  (
+    subst (λ (s : Sight). Covers c.args.index.now s.database) (sym c.new-inner.ensures) c.requires.covers,
+    subst (λ (s : Sight). AreRising s.database) (sym c.new-inner.ensures) c.requires.rising,
+  ),
+)
