@@ -3,7 +3,7 @@ use Rattle.std.proofs.Common.{◌≡◌, ℕ, suc, ◌+◌, ◌-◌, ◌<◌, �
 use Rattle.std.specs.Prelude.{IfSome, min, slice_index_or}
 use Rattle.std.proofs.lemmas.List.{length-take, take-take, drop_more, take_more, map_more, length-map}
 use Rattle.mv_record.specs.Runs.{writes_in}
-use Rattle.mv_undo.specs.declared.owned.Owned.{Owned}
+use Rattle.mv_undo.specs.Owned.{Owned}
 use Rattle.mv_record.specs.declared.record.Record.{Record}
 use Rattle.mv_history.specs.declared.change.Change.{Change}
 use Rattle.mv_history.specs.declared.change.Hit.{Hit}

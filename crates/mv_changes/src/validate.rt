@@ -15,7 +15,7 @@ use mv_log::records::Records;
 use mv_undo::undo::Undo;
 
 /// Returns the number of the first record that one of a commit's changes hits.
-fn first_record(records: &Records<'_>, undo: &Undo, changes: &Changes) -> Option<usize>
+fn first_record(records: &Records<'_>, undo: &Undo<'_>, changes: &Changes) -> Option<usize>
     requires { HasWritesOf undo.now records.now }
     ensures first { All (AreAdmitted changes.now) records.now → result ≡ first_record changes.now [] records.now }
     ensures within { IfSome result (λ number. number < length records.now) }
@@ -43,7 +43,7 @@ fn before<'a>(records: &Records<'a>, hit: Option<Hit>) -> Records<'a>
 /// and the least commit that hits it. `undo` has the writes of the records, whose predicates match rows only under keys
 /// that they admit. Allocates nothing. Costs for each commit and each predicate of the records a search in the commit's
 /// changes, and a trial of the key of each of those of the predicate's table.
-pub fn validate(records: &Records<'_>, undo: &Undo, since: &[Committed]) -> Option<Hit>
+pub fn validate(records: &Records<'_>, undo: &Undo<'_>, since: &[Committed]) -> Option<Hit>
     requires { HasWritesOf undo.now records.now }
     ensures { (number : ℕ) → AreNumbered number since.now → AllAdmitted (changes_in since.now) records.now → result ≡ first_hit number (changes_in since.now) [] records.now }
 {
@@ -64,7 +64,7 @@ impl Recent {
     /// later commit hits, and the least commit that hits it. `undo` has the writes of the records, whose predicates match
     /// rows only under keys that they admit. `start` may not be below the `low` of the last `trim`. Allocates nothing.
     /// Costs what `validate` does for these commits.
-    pub fn first_hit(&self, start: u32, records: &Records<'_>, undo: &Undo) -> Option<Hit>
+    pub fn first_hit(&self, start: u32, records: &Records<'_>, undo: &Undo<'_>) -> Option<Hit>
         requires start { self.now.low ≤ start }
         requires writes { HasWritesOf undo.now records.now }
         ensures { AllAdmitted (drop (start - self.now.low) self.now.commits) records.now → result ≡ first_hit (start + 1) (drop (start - self.now.low) self.now.commits) [] records.now }

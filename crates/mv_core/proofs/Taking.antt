@@ -12,7 +12,6 @@ use Rattle.mv_record.specs.Runs.{Run}
 use Rattle.mv_record.specs.Writes.{AreRising}
 use Rattle.mv_graph.specs.declared.graph.Graph.{Graph}
 use Rattle.mv_graph.specs.Nodes.{meaning_of}
-use Rattle.mv_undo.specs.Owning.{HasWritesOf}
 use Rattle.mv_exec.specs.declared.task.Task.{Task}
 use Rattle.mv_exec.specs.Running.{IsTaskOf, IsTaskOn, IsUnchanged, HasLeft}
 use Rattle.mv_exec.proofs.Fronts.{ends_exactly}
@@ -440,10 +439,6 @@ running_in b store ts c o t k live read some = record {
 -- a core in which one call has another task
 pub core_set : (b : Booked) (store : Versioned) (ts : List (Option Running)) (c : ℕ) (t : Running) → IsCore b store ts → IsLiveCall b.schedule c → IsTaskIn b c t → IsCore b store (slice_set ts c (Some t))
 core_set b store ts c t k live task = record { stored = k.stored; numbers = k.numbers; tasks = tasks_set b.script b.schedule ts c t k.tasks live task }
-
--- its own writes are those of its records
-pub task_writes : (s : CompiledScript) (order : List ℕ) (c : ℕ) (l : Live) (t : Running) → IsCompiledScript s → c < length s.calls → IsLiveTask s order c l t → HasWritesOf t.task.undo t.task.log.records
-task_writes s order c l t k lt task = let call = k.1.there c lt in (task.runs call.0 call.1 call.2).is.writes
 
 pub one_live : (s : Schedule) (c : ℕ) (l m : Live) → IsLive s c l → IsLive s c m → l ≡ m
 one_live s c l m a b = let both : Some l ≡ Some m = sym a.at ∙ b.at in search (rules, both)

@@ -10,7 +10,6 @@ ghost use Rattle.mv_lawful.specs.Outcomes.{history_line, outcome_of, reply_in};
 ghost use Rattle.mv_script.specs.Scripts.{IsCompiledScript};
 ghost use Rattle.mv_view.specs.declared.view.Refused.TheVariants as refused;
 ghost use Rattle.mv_changes.specs.Commits.{changes_in, AreNumbered};
-ghost use Rattle.mv_undo.specs.Owning.{HasWritesOf};
 ghost use Rattle.mv_core.specs.Calls.{IsLive, IsLiveCall, due_number};
 ghost use Rattle.mv_core.specs.Books.{batch_in, IsSettled, last_run, last_tables, last_changes, start_run, IsReader, IsNoReader, Made, IsSame, HasBegun, round_event, IsMissing, commit_event, own_number, IsOwnNumber, HasRoom, UsesOne, KeepsRoom, HasRounds, IsNotStale, IsAlone, Remembers, AreRecordsOf, IsAnswer, HasAnswered};
 ghost use Rattle.mv_journal.specs.declared.event.Event.TheVariants.{S, G};
@@ -452,7 +451,6 @@ impl Book {
         requires live { IsLiveCall self.now.schedule call }
         requires kind { IsNoReader self.now call }
         requires records { AreRecordsOf self.now call task.now.log.records }
-        requires writes { HasWritesOf task.now.undo task.now.log.records }
         ensures { (l : Live) → IsLive self.now.schedule call l → IsAnswer result (batch_in self.now) self.now.schedule call l }
     {
         let start = self.start(call);
@@ -462,7 +460,7 @@ impl Book {
                 low: self.low,
             };
         }
-        match self.recent.first_hit(start, &task.records(), task.undo()) {
+        match self.recent.first_hit(start, &task.records(), &task.undo()) {
             Some(hit) => Check::Hit {
                 number: hit.number,
                 commit: hit.commit,

@@ -14,4 +14,5 @@ pub mod Whole
 pub mod Checking
 pub mod Columns
 pub mod OnePred
+pub mod Seen
 pub mod Parts

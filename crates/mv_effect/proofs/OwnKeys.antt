@@ -18,7 +18,7 @@ use Rattle.mv_table.specs.declared.scan.Direction.{Direction}
 use Rattle.mv_table.specs.declared.scan.Direction.TheVariants.{Forward, Backward}
 use Rattle.mv_table.specs.Scans.{with_foremost}
 use Rattle.mv_undo.specs.Taking.{meets_first}
-use Rattle.mv_undo.specs.declared.owned.Owned.{Owned}
+use Rattle.mv_undo.specs.Owned.{Owned}
 use Rattle.mv_undo.specs.Owning.{earlier, is_among, is_sought}
 use Rattle.mv_undo.proofs.Taking.{never_itself}
 use Rattle.mv_view.specs.Viewing.{Sight}

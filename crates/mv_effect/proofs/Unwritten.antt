@@ -8,7 +8,7 @@ use Rattle.mv_values.specs.Patching.{applied, found_by}
 use Rattle.mv_values.specs.Tables.{rows_at}
 use Rattle.mv_record.specs.Writes.{AreRising}
 use Rattle.mv_record.specs.Admitting.{Admitted}
-use Rattle.mv_undo.specs.declared.owned.Owned.{Owned}
+use Rattle.mv_undo.specs.Owned.{Owned}
 use Rattle.mv_undo.specs.Owning.{earlier, AreSought}
 use Rattle.mv_undo.proofs.Laying.{laid_found}
 

@@ -6,3 +6,4 @@ pub mod Choosing
 pub mod Totalling
 pub mod Firsts
 pub mod Asking
+pub mod Seeing

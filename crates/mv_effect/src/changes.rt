@@ -13,12 +13,12 @@ ghost use Rattle.mv_eval.specs.Rows.{is_some_row};
 ghost use Rattle.mv_recorded.specs.Asking.{on, first_fault, preds_up_to, update_checks, delete_checks};
 ghost use Rattle.mv_recorded.specs.Doing.{set_patch, write};
 ghost use Rattle.mv_recorded.specs.Effects.{IsEffect, effect_after, effect_unless, changes, new_of, effect_of_writes, slots_behind};
-ghost use Rattle.mv_undo.specs.Owning.{earlier};
 ghost use Rattle.mv_checks.specs.Checking.{meant, row_checks, HasValue};
 ghost use Rattle.mv_effect.specs.Asking.{asked, AsksOne};
 ghost use Rattle.mv_effect.specs.Logging.{BeginsPred, IsBlank, without_effect, with_preds, with_sets, with_writes};
 ghost use Rattle.mv_effect.specs.Stops.{leaving};
 ghost use Rattle.mv_effect.specs.Looking.{AreSoundTables, OnlyAsks, AskedBy, AskedFor};
+ghost use Rattle.mv_effect.specs.Seeing.{own_seen};
 ghost use Rattle.mv_recorded.specs.Naming.{Tests, Sets};
 
 use crate::asking::{end, stop, stop_after, stop_unasked};
@@ -78,14 +78,14 @@ fn check_row<'s, V: View<'s>>(
     log: &mut Log,
     view: &mut V,
 ) -> Result<Option<End>, Refused>
-    requires stands { AreSoundTables context.now.tables.now (earlier context.now.number context.now.undo.now) (V.sight view.old).database }
+    requires stands { AreSoundTables context.now.tables.now (own_seen context.now log.old) (V.sight view.old).database }
     requires table { table < length context.now.tables.now }
     requires begins { BeginsPred log.old }
-    ensures fault { IfOk result (λ o. o ≡ first_fault (row_checks context.now.tables.now table item.now) (applied (earlier context.now.number context.now.undo.now) (V.sight view.old).database)) }
-    ensures asked { OnOk result (log.new ≡ with_preds log.old (log.old.effect.preds ++ preds_up_to (row_checks context.now.tables.now table item.now) (applied (earlier context.now.number context.now.undo.now) (V.sight view.old).database))) }
+    ensures fault { IfOk result (λ o. o ≡ first_fault (row_checks context.now.tables.now table item.now) (applied (own_seen context.now log.old) (V.sight view.old).database)) }
+    ensures asked { OnOk result (log.new ≡ with_preds log.old (log.old.effect.preds ++ preds_up_to (row_checks context.now.tables.now table item.now) (applied (own_seen context.now log.old) (V.sight view.old).database))) }
     ensures err { OnErr result (without_effect log.new ≡ without_effect log.old) }
     ensures view { OnlyAsks (V.sight view.old) (V.sight view.new) result }
-    ensures looks { AskedFor (preds_up_to (row_checks context.now.tables.now table item.now) (applied (earlier context.now.number context.now.undo.now) (V.sight view.old).database)) (earlier context.now.number context.now.undo.now) (V.sight view.old) (V.sight view.new) }
+    ensures looks { AskedFor (preds_up_to (row_checks context.now.tables.now table item.now) (applied (own_seen context.now log.old) (V.sight view.old).database)) (own_seen context.now log.old) (V.sight view.old) (V.sight view.new) }
 {
     let checks = row_checks(alloc, context.tables, table, item)?;
     run_checks(alloc, context, &[], checks.as_slice(), log, view)
@@ -100,14 +100,14 @@ fn insert_row<'s, V: View<'s>>(
     log: &mut Log,
     view: &mut V,
 ) -> Result<(), Refused>
-    requires stands { AreSoundTables context.now.tables.now (earlier context.now.number context.now.undo.now) (V.sight view.old).database }
+    requires stands { AreSoundTables context.now.tables.now (own_seen context.now log.old) (V.sight view.old).database }
     requires found { context.now.env.now.found < 2 ^ 16 }
     requires table { table < length context.now.tables.now }
     requires blank { IsBlank log.old }
-    ensures ok { OnOk result (log.new ≡ record log.old { effect = effect_unless (first_fault (row_checks context.now.tables.now table item) (applied (earlier context.now.number context.now.undo.now) (V.sight view.old).database)) (preds_up_to (row_checks context.now.tables.now table item) (applied (earlier context.now.number context.now.undo.now) (V.sight view.old).database)) true (write table item.key (patch.Insert item.row) ∷ []) context.now.env.now }) }
+    ensures ok { OnOk result (log.new ≡ record log.old { effect = effect_unless (first_fault (row_checks context.now.tables.now table item) (applied (own_seen context.now log.old) (V.sight view.old).database)) (preds_up_to (row_checks context.now.tables.now table item) (applied (own_seen context.now log.old) (V.sight view.old).database)) true (write table item.key (patch.Insert item.row) ∷ []) context.now.env.now }) }
     ensures err { OnErr result (without_effect log.new ≡ without_effect log.old) }
     ensures view { OnlyAsks (V.sight view.old) (V.sight view.new) result }
-    ensures looks { AskedFor (preds_up_to (row_checks context.now.tables.now table item) (applied (earlier context.now.number context.now.undo.now) (V.sight view.old).database)) (earlier context.now.number context.now.undo.now) (V.sight view.old) (V.sight view.new) }
+    ensures looks { AskedFor (preds_up_to (row_checks context.now.tables.now table item) (applied (own_seen context.now log.old) (V.sight view.old).database)) (own_seen context.now log.old) (V.sight view.old) (V.sight view.new) }
 {
     if let Some(fault) = check_row(alloc, context, table, &item, log, view)? {
         end(log, fault)?;
@@ -128,15 +128,15 @@ pub(crate) fn insert<'s, V: View<'s>>(
     log: &mut Log,
     view: &mut V,
 ) -> Result<(), Refused>
-    requires stands { AreSoundTables context.now.tables.now (earlier context.now.number context.now.undo.now) (V.sight view.old).database }
+    requires stands { AreSoundTables context.now.tables.now (own_seen context.now log.old) (V.sight view.old).database }
     requires found { context.now.env.now.found < 2 ^ 16 }
     requires table { table < length context.now.tables.now }
     requires blank { IsBlank log.old }
-    ensures effect { OnOk result (IsEffect context.now.tables.now (layer.Insert table exprs.now) context.now.env.now (applied (earlier context.now.number context.now.undo.now) (V.sight view.old).database) log.new.effect) }
+    ensures effect { OnOk result (IsEffect context.now.tables.now (layer.Insert table exprs.now) context.now.env.now (applied (own_seen context.now log.old) (V.sight view.old).database) log.new.effect) }
     ensures rest { OnOk result (log.new ≡ record log.old { effect = log.new.effect }) }
     ensures err { OnErr result (without_effect log.new ≡ without_effect log.old) }
     ensures view { OnlyAsks (V.sight view.old) (V.sight view.new) result }
-    ensures looks { AskedBy context.now.tables.now (layer.Insert table exprs.now) context.now.env.now (earlier context.now.number context.now.undo.now) (V.sight view.old) (V.sight view.new) }
+    ensures looks { AskedBy context.now.tables.now (layer.Insert table exprs.now) context.now.env.now (own_seen context.now log.old) (V.sight view.old) (V.sight view.new) }
 {
     let row = match made_row(alloc, columns_in(context.tables, table), exprs, context.env) {
         Ok(row) => row,
@@ -202,13 +202,13 @@ fn check_deletion<'s, V: View<'s>>(
     log: &mut Log,
     view: &mut V,
 ) -> Result<Option<End>, Refused>
-    requires stands { AreSoundTables context.now.tables.now (earlier context.now.number context.now.undo.now) (V.sight view.old).database }
+    requires stands { AreSoundTables context.now.tables.now (own_seen context.now log.old) (V.sight view.old).database }
     requires begins { BeginsPred log.old }
-    ensures fault { IfOk result (λ o. o ≡ first_fault (delete_checks context.now.tables.now table rows.now) (applied (earlier context.now.number context.now.undo.now) (V.sight view.old).database)) }
-    ensures asked { OnOk result (log.new ≡ with_preds log.old (log.old.effect.preds ++ preds_up_to (delete_checks context.now.tables.now table rows.now) (applied (earlier context.now.number context.now.undo.now) (V.sight view.old).database))) }
+    ensures fault { IfOk result (λ o. o ≡ first_fault (delete_checks context.now.tables.now table rows.now) (applied (own_seen context.now log.old) (V.sight view.old).database)) }
+    ensures asked { OnOk result (log.new ≡ with_preds log.old (log.old.effect.preds ++ preds_up_to (delete_checks context.now.tables.now table rows.now) (applied (own_seen context.now log.old) (V.sight view.old).database))) }
     ensures err { OnErr result (without_effect log.new ≡ without_effect log.old) }
     ensures view { OnlyAsks (V.sight view.old) (V.sight view.new) result }
-    ensures looks { AskedFor (preds_up_to (delete_checks context.now.tables.now table rows.now) (applied (earlier context.now.number context.now.undo.now) (V.sight view.old).database)) (earlier context.now.number context.now.undo.now) (V.sight view.old) (V.sight view.new) }
+    ensures looks { AskedFor (preds_up_to (delete_checks context.now.tables.now table rows.now) (applied (own_seen context.now log.old) (V.sight view.old).database)) (own_seen context.now log.old) (V.sight view.old) (V.sight view.new) }
 {
     let children = children_of(alloc, context.tables, table)?;
     let children = children.as_slice();
@@ -231,14 +231,14 @@ fn delete_rows<'s, V: View<'s>>(
     log: &mut Log,
     view: &mut V,
 ) -> Result<(), Refused>
-    requires stands { AreSoundTables context.now.tables.now (earlier context.now.number context.now.undo.now) (V.sight view.old).database }
+    requires stands { AreSoundTables context.now.tables.now (own_seen context.now log.old) (V.sight view.old).database }
     requires found { context.now.env.now.found < 2 ^ 16 }
     requires table { table < 256 }
     requires one { AsksOne log.old }
-    ensures ok { OnOk result (log.new ≡ record log.old { effect = effect_unless (first_fault (delete_checks context.now.tables.now table rows.now) (applied (earlier context.now.number context.now.undo.now) (V.sight view.old).database)) (asked log.old ∷ preds_up_to (delete_checks context.now.tables.now table rows.now) (applied (earlier context.now.number context.now.undo.now) (V.sight view.old).database)) (is_some_row rows.now) (map (λ item. write table item.key patch.Delete) rows.now) context.now.env.now }) }
+    ensures ok { OnOk result (log.new ≡ record log.old { effect = effect_unless (first_fault (delete_checks context.now.tables.now table rows.now) (applied (own_seen context.now log.old) (V.sight view.old).database)) (asked log.old ∷ preds_up_to (delete_checks context.now.tables.now table rows.now) (applied (own_seen context.now log.old) (V.sight view.old).database)) (is_some_row rows.now) (map (λ item. write table item.key patch.Delete) rows.now) context.now.env.now }) }
     ensures err { OnErr result (without_effect log.new ≡ without_effect log.old) }
     ensures view { OnlyAsks (V.sight view.old) (V.sight view.new) result }
-    ensures looks { AskedFor (preds_up_to (delete_checks context.now.tables.now table rows.now) (applied (earlier context.now.number context.now.undo.now) (V.sight view.old).database)) (earlier context.now.number context.now.undo.now) (V.sight view.old) (V.sight view.new) }
+    ensures looks { AskedFor (preds_up_to (delete_checks context.now.tables.now table rows.now) (applied (own_seen context.now log.old) (V.sight view.old).database)) (own_seen context.now log.old) (V.sight view.old) (V.sight view.new) }
 {
     if let Some(fault) = check_deletion(alloc, context, table, rows, log, view)? {
         end(log, fault)?;
@@ -259,15 +259,15 @@ pub(crate) fn delete<'s, V: View<'s>>(
     log: &mut Log,
     view: &mut V,
 ) -> Result<(), Refused>
-    requires stands { AreSoundTables context.now.tables.now (earlier context.now.number context.now.undo.now) (V.sight view.old).database }
+    requires stands { AreSoundTables context.now.tables.now (own_seen context.now log.old) (V.sight view.old).database }
     requires found { context.now.env.now.found < 2 ^ 16 }
     requires tests { Tests context.now.tables.now table conds.now }
     requires blank { IsBlank log.old }
-    ensures effect { OnOk result (IsEffect context.now.tables.now (layer.Delete table conds.now) context.now.env.now (applied (earlier context.now.number context.now.undo.now) (V.sight view.old).database) log.new.effect) }
+    ensures effect { OnOk result (IsEffect context.now.tables.now (layer.Delete table conds.now) context.now.env.now (applied (own_seen context.now log.old) (V.sight view.old).database) log.new.effect) }
     ensures rest { OnOk result (log.new ≡ record log.old { effect = log.new.effect }) }
     ensures err { OnErr result (without_effect log.new ≡ without_effect log.old) }
     ensures view { OnlyAsks (V.sight view.old) (V.sight view.new) result }
-    ensures looks { AskedBy context.now.tables.now (layer.Delete table conds.now) context.now.env.now (earlier context.now.number context.now.undo.now) (V.sight view.old) (V.sight view.new) }
+    ensures looks { AskedBy context.now.tables.now (layer.Delete table conds.now) context.now.env.now (own_seen context.now log.old) (V.sight view.old) (V.sight view.new) }
 {
     match ask_where(alloc, context.tables, table, conds, context.env, log) {
         Ok(()) => {}
@@ -429,13 +429,13 @@ fn check_update<'s, V: View<'s>>(
     log: &mut Log,
     view: &mut V,
 ) -> Result<Option<End>, Refused>
-    requires stands { AreSoundTables context.now.tables.now (earlier context.now.number context.now.undo.now) (V.sight view.old).database }
+    requires stands { AreSoundTables context.now.tables.now (own_seen context.now log.old) (V.sight view.old).database }
     requires begins { BeginsPred log.old }
-    ensures fault { IfOk result (λ o. o ≡ first_fault (update_checks context.now.tables.now update.now.table update.now.items.now context.now.env.now rows.now) (applied (earlier context.now.number context.now.undo.now) (V.sight view.old).database)) }
-    ensures asked { OnOk result (log.new ≡ with_preds log.old (log.old.effect.preds ++ preds_up_to (update_checks context.now.tables.now update.now.table update.now.items.now context.now.env.now rows.now) (applied (earlier context.now.number context.now.undo.now) (V.sight view.old).database))) }
+    ensures fault { IfOk result (λ o. o ≡ first_fault (update_checks context.now.tables.now update.now.table update.now.items.now context.now.env.now rows.now) (applied (own_seen context.now log.old) (V.sight view.old).database)) }
+    ensures asked { OnOk result (log.new ≡ with_preds log.old (log.old.effect.preds ++ preds_up_to (update_checks context.now.tables.now update.now.table update.now.items.now context.now.env.now rows.now) (applied (own_seen context.now log.old) (V.sight view.old).database))) }
     ensures err { OnErr result (without_effect log.new ≡ without_effect log.old) }
     ensures view { OnlyAsks (V.sight view.old) (V.sight view.new) result }
-    ensures looks { AskedFor (preds_up_to (update_checks context.now.tables.now update.now.table update.now.items.now context.now.env.now rows.now) (applied (earlier context.now.number context.now.undo.now) (V.sight view.old).database)) (earlier context.now.number context.now.undo.now) (V.sight view.old) (V.sight view.new) }
+    ensures looks { AskedFor (preds_up_to (update_checks context.now.tables.now update.now.table update.now.items.now context.now.env.now rows.now) (applied (own_seen context.now log.old) (V.sight view.old).database)) (own_seen context.now log.old) (V.sight view.old) (V.sight view.new) }
 {
     let checks = update_checks(alloc, context, update, rows.as_slice())?;
     run_checks(alloc, context, &[], checks.as_slice(), log, view)
@@ -450,15 +450,15 @@ fn update_rows<'s, V: View<'s>>(
     log: &mut Log,
     view: &mut V,
 ) -> Result<(), Refused>
-    requires stands { AreSoundTables context.now.tables.now (earlier context.now.number context.now.undo.now) (V.sight view.old).database }
+    requires stands { AreSoundTables context.now.tables.now (own_seen context.now log.old) (V.sight view.old).database }
     requires table { update.now.table < 256 }
     requires columns { All (λ (i : RSetItem). i.column < 256) update.now.items.now }
     requires found { context.now.env.now.found < 2 ^ 16 }
     requires one { AsksOne log.old }
-    ensures ok { OnOk result (log.new ≡ record log.old { effect = effect_unless (first_fault (update_checks context.now.tables.now update.now.table update.now.items.now context.now.env.now rows.now) (applied (earlier context.now.number context.now.undo.now) (V.sight view.old).database)) (asked log.old ∷ preds_up_to (update_checks context.now.tables.now update.now.table update.now.items.now context.now.env.now rows.now) (applied (earlier context.now.number context.now.undo.now) (V.sight view.old).database)) (is_some_row rows.now) (on (changes update.now.table update.now.items.now (new_of context.now.tables.now update.now.table context.now.env.now update.now.items.now) rows.now) (λ ws. ws)) context.now.env.now }) }
+    ensures ok { OnOk result (log.new ≡ record log.old { effect = effect_unless (first_fault (update_checks context.now.tables.now update.now.table update.now.items.now context.now.env.now rows.now) (applied (own_seen context.now log.old) (V.sight view.old).database)) (asked log.old ∷ preds_up_to (update_checks context.now.tables.now update.now.table update.now.items.now context.now.env.now rows.now) (applied (own_seen context.now log.old) (V.sight view.old).database)) (is_some_row rows.now) (on (changes update.now.table update.now.items.now (new_of context.now.tables.now update.now.table context.now.env.now update.now.items.now) rows.now) (λ ws. ws)) context.now.env.now }) }
     ensures err { OnErr result (without_effect log.new ≡ without_effect log.old) }
     ensures view { OnlyAsks (V.sight view.old) (V.sight view.new) result }
-    ensures looks { AskedFor (preds_up_to (update_checks context.now.tables.now update.now.table update.now.items.now context.now.env.now rows.now) (applied (earlier context.now.number context.now.undo.now) (V.sight view.old).database)) (earlier context.now.number context.now.undo.now) (V.sight view.old) (V.sight view.new) }
+    ensures looks { AskedFor (preds_up_to (update_checks context.now.tables.now update.now.table update.now.items.now context.now.env.now rows.now) (applied (own_seen context.now log.old) (V.sight view.old).database)) (own_seen context.now log.old) (V.sight view.old) (V.sight view.new) }
 {
     if let Some(fault) = check_update(alloc, context, update, rows, log, view)? {
         end(log, fault)?;
@@ -478,16 +478,16 @@ pub(crate) fn update<'s, V: View<'s>>(
     log: &mut Log,
     view: &mut V,
 ) -> Result<(), Refused>
-    requires stands { AreSoundTables context.now.tables.now (earlier context.now.number context.now.undo.now) (V.sight view.old).database }
+    requires stands { AreSoundTables context.now.tables.now (own_seen context.now log.old) (V.sight view.old).database }
     requires found { context.now.env.now.found < 2 ^ 16 }
     requires tests { Tests context.now.tables.now update.now.table update.now.conds.now }
     requires sets { Sets context.now.tables.now update.now.table update.now.items.now }
     requires blank { IsBlank log.old }
-    ensures effect { OnOk result (IsEffect context.now.tables.now (layer.Update update.now.table update.now.items.now update.now.conds.now) context.now.env.now (applied (earlier context.now.number context.now.undo.now) (V.sight view.old).database) log.new.effect) }
+    ensures effect { OnOk result (IsEffect context.now.tables.now (layer.Update update.now.table update.now.items.now update.now.conds.now) context.now.env.now (applied (own_seen context.now log.old) (V.sight view.old).database) log.new.effect) }
     ensures rest { OnOk result (log.new ≡ record log.old { effect = log.new.effect }) }
     ensures err { OnErr result (without_effect log.new ≡ without_effect log.old) }
     ensures view { OnlyAsks (V.sight view.old) (V.sight view.new) result }
-    ensures looks { AskedBy context.now.tables.now (layer.Update update.now.table update.now.items.now update.now.conds.now) context.now.env.now (earlier context.now.number context.now.undo.now) (V.sight view.old) (V.sight view.new) }
+    ensures looks { AskedBy context.now.tables.now (layer.Update update.now.table update.now.items.now update.now.conds.now) context.now.env.now (own_seen context.now log.old) (V.sight view.old) (V.sight view.new) }
 {
     match ask_update(alloc, context.tables, update, context.env, log) {
         Ok(()) => {}

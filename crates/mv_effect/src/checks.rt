@@ -5,12 +5,12 @@ ghost use Rattle.std.specs.List.{list_all};
 ghost use Rattle.mv_values.specs.Keys.{keys};
 ghost use Rattle.mv_values.specs.Patching.{applied, found_by};
 ghost use Rattle.mv_eval.specs.Rows.{is_some_row};
-ghost use Rattle.mv_undo.specs.Owning.{earlier};
 ghost use Rattle.mv_recorded.specs.Asking.{is_among, fault_of, first_fault, asked_in, preds_up_to, KnowsKey};
 ghost use Rattle.mv_recorded.specs.Own.{Each};
 ghost use Rattle.mv_checks.specs.Checking.{meant, MayAsk};
 ghost use Rattle.mv_effect.specs.Logging.{BeginsPred, with_preds, without_effect};
 ghost use Rattle.mv_effect.specs.Looking.{AreSoundTables, OnlyAsks, AskedFor};
+ghost use Rattle.mv_effect.specs.Seeing.{own_seen};
 
 use crate::asking::ask_more;
 use crate::context::Context;
@@ -47,16 +47,17 @@ fn have_keys(own: &[Key], rows: &[Found<'_>]) -> bool
 fn finds_some<'s, V: View<'s>>(
     alloc: Global,
     context: &Context<'_>,
+    log: &Log,
     pred: &PredRef<'_>,
     view: &mut V,
 ) -> Result<bool, Refused>
-    requires stands { AreSoundTables context.now.tables.now (earlier context.now.number context.now.undo.now) (V.sight view.old).database }
+    requires stands { AreSoundTables context.now.tables.now (own_seen context.now log.now) (V.sight view.old).database }
     requires knows { KnowsKey context.now.tables.now pred.now }
-    ensures found { IfOk result (λ b. b ≡ is_some_row (found_by pred.now (applied (earlier context.now.number context.now.undo.now) (V.sight view.old).database))) }
+    ensures found { IfOk result (λ b. b ≡ is_some_row (found_by pred.now (applied (own_seen context.now log.now) (V.sight view.old).database))) }
     ensures view { OnlyAsks (V.sight view.old) (V.sight view.new) result }
-    ensures looks { AskedFor (pred.now ∷ []) (earlier context.now.number context.now.undo.now) (V.sight view.old) (V.sight view.new) }
+    ensures looks { AskedFor (pred.now ∷ []) (own_seen context.now log.now) (V.sight view.old) (V.sight view.new) }
 {
-    let row = first_visible(alloc, context, pred, Direction::Forward, view)?;
+    let row = first_visible(alloc, context, log, pred, Direction::Forward, view)?;
     Ok(row.is_some())
 }
 
@@ -64,17 +65,18 @@ fn finds_some<'s, V: View<'s>>(
 fn finds_only<'s, V: View<'s>>(
     alloc: Global,
     context: &Context<'_>,
+    log: &Log,
     pred: &PredRef<'_>,
     own: &[Key],
     view: &mut V,
 ) -> Result<bool, Refused>
-    requires stands { AreSoundTables context.now.tables.now (earlier context.now.number context.now.undo.now) (V.sight view.old).database }
+    requires stands { AreSoundTables context.now.tables.now (own_seen context.now log.now) (V.sight view.old).database }
     requires knows { KnowsKey context.now.tables.now pred.now }
-    ensures found { IfOk result (λ b. b ≡ list_all (is_among own.now) (keys (found_by pred.now (applied (earlier context.now.number context.now.undo.now) (V.sight view.old).database)))) }
+    ensures found { IfOk result (λ b. b ≡ list_all (is_among own.now) (keys (found_by pred.now (applied (own_seen context.now log.now) (V.sight view.old).database)))) }
     ensures view { OnlyAsks (V.sight view.old) (V.sight view.new) result }
-    ensures looks { AskedFor (pred.now ∷ []) (earlier context.now.number context.now.undo.now) (V.sight view.old) (V.sight view.new) }
+    ensures looks { AskedFor (pred.now ∷ []) (own_seen context.now log.now) (V.sight view.old) (V.sight view.new) }
 {
-    let found = visible_rows(alloc, context, pred, view)?;
+    let found = visible_rows(alloc, context, log, pred, view)?;
     Ok(have_keys(own, found.as_slice()))
 }
 
@@ -83,21 +85,22 @@ fn finds_only<'s, V: View<'s>>(
 fn finds_no_other<'s, V: View<'s>>(
     alloc: Global,
     context: &Context<'_>,
+    log: &Log,
     pred: &PredRef<'_>,
     may_be_own: bool,
     own: &[Key],
     view: &mut V,
 ) -> Result<bool, Refused>
-    requires stands { AreSoundTables context.now.tables.now (earlier context.now.number context.now.undo.now) (V.sight view.old).database }
+    requires stands { AreSoundTables context.now.tables.now (own_seen context.now log.now) (V.sight view.old).database }
     requires knows { KnowsKey context.now.tables.now pred.now }
-    ensures found { IfOk result (λ b. b ≡ list_all (is_among (if may_be_own then own.now else [])) (keys (found_by pred.now (applied (earlier context.now.number context.now.undo.now) (V.sight view.old).database)))) }
+    ensures found { IfOk result (λ b. b ≡ list_all (is_among (if may_be_own then own.now else [])) (keys (found_by pred.now (applied (own_seen context.now log.now) (V.sight view.old).database)))) }
     ensures view { OnlyAsks (V.sight view.old) (V.sight view.new) result }
-    ensures looks { AskedFor (pred.now ∷ []) (earlier context.now.number context.now.undo.now) (V.sight view.old) (V.sight view.new) }
+    ensures looks { AskedFor (pred.now ∷ []) (own_seen context.now log.now) (V.sight view.old) (V.sight view.new) }
 {
     if may_be_own {
-        return finds_only(alloc, context, pred, own, view);
+        return finds_only(alloc, context, log, pred, own, view);
     }
-    let some = finds_some(alloc, context, pred, view)?;
+    let some = finds_some(alloc, context, log, pred, view)?;
     Ok(!some)
 }
 
@@ -118,25 +121,25 @@ fn run_one<'s, V: View<'s>>(
     log: &mut Log,
     view: &mut V,
 ) -> Result<Option<End>, Refused>
-    requires stands { AreSoundTables context.now.tables.now (earlier context.now.number context.now.undo.now) (V.sight view.old).database }
+    requires stands { AreSoundTables context.now.tables.now (own_seen context.now log.old) (V.sight view.old).database }
     requires may_ask { MayAsk context.now.tables.now (meant own.now check.now) }
     requires begins { BeginsPred log.old }
-    ensures fault { IfOk result (λ o. o ≡ fault_of (meant own.now check.now) (applied (earlier context.now.number context.now.undo.now) (V.sight view.old).database)) }
+    ensures fault { IfOk result (λ o. o ≡ fault_of (meant own.now check.now) (applied (own_seen context.now log.old) (V.sight view.old).database)) }
     ensures asked { OnOk result (log.new ≡ with_preds log.old (log.old.effect.preds ++ asked_in (meant own.now check.now))) }
     ensures err { OnErr result (without_effect log.new ≡ without_effect log.old) }
     ensures view { OnlyAsks (V.sight view.old) (V.sight view.new) result }
-    ensures looks { AskedFor (asked_in (meant own.now check.now)) (earlier context.now.number context.now.undo.now) (V.sight view.old) (V.sight view.new) }
+    ensures looks { AskedFor (asked_in (meant own.now check.now)) (own_seen context.now log.old) (V.sight view.old) (V.sight view.new) }
 {
     match check {
         Check::Faults(end) => Ok(Some(end.copy(alloc)?)),
         Check::Needs(pred, end) => {
-            let is_right = finds_some(alloc, context, &PredRef::of(pred), view)?;
+            let is_right = finds_some(alloc, context, log, &PredRef::of(pred), view)?;
             ask_more(log, pred.copy(alloc)?)?;
             Ok(unless(is_right, end.copy(alloc)?))
         }
         Check::Forbids(pred, may_be_own, end) => {
             let asked = PredRef::of(pred);
-            let is_right = finds_no_other(alloc, context, &asked, *may_be_own, own, view)?;
+            let is_right = finds_no_other(alloc, context, log, &asked, *may_be_own, own, view)?;
             ask_more(log, pred.copy(alloc)?)?;
             Ok(unless(is_right, end.copy(alloc)?))
         }
@@ -153,14 +156,14 @@ pub(crate) fn run_checks<'s, V: View<'s>>(
     log: &mut Log,
     view: &mut V,
 ) -> Result<Option<End>, Refused>
-    requires stands { AreSoundTables context.now.tables.now (earlier context.now.number context.now.undo.now) (V.sight view.old).database }
+    requires stands { AreSoundTables context.now.tables.now (own_seen context.now log.old) (V.sight view.old).database }
     requires may_ask { Each (MayAsk context.now.tables.now) (map (meant own.now) checks.now) }
     requires begins { BeginsPred log.old }
-    ensures fault { IfOk result (λ o. o ≡ first_fault (map (meant own.now) checks.now) (applied (earlier context.now.number context.now.undo.now) (V.sight view.old).database)) }
-    ensures asked { OnOk result (log.new ≡ with_preds log.old (log.old.effect.preds ++ preds_up_to (map (meant own.now) checks.now) (applied (earlier context.now.number context.now.undo.now) (V.sight view.old).database))) }
+    ensures fault { IfOk result (λ o. o ≡ first_fault (map (meant own.now) checks.now) (applied (own_seen context.now log.old) (V.sight view.old).database)) }
+    ensures asked { OnOk result (log.new ≡ with_preds log.old (log.old.effect.preds ++ preds_up_to (map (meant own.now) checks.now) (applied (own_seen context.now log.old) (V.sight view.old).database))) }
     ensures err { OnErr result (without_effect log.new ≡ without_effect log.old) }
     ensures view { OnlyAsks (V.sight view.old) (V.sight view.new) result }
-    ensures looks { AskedFor (preds_up_to (map (meant own.now) checks.now) (applied (earlier context.now.number context.now.undo.now) (V.sight view.old).database)) (earlier context.now.number context.now.undo.now) (V.sight view.old) (V.sight view.new) }
+    ensures looks { AskedFor (preds_up_to (map (meant own.now) checks.now) (applied (own_seen context.now log.old) (V.sight view.old).database)) (own_seen context.now log.old) (V.sight view.old) (V.sight view.new) }
 {
     for check in checks {
         if let Some(end) = run_one(alloc, context, own, check, log, view)? {

@@ -13,12 +13,12 @@ ghost use Rattle.mv_eval.specs.Alone.{fixed};
 ghost use Rattle.mv_eval.specs.FirstRows.{Leads, IsFromEnd};
 ghost use Rattle.mv_eval.specs.Rows.{aggregate, is_some_row, item_at, matching, ordered};
 ghost use Rattle.mv_recorded.specs.Asking.{column_in, with_sorts, KnowsKey};
-ghost use Rattle.mv_undo.specs.Owning.{earlier};
 ghost use Rattle.mv_recorded.specs.Effects.{IsEffect, asks, pred_with, effect_after, row_number, effect_of_loop, effect_of_select, effect_of_aggregate};
 ghost use Rattle.mv_effect.specs.Asking.{asked, asked_with, AsksOne};
 ghost use Rattle.mv_effect.specs.Logging.{IsBlank, without_effect};
 ghost use Rattle.mv_effect.specs.Stops.{GivesOrEnds};
 ghost use Rattle.mv_effect.specs.Looking.{AreSoundTables, OnlyAsks, different, AskedAtMost, AskedBy};
+ghost use Rattle.mv_effect.specs.Seeing.{own_seen};
 ghost use Rattle.mv_recorded.specs.Naming.{Tests, AreColumns};
 ghost use Rattle.mv_effect.specs.Totalling.{total_asked};
 
@@ -164,14 +164,14 @@ fn select_asked<'s, V: View<'s>>(
     log: &mut Log,
     view: &mut V,
 ) -> Result<(), Refused>
-    requires stands { AreSoundTables context.now.tables.now (earlier context.now.number context.now.undo.now) (V.sight view.old).database }
+    requires stands { AreSoundTables context.now.tables.now (own_seen context.now log.old) (V.sight view.old).database }
     requires found { context.now.env.now.found < 2 ^ 16 }
     requires one { AsksOne log.old }
     requires knows { KnowsKey context.now.tables.now (asked log.old) }
-    ensures effect { OnOk result (log.new ≡ record log.old { effect = effect_of_select (asked log.old) query.now.columns.now to.now (item_at (ordered query.now.sorts.now (found_by (asked log.old) (applied (earlier context.now.number context.now.undo.now) (V.sight view.old).database))) at) context.now.env.now }) }
+    ensures effect { OnOk result (log.new ≡ record log.old { effect = effect_of_select (asked log.old) query.now.columns.now to.now (item_at (ordered query.now.sorts.now (found_by (asked log.old) (applied (own_seen context.now log.old) (V.sight view.old).database))) at) context.now.env.now }) }
     ensures err { OnErr result (without_effect log.new ≡ without_effect log.old) }
     ensures view { OnlyAsks (V.sight view.old) (V.sight view.new) result }
-    ensures looks { AskedAtMost 1 (different (earlier context.now.number context.now.undo.now)) (V.sight view.old) (V.sight view.new) }
+    ensures looks { AskedAtMost 1 (different (own_seen context.now log.old)) (V.sight view.old) (V.sight view.new) }
 {
     if let Some(direction) = leading_asked(context, query.sorts, log, at) {
         let row = first_asked(alloc, context, log, direction, view)?;
@@ -194,16 +194,16 @@ pub(crate) fn select<'s, V: View<'s>>(
     log: &mut Log,
     view: &mut V,
 ) -> Result<(), Refused>
-    requires stands { AreSoundTables context.now.tables.now (earlier context.now.number context.now.undo.now) (V.sight view.old).database }
+    requires stands { AreSoundTables context.now.tables.now (own_seen context.now log.old) (V.sight view.old).database }
     requires found { context.now.env.now.found < 2 ^ 16 }
     requires tests { Tests context.now.tables.now query.now.table query.now.conds.now }
     requires columns { AreColumns context.now.tables.now query.now.table (with_sorts query.now.columns.now query.now.sorts.now) }
     requires blank { IsBlank log.old }
-    ensures effect { OnOk result (IsEffect context.now.tables.now (layer.Select query.now.columns.now to.now query.now.table query.now.conds.now query.now.sorts.now at.now) context.now.env.now (applied (earlier context.now.number context.now.undo.now) (V.sight view.old).database) log.new.effect) }
+    ensures effect { OnOk result (IsEffect context.now.tables.now (layer.Select query.now.columns.now to.now query.now.table query.now.conds.now query.now.sorts.now at.now) context.now.env.now (applied (own_seen context.now log.old) (V.sight view.old).database) log.new.effect) }
     ensures rest { OnOk result (log.new ≡ record log.old { effect = log.new.effect }) }
     ensures err { OnErr result (without_effect log.new ≡ without_effect log.old) }
     ensures view { OnlyAsks (V.sight view.old) (V.sight view.new) result }
-    ensures looks { AskedBy context.now.tables.now (layer.Select query.now.columns.now to.now query.now.table query.now.conds.now query.now.sorts.now at.now) context.now.env.now (earlier context.now.number context.now.undo.now) (V.sight view.old) (V.sight view.new) }
+    ensures looks { AskedBy context.now.tables.now (layer.Select query.now.columns.now to.now query.now.table query.now.conds.now query.now.sorts.now at.now) context.now.env.now (own_seen context.now log.old) (V.sight view.old) (V.sight view.new) }
 {
     let at = match row_query(alloc, context, query, at, log) {
         Ok(at) => at,
@@ -270,14 +270,14 @@ fn total_asked<'s, V: View<'s>>(
     log: &mut Log,
     view: &mut V,
 ) -> Result<(), Refused>
-    requires stands { AreSoundTables context.now.tables.now (earlier context.now.number context.now.undo.now) (V.sight view.old).database }
+    requires stands { AreSoundTables context.now.tables.now (own_seen context.now log.old) (V.sight view.old).database }
     requires found { context.now.env.now.found < 2 ^ 16 }
     requires one { AsksOne log.old }
     requires knows { KnowsKey context.now.tables.now (asked log.old) }
-    ensures effect { OnOk result (log.new ≡ record log.old { effect = total_asked agg to (asked log.old) (found_by (asked log.old) (applied (earlier context.now.number context.now.undo.now) (V.sight view.old).database)) context.now.env.now }) }
+    ensures effect { OnOk result (log.new ≡ record log.old { effect = total_asked agg to (asked log.old) (found_by (asked log.old) (applied (own_seen context.now log.old) (V.sight view.old).database)) context.now.env.now }) }
     ensures err { OnErr result (without_effect log.new ≡ without_effect log.old) }
     ensures view { OnlyAsks (V.sight view.old) (V.sight view.new) result }
-    ensures looks { AskedAtMost 1 (different (earlier context.now.number context.now.undo.now)) (V.sight view.old) (V.sight view.new) }
+    ensures looks { AskedAtMost 1 (different (own_seen context.now log.old)) (V.sight view.old) (V.sight view.new) }
 {
     if let Some((column, direction)) = told_by(context, agg, log) {
         let row = first_asked(alloc, context, log, direction, view)?;
@@ -301,16 +301,16 @@ pub(crate) fn total<'s, V: View<'s>>(
     log: &mut Log,
     view: &mut V,
 ) -> Result<(), Refused>
-    requires stands { AreSoundTables context.now.tables.now (earlier context.now.number context.now.undo.now) (V.sight view.old).database }
+    requires stands { AreSoundTables context.now.tables.now (own_seen context.now log.old) (V.sight view.old).database }
     requires found { context.now.env.now.found < 2 ^ 16 }
     requires tests { Tests context.now.tables.now table conds.now }
     requires columns { AreColumns context.now.tables.now table (column_in agg) }
     requires blank { IsBlank log.old }
-    ensures effect { OnOk result (IsEffect context.now.tables.now (layer.Total agg to table conds.now) context.now.env.now (applied (earlier context.now.number context.now.undo.now) (V.sight view.old).database) log.new.effect) }
+    ensures effect { OnOk result (IsEffect context.now.tables.now (layer.Total agg to table conds.now) context.now.env.now (applied (own_seen context.now log.old) (V.sight view.old).database) log.new.effect) }
     ensures rest { OnOk result (log.new ≡ record log.old { effect = log.new.effect }) }
     ensures err { OnErr result (without_effect log.new ≡ without_effect log.old) }
     ensures view { OnlyAsks (V.sight view.old) (V.sight view.new) result }
-    ensures looks { AskedBy context.now.tables.now (layer.Total agg to table conds.now) context.now.env.now (earlier context.now.number context.now.undo.now) (V.sight view.old) (V.sight view.new) }
+    ensures looks { AskedBy context.now.tables.now (layer.Total agg to table conds.now) context.now.env.now (own_seen context.now log.old) (V.sight view.old) (V.sight view.new) }
 {
     match ask_total(alloc, context.tables, agg, table, conds, context.env, log) {
         Ok(()) => {}
@@ -359,16 +359,16 @@ pub(crate) fn for_select<'s, V: View<'s>>(
     log: &mut Log,
     view: &mut V,
 ) -> Result<(), Refused>
-    requires stands { AreSoundTables context.now.tables.now (earlier context.now.number context.now.undo.now) (V.sight view.old).database }
+    requires stands { AreSoundTables context.now.tables.now (own_seen context.now log.old) (V.sight view.old).database }
     requires found { context.now.env.now.found < 2 ^ 16 }
     requires tests { Tests context.now.tables.now query.now.table query.now.conds.now }
     requires columns { AreColumns context.now.tables.now query.now.table (with_sorts query.now.columns.now query.now.sorts.now) }
     requires blank { IsBlank log.old }
-    ensures effect { OnOk result ((row : ℕ) (body : List RStmt) → IsEffect context.now.tables.now (layer.ForSelect row once query.now.columns.now query.now.table query.now.conds.now query.now.sorts.now body) context.now.env.now (applied (earlier context.now.number context.now.undo.now) (V.sight view.old).database) log.new.effect) }
+    ensures effect { OnOk result ((row : ℕ) (body : List RStmt) → IsEffect context.now.tables.now (layer.ForSelect row once query.now.columns.now query.now.table query.now.conds.now query.now.sorts.now body) context.now.env.now (applied (own_seen context.now log.old) (V.sight view.old).database) log.new.effect) }
     ensures rest { OnOk result (log.new ≡ record log.old { effect = log.new.effect }) }
     ensures err { OnErr result (without_effect log.new ≡ without_effect log.old) }
     ensures view { OnlyAsks (V.sight view.old) (V.sight view.new) result }
-    ensures looks { (row : ℕ) (body : List RStmt) → AskedBy context.now.tables.now (layer.ForSelect row once query.now.columns.now query.now.table query.now.conds.now query.now.sorts.now body) context.now.env.now (earlier context.now.number context.now.undo.now) (V.sight view.old) (V.sight view.new) }
+    ensures looks { (row : ℕ) (body : List RStmt) → AskedBy context.now.tables.now (layer.ForSelect row once query.now.columns.now query.now.table query.now.conds.now query.now.sorts.now body) context.now.env.now (own_seen context.now log.old) (V.sight view.old) (V.sight view.new) }
 {
     match ask_select(alloc, context.tables, query, context.env, log) {
         Ok(()) => {}

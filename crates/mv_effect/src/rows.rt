@@ -17,6 +17,7 @@ ghost use Rattle.mv_undo.specs.Owning.{earlier, is_among, is_fixed, is_sought, t
 ghost use Rattle.mv_view.specs.Viewing.{MayAnswer, answered, with_row_call};
 ghost use Rattle.mv_effect.specs.Asking.{asked, AsksOne};
 ghost use Rattle.mv_effect.specs.Looking.{different, AreSoundTables, OnlyAsks, AskedAtMost};
+ghost use Rattle.mv_effect.specs.Seeing.{own_seen};
 ghost use Rattle.mv_effect.specs.Firsts.{is_met_before, IsFirstOf};
 ghost use Rattle.mv_recorded.specs.Asking.{KnowsKey};
 
@@ -77,7 +78,7 @@ fn add_row<'s, V: View<'s>>(
 /// don't fix. Asks the view once for each of them.
 fn rows_under<'s, V: View<'s>>(
     alloc: Global,
-    undo: &Undo,
+    undo: &Undo<'_>,
     number: usize,
     table: u8,
     keys: &[Key],
@@ -102,12 +103,12 @@ fn rows_under<'s, V: View<'s>>(
 fn written_keys(
     alloc: Global,
     pred: &PredRef<'_>,
-    undo: &Undo,
+    undo: &Undo<'_>,
     number: usize,
 ) -> Result<List<Key>, NoMemory>
     ensures { IfOk result (λ keys. AreSought pred.now (earlier number undo.now) keys) }
 {
-    if undo.as_slice().is_empty() {
+    if undo.is_empty() {
         return Ok(List::new(alloc));
     }
     undo.keys(alloc, number, pred)
@@ -117,7 +118,7 @@ fn written_keys(
 fn overlaid<'s>(
     alloc: Global,
     pred: &PredRef<'_>,
-    undo: &Undo,
+    undo: &Undo<'_>,
     number: usize,
     keys: &[Key],
     rows: FoundRows<'s>,
@@ -136,7 +137,7 @@ fn overlaid<'s>(
 fn look<'s, V: View<'s>>(
     alloc: Global,
     pred: &PredRef<'_>,
-    undo: &Undo,
+    undo: &Undo<'_>,
     number: usize,
     view: &mut V,
 ) -> Result<FoundRows<'s>, Refused>
@@ -162,7 +163,7 @@ fn look<'s, V: View<'s>>(
 /// The keys of a table that the own writes of records with smaller numbers are on.
 #[derive(Drop)]
 struct OwnKeys<'a> {
-    undo: &'a Undo,
+    undo: &'a Undo<'a>,
     number: usize,
     table: u8,
 }
@@ -202,7 +203,7 @@ fn matched(pred: &PredRef<'_>, row: Option<Row>) -> Option<Row>
 /// row. Then it doesn't ask the view, else once.
 fn row_before<'s, V: View<'s>>(
     alloc: Global,
-    undo: &Undo,
+    undo: &Undo<'_>,
     number: usize,
     table: u8,
     key: &Key,
@@ -234,7 +235,7 @@ fn borrowed<'a>(row: &'a Option<Lent<'_>>) -> Option<&'a Row>
 fn own_row<'s, V: View<'s>>(
     alloc: Global,
     pred: &PredRef<'_>,
-    undo: &Undo,
+    undo: &Undo<'_>,
     number: usize,
     key: &Key,
     view: &mut V,
@@ -257,7 +258,7 @@ fn own_row<'s, V: View<'s>>(
 fn first_own<'s, V: View<'s>>(
     alloc: Global,
     pred: &PredRef<'_>,
-    undo: &Undo,
+    undo: &Undo<'_>,
     number: usize,
     direction: Direction,
     other: Option<&Found<'s>>,
@@ -269,7 +270,7 @@ fn first_own<'s, V: View<'s>>(
     ensures view { OnlyAsks (V.sight view.old) (V.sight view.new) result }
     ensures looks { AskedAtMost 0 (different (earlier number undo.now)) (V.sight view.old) (V.sight view.new) }
 {
-    if undo.as_slice().is_empty() {
+    if undo.is_empty() {
         return Ok(None);
     }
     let mut keys = undo.sought_keys(alloc, number, pred)?;
@@ -292,7 +293,7 @@ fn first_own<'s, V: View<'s>>(
 fn first_after<'s, V: View<'s>>(
     alloc: Global,
     pred: &PredRef<'_>,
-    undo: &Undo,
+    undo: &Undo<'_>,
     number: usize,
     direction: Direction,
     view: &mut V,
@@ -334,7 +335,7 @@ fn only_key(
 fn row_under<'s, V: View<'s>>(
     alloc: Global,
     pred: &PredRef<'_>,
-    undo: &Undo,
+    undo: &Undo<'_>,
     number: usize,
     key: &Key,
     view: &mut V,
@@ -367,18 +368,19 @@ fn keyed<'s>(key: Key, row: Option<Lent<'s>>) -> Option<Found<'s>>
 fn only_row<'s, V: View<'s>>(
     alloc: Global,
     context: &Context<'_>,
+    undo: &Undo<'_>,
     pred: &PredRef<'_>,
     key: Key,
     view: &mut V,
 ) -> Result<Option<Found<'s>>, Refused>
-    requires stands { AreSoundTables context.now.tables.now (earlier context.now.number context.now.undo.now) (V.sight view.old).database }
+    requires stands { AreSoundTables context.now.tables.now (earlier context.now.number undo.now) (V.sight view.old).database }
     requires knows { KnowsKey context.now.tables.now pred.now }
     requires only { AdmitsOnly pred.now.tests (length (key_columns context.now.tables.now pred.now.table)) key }
-    ensures found { IfOk result (λ row. option_to_list row ≡ found_by pred.now (applied (earlier context.now.number context.now.undo.now) (V.sight view.old).database)) }
+    ensures found { IfOk result (λ row. option_to_list row ≡ found_by pred.now (applied (earlier context.now.number undo.now) (V.sight view.old).database)) }
     ensures view { OnlyAsks (V.sight view.old) (V.sight view.new) result }
-    ensures looks { AskedAtMost 1 (different (earlier context.now.number context.now.undo.now)) (V.sight view.old) (V.sight view.new) }
+    ensures looks { AskedAtMost 1 (different (earlier context.now.number undo.now)) (V.sight view.old) (V.sight view.new) }
 {
-    let row = row_under(alloc, pred, context.undo, context.number, &key, view)?;
+    let row = row_under(alloc, pred, undo, context.number, &key, view)?;
     Ok(keyed(key, row))
 }
 
@@ -387,19 +389,61 @@ fn only_row<'s, V: View<'s>>(
 fn only_rows<'s, V: View<'s>>(
     alloc: Global,
     context: &Context<'_>,
+    undo: &Undo<'_>,
     pred: &PredRef<'_>,
     key: Key,
     view: &mut V,
 ) -> Result<FoundRows<'s>, Refused>
-    requires stands { AreSoundTables context.now.tables.now (earlier context.now.number context.now.undo.now) (V.sight view.old).database }
+    requires stands { AreSoundTables context.now.tables.now (earlier context.now.number undo.now) (V.sight view.old).database }
     requires knows { KnowsKey context.now.tables.now pred.now }
     requires only { AdmitsOnly pred.now.tests (length (key_columns context.now.tables.now pred.now.table)) key }
-    ensures found { IfOk result (λ rows. rows ≡ found_by pred.now (applied (earlier context.now.number context.now.undo.now) (V.sight view.old).database)) }
+    ensures found { IfOk result (λ rows. rows ≡ found_by pred.now (applied (earlier context.now.number undo.now) (V.sight view.old).database)) }
     ensures view { OnlyAsks (V.sight view.old) (V.sight view.new) result }
-    ensures looks { AskedAtMost 1 (different (earlier context.now.number context.now.undo.now)) (V.sight view.old) (V.sight view.new) }
+    ensures looks { AskedAtMost 1 (different (earlier context.now.number undo.now)) (V.sight view.old) (V.sight view.new) }
 {
-    let item = only_row(alloc, context, pred, key, view)?;
+    let item = only_row(alloc, context, undo, pred, key, view)?;
     Ok(FoundRows::one(alloc, item))
+}
+
+/// Returns the predicate's rows after these own writes, so far as the statement sees them, as `visible_rows` does.
+fn rows_with<'s, V: View<'s>>(
+    alloc: Global,
+    context: &Context<'_>,
+    undo: &Undo<'_>,
+    pred: &PredRef<'_>,
+    view: &mut V,
+) -> Result<FoundRows<'s>, Refused>
+    requires stands { AreSoundTables context.now.tables.now (earlier context.now.number undo.now) (V.sight view.old).database }
+    requires knows { KnowsKey context.now.tables.now pred.now }
+    ensures found { IfOk result (λ rows. rows ≡ found_by pred.now (applied (earlier context.now.number undo.now) (V.sight view.old).database)) }
+    ensures view { OnlyAsks (V.sight view.old) (V.sight view.new) result }
+    ensures looks { AskedAtMost 1 (different (earlier context.now.number undo.now)) (V.sight view.old) (V.sight view.new) }
+{
+    match only_key(alloc, context.tables, pred)? {
+        Some(key) => only_rows(alloc, context, undo, pred, key, view),
+        None => look(alloc, pred, undo, context.number, view),
+    }
+}
+
+/// Returns the first row of those that `rows_with` returns, as `first_visible` does.
+fn first_with<'s, V: View<'s>>(
+    alloc: Global,
+    context: &Context<'_>,
+    undo: &Undo<'_>,
+    pred: &PredRef<'_>,
+    direction: Direction,
+    view: &mut V,
+) -> Result<Option<Found<'s>>, Refused>
+    requires stands { AreSoundTables context.now.tables.now (earlier context.now.number undo.now) (V.sight view.old).database }
+    requires knows { KnowsKey context.now.tables.now pred.now }
+    ensures found { IfOk result (λ row. row ≡ foremost direction (found_by pred.now (applied (earlier context.now.number undo.now) (V.sight view.old).database))) }
+    ensures view { OnlyAsks (V.sight view.old) (V.sight view.new) result }
+    ensures looks { AskedAtMost 1 (different (earlier context.now.number undo.now)) (V.sight view.old) (V.sight view.new) }
+{
+    match only_key(alloc, context.tables, pred)? {
+        Some(key) => only_row(alloc, context, undo, pred, key, view),
+        None => first_after(alloc, pred, undo, context.number, direction, view),
+    }
 }
 
 /// Returns the predicate's rows after the call's own writes that the statement sees, in key order. Asks the view once
@@ -408,19 +452,17 @@ fn only_rows<'s, V: View<'s>>(
 pub(crate) fn visible_rows<'s, V: View<'s>>(
     alloc: Global,
     context: &Context<'_>,
+    log: &Log,
     pred: &PredRef<'_>,
     view: &mut V,
 ) -> Result<FoundRows<'s>, Refused>
-    requires stands { AreSoundTables context.now.tables.now (earlier context.now.number context.now.undo.now) (V.sight view.old).database }
+    requires stands { AreSoundTables context.now.tables.now (own_seen context.now log.now) (V.sight view.old).database }
     requires knows { KnowsKey context.now.tables.now pred.now }
-    ensures found { IfOk result (λ rows. rows ≡ found_by pred.now (applied (earlier context.now.number context.now.undo.now) (V.sight view.old).database)) }
+    ensures found { IfOk result (λ rows. rows ≡ found_by pred.now (applied (own_seen context.now log.now) (V.sight view.old).database)) }
     ensures view { OnlyAsks (V.sight view.old) (V.sight view.new) result }
-    ensures looks { AskedAtMost 1 (different (earlier context.now.number context.now.undo.now)) (V.sight view.old) (V.sight view.new) }
+    ensures looks { AskedAtMost 1 (different (own_seen context.now log.now)) (V.sight view.old) (V.sight view.new) }
 {
-    match only_key(alloc, context.tables, pred)? {
-        Some(key) => only_rows(alloc, context, pred, key, view),
-        None => look(alloc, pred, context.undo, context.number, view),
-    }
+    rows_with(alloc, context, &log.undo(), pred, view)
 }
 
 /// Returns the first row in this direction of those that `visible_rows` returns. Asks the view once for its first row
@@ -430,20 +472,18 @@ pub(crate) fn visible_rows<'s, V: View<'s>>(
 pub(crate) fn first_visible<'s, V: View<'s>>(
     alloc: Global,
     context: &Context<'_>,
+    log: &Log,
     pred: &PredRef<'_>,
     direction: Direction,
     view: &mut V,
 ) -> Result<Option<Found<'s>>, Refused>
-    requires stands { AreSoundTables context.now.tables.now (earlier context.now.number context.now.undo.now) (V.sight view.old).database }
+    requires stands { AreSoundTables context.now.tables.now (own_seen context.now log.now) (V.sight view.old).database }
     requires knows { KnowsKey context.now.tables.now pred.now }
-    ensures found { IfOk result (λ row. row ≡ foremost direction (found_by pred.now (applied (earlier context.now.number context.now.undo.now) (V.sight view.old).database))) }
+    ensures found { IfOk result (λ row. row ≡ foremost direction (found_by pred.now (applied (own_seen context.now log.now) (V.sight view.old).database))) }
     ensures view { OnlyAsks (V.sight view.old) (V.sight view.new) result }
-    ensures looks { AskedAtMost 1 (different (earlier context.now.number context.now.undo.now)) (V.sight view.old) (V.sight view.new) }
+    ensures looks { AskedAtMost 1 (different (own_seen context.now log.now)) (V.sight view.old) (V.sight view.new) }
 {
-    match only_key(alloc, context.tables, pred)? {
-        Some(key) => only_row(alloc, context, pred, key, view),
-        None => first_after(alloc, pred, context.undo, context.number, direction, view),
-    }
+    first_with(alloc, context, &log.undo(), pred, direction, view)
 }
 
 /// Returns the rows that `visible_rows` returns for what the open effect asks.
@@ -454,13 +494,13 @@ pub(crate) fn rows_asked<'s, V: View<'s>>(
     view: &mut V,
 ) -> Result<FoundRows<'s>, Refused>
     requires one { AsksOne log.now }
-    requires stands { AreSoundTables context.now.tables.now (earlier context.now.number context.now.undo.now) (V.sight view.old).database }
+    requires stands { AreSoundTables context.now.tables.now (own_seen context.now log.now) (V.sight view.old).database }
     requires knows { KnowsKey context.now.tables.now (asked log.now) }
-    ensures found { IfOk result (λ rows. rows ≡ found_by (asked log.now) (applied (earlier context.now.number context.now.undo.now) (V.sight view.old).database)) }
+    ensures found { IfOk result (λ rows. rows ≡ found_by (asked log.now) (applied (own_seen context.now log.now) (V.sight view.old).database)) }
     ensures view { OnlyAsks (V.sight view.old) (V.sight view.new) result }
-    ensures looks { AskedAtMost 1 (different (earlier context.now.number context.now.undo.now)) (V.sight view.old) (V.sight view.new) }
+    ensures looks { AskedAtMost 1 (different (own_seen context.now log.now)) (V.sight view.old) (V.sight view.new) }
 {
-    visible_rows(alloc, context, &asked_pred(log), view)
+    visible_rows(alloc, context, log, &asked_pred(log), view)
 }
 
 /// Returns the row that `first_visible` returns for what the open effect asks.
@@ -472,13 +512,13 @@ pub(crate) fn first_asked<'s, V: View<'s>>(
     view: &mut V,
 ) -> Result<Option<Found<'s>>, Refused>
     requires one { AsksOne log.now }
-    requires stands { AreSoundTables context.now.tables.now (earlier context.now.number context.now.undo.now) (V.sight view.old).database }
+    requires stands { AreSoundTables context.now.tables.now (own_seen context.now log.now) (V.sight view.old).database }
     requires knows { KnowsKey context.now.tables.now (asked log.now) }
-    ensures found { IfOk result (λ row. row ≡ foremost direction (found_by (asked log.now) (applied (earlier context.now.number context.now.undo.now) (V.sight view.old).database))) }
+    ensures found { IfOk result (λ row. row ≡ foremost direction (found_by (asked log.now) (applied (own_seen context.now log.now) (V.sight view.old).database))) }
     ensures view { OnlyAsks (V.sight view.old) (V.sight view.new) result }
-    ensures looks { AskedAtMost 1 (different (earlier context.now.number context.now.undo.now)) (V.sight view.old) (V.sight view.new) }
+    ensures looks { AskedAtMost 1 (different (own_seen context.now log.now)) (V.sight view.old) (V.sight view.new) }
 {
-    first_visible(alloc, context, &asked_pred(log), direction, view)
+    first_visible(alloc, context, log, &asked_pred(log), direction, view)
 }
 
 /// Whether there are any rows.

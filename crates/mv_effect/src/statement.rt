@@ -4,6 +4,7 @@ ghost use Rattle.std.specs.Prelude.{◌≡◌, IfOk, OnOk, OnErr};
 ghost use Rattle.mv_values.specs.Patching.{applied};
 ghost use Rattle.mv_catalog.specs.declared.resolved.RStmt.{out-RStmt};
 ghost use Rattle.mv_undo.specs.Owning.{earlier};
+ghost use Rattle.mv_log.specs.Logged.{owned};
 ghost use Rattle.mv_recorded.specs.Effects.{IsEffect};
 ghost use Rattle.mv_effect.specs.Choosing.{Chooses};
 ghost use Rattle.mv_effect.specs.Logging.{IsBlank, without_effect};
@@ -16,7 +17,6 @@ use crate::tableless::{assign, branch, decide, for_rows, print, rollback};
 use mv_catalog::resolved::{Query, RStmt, Update};
 use mv_eval::state::Env;
 use mv_log::log::Log;
-use mv_undo::undo::Undo;
 use mv_values::schema::TableInfo;
 use mv_view::view::{Refused, View};
 use std::alloc::Global;
@@ -27,23 +27,21 @@ fn write_effect<'s, V: View<'s>>(
     tables: &[TableInfo],
     statement: &RStmt,
     env: &Env,
-    undo: &Undo,
     number: usize,
     log: &mut Log,
     view: &mut V,
 ) -> Result<(), Refused>
-    requires executable { IsExecutable tables.now statement.now env.now (earlier number undo.now) (V.sight view.old).database }
+    requires executable { IsExecutable tables.now statement.now env.now (earlier number (owned log.old)) (V.sight view.old).database }
     requires blank { IsBlank log.old }
-    ensures effect { OnOk result (IsEffect tables.now (out-RStmt statement.now) env.now (applied (earlier number undo.now) (V.sight view.old).database) log.new.effect) }
+    ensures effect { OnOk result (IsEffect tables.now (out-RStmt statement.now) env.now (applied (earlier number (owned log.old)) (V.sight view.old).database) log.new.effect) }
     ensures rest { OnOk result (log.new ≡ record log.old { effect = log.new.effect }) }
     ensures err { OnErr result (without_effect log.new ≡ without_effect log.old) }
     ensures view { OnlyAsks (V.sight view.old) (V.sight view.new) result }
-    ensures looks { AskedBy tables.now (out-RStmt statement.now) env.now (earlier number undo.now) (V.sight view.old) (V.sight view.new) }
+    ensures looks { AskedBy tables.now (out-RStmt statement.now) env.now (earlier number (owned log.old)) (V.sight view.old) (V.sight view.new) }
 {
     let context = Context {
         tables,
         env,
-        undo,
         number,
     };
     match statement {
@@ -137,24 +135,23 @@ fn write_choice<'s, V: View<'s>>(
     tables: &[TableInfo],
     statement: &RStmt,
     env: &Env,
-    undo: &Undo,
     number: usize,
     log: &mut Log,
     view: &mut V,
 ) -> Result<bool, Refused>
-    requires executable { IsExecutable tables.now statement.now env.now (earlier number undo.now) (V.sight view.old).database }
+    requires executable { IsExecutable tables.now statement.now env.now (earlier number (owned log.old)) (V.sight view.old).database }
     requires blank { IsBlank log.old }
-    ensures effect { OnOk result (IsEffect tables.now (out-RStmt statement.now) env.now (applied (earlier number undo.now) (V.sight view.old).database) log.new.effect) }
+    ensures effect { OnOk result (IsEffect tables.now (out-RStmt statement.now) env.now (applied (earlier number (owned log.old)) (V.sight view.old).database) log.new.effect) }
     ensures rest { OnOk result (log.new ≡ record log.old { effect = log.new.effect }) }
     ensures branch { IfOk result (λ holds. Chooses env.now holds (out-RStmt statement.now)) }
     ensures err { OnErr result (without_effect log.new ≡ without_effect log.old) }
     ensures view { OnlyAsks (V.sight view.old) (V.sight view.new) result }
-    ensures looks { AskedBy tables.now (out-RStmt statement.now) env.now (earlier number undo.now) (V.sight view.old) (V.sight view.new) }
+    ensures looks { AskedBy tables.now (out-RStmt statement.now) env.now (earlier number (owned log.old)) (V.sight view.old) (V.sight view.new) }
 {
     if let RStmt::Branch { test, .. } = statement {
         return decide(alloc, test, env, log);
     }
-    write_effect(alloc, tables, statement, env, undo, number, log, view)?;
+    write_effect(alloc, tables, statement, env, number, log, view)?;
     Ok(false)
 }
 
@@ -173,21 +170,20 @@ pub fn effect<'s, V: View<'s>>(
     tables: &[TableInfo],
     statement: &RStmt,
     env: &Env,
-    undo: &Undo,
     number: usize,
     log: &mut Log,
     view: &mut V,
 ) -> Result<bool, Refused>
-    requires executable { IsExecutable tables.now statement.now env.now (earlier number undo.now) (V.sight view.old).database }
+    requires executable { IsExecutable tables.now statement.now env.now (earlier number (owned log.old)) (V.sight view.old).database }
     requires blank { IsBlank log.old }
-    ensures effect { OnOk result (IsEffect tables.now (out-RStmt statement.now) env.now (applied (earlier number undo.now) (V.sight view.old).database) log.new.effect) }
+    ensures effect { OnOk result (IsEffect tables.now (out-RStmt statement.now) env.now (applied (earlier number (owned log.old)) (V.sight view.old).database) log.new.effect) }
     ensures rest { OnOk result (log.new ≡ record log.old { effect = log.new.effect }) }
     ensures branch { IfOk result (λ holds. Chooses env.now holds (out-RStmt statement.now)) }
     ensures err { OnErr result (log.new ≡ log.old) }
     ensures view { OnlyAsks (V.sight view.old) (V.sight view.new) result }
-    ensures looks { AskedBy tables.now (out-RStmt statement.now) env.now (earlier number undo.now) (V.sight view.old) (V.sight view.new) }
+    ensures looks { AskedBy tables.now (out-RStmt statement.now) env.now (earlier number (owned log.old)) (V.sight view.old) (V.sight view.new) }
 {
-    match write_choice(alloc, tables, statement, env, undo, number, log, view) {
+    match write_choice(alloc, tables, statement, env, number, log, view) {
         Ok(holds) => Ok(holds),
         Err(refused) => {
             log.drop_effect();

@@ -1,6 +1,6 @@
 -- A call before its first statement.
-use Rattle.std.proofs.Common.{◌≡◌, ℕ, ◌<◌, Bool, true, false, ◌||◌, List, [], ◌∷◌, ◌++◌, Option, None, length, take, slice_set, if◌then◌else◌, refl, sym, ap, subst, ◌∙◌, arith}
-use Rattle.std.proofs.lemmas.Bool.{le-ltb, lt-ltb}
+use Rattle.std.proofs.Common.{◌≡◌, ℕ, ◌<◌, Bool, true, false, ◌||◌, List, [], ◌∷◌, ◌++◌, Option, None, length, take, slice_set, refl, sym, ap, subst, ◌∙◌, arith}
+use Rattle.std.proofs.lemmas.Bool.{lt-ltb}
 use Rattle.mv_values.specs.declared.calls.Call.{Call}
 use Rattle.mv_values.specs.declared.schema.TableInfo.{TableInfo}
 use Rattle.mv_values.specs.Tables.{Tables}
@@ -10,8 +10,6 @@ use Rattle.mv_eval.specs.declared.state.Env.{Env}
 use Rattle.mv_eval.specs.TableAfter.{entered, begun}
 use Rattle.mv_recorded.specs.Recorded.{outside, recorded}
 use Rattle.mv_log.specs.Logged.{Logged, empty as no_records}
-use Rattle.mv_undo.specs.declared.owned.Owned.{Owned}
-use Rattle.mv_undo.specs.Owning.{before}
 use Rattle.mv_graph.proofs.Texts.{whole_text}
 use Rattle.mv_exec.specs.declared.frames.Frame.{Frame}
 use Rattle.mv_exec.specs.declared.task.Task.{Task}
@@ -57,7 +55,6 @@ fresh_is_task proc params env log empty r e =
       holders = holders (none_in proc.body);
       some = omega arith;
       empty = refl;
-      undo = refl;
       definers = λ x. refl;
       counted = omega arith;
     }))
@@ -72,21 +69,16 @@ fresh_run proc tables call db params env log empty r e v n =
     (ap (λ js. left tables (length call.arguments) js [] (begun proc call db)) (jobs proc proc.body refl)
     ∙ (sym (same_run tables (length call.arguments) outside 1 proc.body [] [] (begun proc call db)) ∙ all_left tables proc call db)))))
 
--- no write was made by a record before the first
-pub none_before : (all : List Owned) → before 0 all ≡ []
-none_before [] = refl
-none_before (o ∷ all) = ap (λ b. if b then o ∷ before 0 all else before 0 all) (le-ltb o.number 0 (omega arith)) ∙ none_before all
-
 pub only_first : (ps : List Frame) → 0 < length ps → slice_set (take 1 ps) 0 first_frame ≡ first_frame ∷ []
 only_first [] lt = absurd (omega (arith, lt))
 only_first (p ∷ ps) lt = refl
 
 -- a task whose parts are those of a call that has done nothing
-pub all_fresh : (params : ℕ) (variables : CallVariables) (env : Env) (log : Logged) (undo : List Owned) (definers : List (Option ℕ)) (frames : List Frame) (empty : Bool)
-    → variables ≡ at_beginning env → undo ≡ [] → definers ≡ [] → frames ≡ first_frame ∷ []
-    → (let t : Task = record { parameters = params; variables = variables; log = log; executed = 0; undo = undo; definers = definers; frames = frames; ended = empty; empty = empty } in t)
+pub all_fresh : (params : ℕ) (variables : CallVariables) (env : Env) (log : Logged) (definers : List (Option ℕ)) (frames : List Frame) (empty : Bool)
+    → variables ≡ at_beginning env → definers ≡ [] → frames ≡ first_frame ∷ []
+    → (let t : Task = record { parameters = params; variables = variables; log = log; executed = 0; definers = definers; frames = frames; ended = empty; empty = empty } in t)
     ≡ fresh_task params env log empty
-all_fresh params variables env log undo definers frames empty v u d p = cc
+all_fresh params variables env log definers frames empty v d p = cc
 
 -- the same of a task that is such a one
 pub new_task : (proc : ProcInfo) (task : Task) (params : ℕ) (env : Env) (empty : Bool) → task ≡ fresh_task params env no_records empty → empty ≡ none_in proc.body → IsTask proc task

@@ -1,12 +1,8 @@
 -- Who last set each variable, and the writes of records.
-use Rattle.std.proofs.Common.{◌≡◌, ◌⊎◌, inl, inr, ℕ, zero, suc, ◌+◌, ◌==◌, ◌<◌, ◌≤◌, Bool, true, false, ◌||◌, List, [], ◌∷◌, ◌++◌, Option, Some, None, All, length, slice_set, refl, sym, ap, ◌∙◌, arith, if◌then◌else◌, eq-eqb}
+use Rattle.std.proofs.Common.{◌≡◌, ◌⊎◌, inl, inr, ℕ, zero, suc, ◌+◌, ◌==◌, ◌<◌, ◌≤◌, Bool, true, false, ◌||◌, List, [], ◌∷◌, ◌++◌, Option, Some, None, length, slice_set, refl, sym, ap, ◌∙◌, arith, if◌then◌else◌, eq-eqb}
 use Rattle.std.specs.List.{list_any}
 use Rattle.std.specs.Option.{option_or}
-use Rattle.std.proofs.lemmas.Bool.{ne_eqb, cases_eq, lt-ltb, le-ltb}
-use Rattle.std.proofs.lemmas.List.Elements.{All-head, All-tail, All-weaker}
-use Rattle.mv_values.specs.declared.patch.Write.{Write}
-use Rattle.mv_undo.specs.declared.owned.Owned.{Owned}
-use Rattle.mv_undo.specs.Owning.{before, undo_of}
+use Rattle.std.proofs.lemmas.Bool.{ne_eqb, cases_eq}
 use Rattle.mv_record.specs.declared.record.Record.{Record}
 use Rattle.mv_record.specs.declared.record.Slot.{Slot}
 use Rattle.mv_recorded.specs.Reading.{last_place}
@@ -30,21 +26,6 @@ none_behind [] zero = refl
 none_behind [] (suc x) = refl
 none_behind (d ∷ ds) zero = refl
 none_behind (d ∷ ds) (suc x) = none_behind ds x
-
--- Writes
-
-pub below_most : (number : ℕ) (old : List Owned) → All (λ o. o.number < number) old → All (λ o. o.number ≤ number) old
-below_most number old h = All-weaker (λ (o : Owned). o.number < number) (λ o. o.number ≤ number) (λ o lt. omega (arith, lt)) old h
-
-none_before_own : (number : ℕ) (ws : List Write) → before number (undo_of number ws) ≡ []
-none_before_own number [] = refl
-none_before_own number (w ∷ ws) = ap (λ b. let o : Owned = record { number = number; write = w } in if b then o ∷ before number (undo_of number ws) else before number (undo_of number ws)) (le-ltb number number (omega arith)) ∙ none_before_own number ws
-
-pub before_undo : (number : ℕ) (old : List Owned) (ws : List Write) → All (λ o. o.number < number) old → before number (old ++ undo_of number ws) ≡ old
-before_undo number [] ws h = none_before_own number ws
-before_undo number (o ∷ old) ws h =
-    ap (λ b. if b then o ∷ before number (old ++ undo_of number ws) else before number (old ++ undo_of number ws)) (lt-ltb o.number number (All-head (λ (o : Owned). o.number < number) o old h))
-    ∙ ap (λ os. o ∷ os) (before_undo number old ws (All-tail (λ (o : Owned). o.number < number) o old h))
 
 -- Definers
 

@@ -18,7 +18,7 @@ use Rattle.mv_recorded.specs.Effect.{HasColumns}
 use Rattle.mv_recorded.specs.Recorded.{Site, own_record, outside}
 use Rattle.mv_undo.specs.Owning.{earlier}
 use Rattle.mv_view.specs.Viewing.{Sight}
-use Rattle.mv_log.specs.Logged.{Logged}
+use Rattle.mv_log.specs.Logged.{Logged, owned}
 use Rattle.mv_record.specs.declared.effect.Effect.{Effect}
 use Rattle.mv_record.specs.Effects.{record_of}
 use Rattle.mv_recorded.specs.Effects.{IsEffect}
@@ -58,7 +58,7 @@ pub record LeavesNext (proc : ProcInfo) (tables : List TableInfo) (task : Task) 
 -- the record of the next statement's effect is the next one
 effect_next : (proc : ProcInfo) (tables : List TableInfo) (task : Task) (db : Tables) (outer : List Frame) (p : Frame) (s : RStmt) (ahead : Ahead) (e : Effect)
     → IsTask proc task → HoldsFrame proc (frames_of task) outer p s → PeeksLeft proc task (Some ahead)
-    → IsEffect tables (out-RStmt s) task.variables.env (applied (earlier (length task.log.records) task.undo) db) e → LeavesNext proc tables task db (record_of ahead.spot ahead.parent ahead.reads e)
+    → IsEffect tables (out-RStmt s) task.variables.env (applied (earlier (length task.log.records) (owned task.log)) db) e → LeavesNext proc tables task db (record_of ahead.spot ahead.parent ahead.reads e)
 effect_next proc tables task db outer p s ahead e t at next effect =
     let st : State = state_of task db in
     let site : Site = site_in p.holder (site_of outside outer) in
@@ -68,7 +68,7 @@ effect_next proc tables task db outer p s ahead e t at next effect =
     ∷ (turns_of task.log.records (site_of outside outer) (block_of proc (holder_of proc None outer) p) p.first p.holder ++ jobs_left proc task.log.records outer)) (task.log.records ++ own ∷ [])) in
     let leaves : left_of proc tables task db ≡ own ∷ rest = left_next proc tables task db outer p s at in
     let peeked : Peeks (Some ahead) (own ∷ rest) = subst (Peeks (Some ahead)) leaves (next tables db) in
-    let is : e ≡ effect_of tables (out-RStmt s) st = subst (λ ws. IsEffect tables (out-RStmt s) task.variables.env (applied ws db) e) (own_writes proc task t) effect st.lines in
+    let is : e ≡ effect_of tables (out-RStmt s) st = subst (λ ws. IsEffect tables (out-RStmt s) task.variables.env (applied ws db) e) (own_writes task) effect st.lines in
     let same : own ≡ record_of ahead.spot ahead.parent ahead.reads e = ap (λ (a : Ahead). record_of a.spot a.parent a.reads (effect_of tables (out-RStmt s) st)) (same_ahead (ahead_in own) ahead peeked.0 peeked.1 peeked.2) ∙ ap (record_of ahead.spot ahead.parent ahead.reads) (sym is) in
     record {
       tail = rest;
@@ -95,22 +95,22 @@ added_effect proc old log at new is added =
 
 -- it was asked for the predicates of the next record
 asked_next : (proc : ProcInfo) (tables : List TableInfo) (task : Task) (before after : Sight) (outer : List Frame) (p : Frame) (s : RStmt) → IsTask proc task → HoldsFrame proc (frames_of task) outer p s
-    → AskedBy tables (out-RStmt s) task.variables.env (earlier (length task.log.records) task.undo) before after → AskedFor (first_preds (left_of proc tables task before.database)) (writes_in task.log.records) before after
+    → AskedBy tables (out-RStmt s) task.variables.env (earlier (length task.log.records) (owned task.log)) before after → AskedFor (first_preds (left_of proc tables task before.database)) (writes_in task.log.records) before after
 asked_next proc tables task before after outer p s t at asked =
     let st : State = state_of task before.database in
     subst (λ ps. AskedFor ps (writes_in task.log.records) before after) (sym (ap first_preds (left_next proc tables task before.database outer p s at)))
-    (subst (λ ws. AskedFor (preds_of tables (out-RStmt s) (record { env = task.variables.env; tables = applied ws before.database; lines = st.lines })) ws before after) (own_writes proc task t) (asked st.lines))
+    (subst (λ ws. AskedFor (preds_of tables (out-RStmt s) (record { env = task.variables.env; tables = applied ws before.database; lines = st.lines })) ws before after) (own_writes task) (asked st.lines))
 
 -- the same by the step of the open statement
 pub asked_ahead : (g : Graph) (task : Task) (before after : Sight) (outer : List Frame) (p : Frame) (s : RStmt) (step : Step) (tables : List TableInfo) (env : Env) (n : ℕ) → IsTask g.procedure task → HoldsFrame g.procedure (frames_of task) outer p s
-    → TellsOf g.procedure s step → tables ≡ g.tables → env ≡ task.variables.env → n ≡ length task.log.records → AskedBy tables (out-RStmt step.statement) env (earlier n task.undo) before after
+    → TellsOf g.procedure s step → tables ≡ g.tables → env ≡ task.variables.env → n ≡ length task.log.records → AskedBy tables (out-RStmt step.statement) env (earlier n (owned task.log)) before after
     → AskedFor (preds_ahead g before.database task) (writes_in task.log.records) before after
 asked_ahead g task before after outer p s step tables env n t at tells same_tables same_env same_number asked =
     asked_next g.procedure g.tables task before after outer p s t at
-    (asked_told g.tables g.procedure s step task.variables.env (earlier (length task.log.records) task.undo) before after tells
-    (subst (λ ts. AskedBy ts (out-RStmt step.statement) task.variables.env (earlier (length task.log.records) task.undo) before after) same_tables
-    (subst (λ e. AskedBy tables (out-RStmt step.statement) e (earlier (length task.log.records) task.undo) before after) same_env
-    (subst (λ k. AskedBy tables (out-RStmt step.statement) env (earlier k task.undo) before after) same_number asked))))
+    (asked_told g.tables g.procedure s step task.variables.env (earlier (length task.log.records) (owned task.log)) before after tells
+    (subst (λ ts. AskedBy ts (out-RStmt step.statement) task.variables.env (earlier (length task.log.records) (owned task.log)) before after) same_tables
+    (subst (λ e. AskedBy tables (out-RStmt step.statement) e (earlier (length task.log.records) (owned task.log)) before after) same_env
+    (subst (λ k. AskedBy tables (out-RStmt step.statement) env (earlier k (owned task.log)) before after) same_number asked))))
 
 -- What was executed
 
@@ -128,7 +128,7 @@ recounted proc old r new n h = record { parameters = h.parameters; records = h.r
 -- the next record of the run was added
 pub executed_next : (proc : ProcInfo) (tables : List TableInfo) (old new : Task) (before after : Sight) (n : ℕ) (outer : List Frame) (p : Frame) (s : RStmt) (ahead : Ahead) (e : Effect) (r : Record)
     → IsTask proc old → HoldsFrame proc (frames_of old) outer p s → HasColumns (out-RStmt s) → AreRising before.database → PeeksLeft proc old (Some ahead)
-    → IsEffect tables (out-RStmt s) old.variables.env (applied (earlier (length old.log.records) old.undo) before.database) e
+    → IsEffect tables (out-RStmt s) old.variables.env (applied (earlier (length old.log.records) (owned old.log)) before.database) e
     → AskedFor (first_preds (left_of proc tables old before.database)) (writes_in old.log.records) before after
     → r ≡ record_of ahead.spot ahead.parent ahead.reads e → HasAddedRecord proc old r new → HasExecuted tables proc old (record new { executed = n }) before after
 executed_next proc tables old new before after n outer p s ahead e r t at has rise next effect asked is added =

@@ -26,7 +26,6 @@ use Rattle.mv_exec.specs.Steps.{HasAddedNext, HasAddedRecord, HasExecuted}
 use Rattle.mv_exec.proofs.Beginning.{fresh_is_task, fresh_run}
 use Rattle.mv_exec.proofs.Adopting.{added_before, none_ended, some_ahead}
 use Rattle.mv_exec.proofs.Ending as ending
-use Rattle.mv_exec.proofs.Writing.{has_writes}
 
 -- Records after those of a task
 
@@ -54,7 +53,6 @@ begins g call task fits whole start found none rest run = record {
   left = λ db rest rise h.
       let all : left_of g.procedure g.tables task db ≡ recorded g.tables g.procedure call db = sym (ap (λ rs. rs ++ left_of g.procedure g.tables task db) none) ∙ run g.tables db in
       all ∙ (h ∙ ap (λ rs. rs ++ rest) none);
-  writes = has_writes g.procedure task whole;
   keys = λ db rest base h. subst (λ (rs : List Record). KeysStand g.tables (applied (writes_in rs) db)) (sym none) base.keys;
 }
 
@@ -80,7 +78,6 @@ stays g call old new whole before rests found is = record {
   fits = is.fits;
   found = found ∙ is.found;
   left = λ db rest rise h. before.left g.tables db ∙ is.left db rest rise (same_leaves g call db old new rest before.records h);
-  writes = has_writes g.procedure new whole;
   keys = λ db rest base h.
       subst (λ (rs : List Record). KeysStand g.tables (applied (writes_in rs) db)) (sym before.records) (is.keys db rest base (same_leaves g call db old new rest before.records h));
 }
@@ -100,7 +97,6 @@ grows g call old new r whole added rests found is = record {
   fits = is.fits;
   found = found ∙ is.found;
   left = λ db rest rise h. added.left g.tables db rest rise (is.left db (r ∷ rest) rise (less_leaves g call db old new (r ∷ []) rest added.records h));
-  writes = has_writes g.procedure new whole;
   keys = λ db rest base h.
       let before : HasLeft g call db old (r ∷ rest) = less_leaves g call db old new (r ∷ []) rest added.records h in
       added.keys g.tables db rest base.rising (is.left db (r ∷ rest) base.rising before) (is.keys db (r ∷ rest) base before);
@@ -172,7 +168,7 @@ same_end proc old new t u same = by old.ended refl new.ended refl
     by false e true f = f ∙ sym ((was [] []).1 (sym (same.left [] []) ∙ (is [] []).0 f))
 
 pub unchanged : (proc : ProcInfo) (old new : Task) → IsTask proc old → IsTask proc new → StandsAsBefore proc old new → IsUnchanged old new
-unchanged proc old new t u same = record { records = same.records; executed = same.executed; ended = same_end proc old new t u same; undo = same.undo }
+unchanged proc old new t u same = record { records = same.records; executed = same.executed; ended = same_end proc old new t u same }
 
 -- a record that was added after the call came to its statement
 pub executed_before : (proc : ProcInfo) (tables : List TableInfo) (old mid new : Task) (before after : Sight) → StandsAsBefore proc old mid → HasExecuted tables proc mid new before after

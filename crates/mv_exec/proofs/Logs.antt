@@ -17,7 +17,6 @@ use Rattle.mv_exec.specs.declared.recording.OpenStatement.{OpenStatement}
 use Rattle.mv_exec.specs.declared.recording.Origin.{Origin}
 use Rattle.mv_exec.specs.declared.recording.Origin.TheVariants.{Executed, Kept}
 use Rattle.mv_exec.specs.declared.task.Task.{Task}
-use Rattle.mv_undo.specs.Owning.{undo_of_all}
 use Rattle.mv_exec.specs.Left.{left}
 use Rattle.mv_exec.specs.Frames.{EndsLeft, jobs_left, site_in, site_of}
 use Rattle.mv_exec.specs.Recording.{IsAtRest, MayCome, IsRecordOf, opened, kept_after, closed, cut}
@@ -31,7 +30,6 @@ before_both proc old mid new a b = record {
   parameters = b.parameters ∙ a.parameters;
   records = b.records ∙ a.records;
   executed = b.executed ∙ a.executed;
-  undo = b.undo ∙ a.undo;
   beginning = b.beginning ∙ a.beginning;
   left = λ tables db. b.left tables db ∙ a.left tables db;
 }
@@ -47,7 +45,6 @@ logged_task proc task log same t = record {
   holders = subst (λ (rs : List Record). AreHeldBefore (length rs) (frames_of task)) (sym same) t.holders;
   some = t.some;
   empty = t.empty;
-  undo = t.undo ∙ ap (undo_of_all 0) (sym same);
   definers = λ x. t.definers x ∙ ap (last_place (sets_variable x) 0) (sym same);
   counted = omega (arith, t.counted, ap length same);
 }
@@ -57,7 +54,6 @@ logged_before proc task log same = record {
   parameters = refl;
   records = same;
   executed = refl;
-  undo = refl;
   beginning = refl;
   left = λ tables db. ap (λ (rs : List Record). left tables task.parameters (jobs_left proc rs (frames_of task)) rs (let st : State = record { env = task.variables.env; tables = applied (writes_in rs) db; lines = lines_in rs } in st)) same;
 }

@@ -121,7 +121,7 @@ turned_come proc task frame s go t live =
 here_come : (proc : ProcInfo) (task : Task) (frame : Frame) (s : RStmt) (go : IsNextFrame proc task frame s false) → IsTask proc task → task.ended ≡ false → IsCome proc task task frame s
 here_come proc task frame s go t live = record {
   whole = t;
-  same = record { parameters = refl; records = refl; executed = refl; undo = refl; beginning = refl; left = λ tables db. refl };
+  same = record { parameters = refl; records = refl; executed = refl; beginning = refl; left = λ tables db. refl };
   at = (go.outer, stands_here proc task frame s false live go refl);
 }
 

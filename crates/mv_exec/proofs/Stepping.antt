@@ -1,5 +1,5 @@
 -- A call behind one record more.
-use Rattle.std.proofs.Common.{◌≡◌, ◌≢◌, ℕ, ◌+◌, ◌<◌, ◌≤◌, Bool, true, false, List, [], ◌∷◌, ◌++◌, Option, Some, None, All, length, take, slice_set, if◌then◌else◌, ◌==◌, refl, sym, ap, subst, ◌∙◌, arith, append-nil}
+use Rattle.std.proofs.Common.{◌≡◌, ◌≢◌, ℕ, ◌+◌, ◌<◌, ◌≤◌, Bool, true, false, List, [], ◌∷◌, ◌++◌, Option, Some, None, length, take, slice_set, if◌then◌else◌, ◌==◌, refl, sym, ap, subst, ◌∙◌, arith, append-nil}
 use Rattle.std.specs.List.{list_any}
 use Rattle.std.specs.Option.{is_some}
 use Rattle.std.proofs.lemmas.List.{length_push}
@@ -17,8 +17,6 @@ use Rattle.mv_recorded.specs.Reading.{last_place, sets_variable}
 use Rattle.mv_values.specs.Patching.{applied}
 use Rattle.mv_values.specs.Tables.{KeysStand, Tables}
 use Rattle.mv_record.specs.Runs.{writes_in}
-use Rattle.mv_undo.specs.declared.owned.Owned.{Owned}
-use Rattle.mv_undo.specs.Owning.{before, undo_of_all, undo_of}
 use Rattle.mv_exec.specs.declared.frames.Holder.{Holder}
 use Rattle.mv_exec.specs.declared.frames.Holder.TheVariants as by
 use Rattle.mv_effect.specs.Choosing.{Chooses}
@@ -40,8 +38,7 @@ use Rattle.mv_exec.proofs.Framing.{no_last}
 use Rattle.mv_exec.proofs.Turning.{filled_last, filled_outer, filled_more, held_last, held_outer, held_more}
 use Rattle.mv_exec.proofs.Trimming.{every_front, filled_front, held_front}
 use Rattle.mv_exec.proofs.Numbering.{numbered_on}
-use Rattle.mv_undo.proofs.Writing.{undo_more, undo_below}
-use Rattle.mv_exec.proofs.Defining.{define_at, room_same, room_long, last_more, before_undo}
+use Rattle.mv_exec.proofs.Defining.{define_at, room_same, room_long, last_more}
 use Rattle.mv_exec.proofs.Adding.{held_statement, goes_on, ends_all}
 
 -- Lists
@@ -142,20 +139,12 @@ pub record IsTaskKept (proc : ProcInfo) (task : Task) : Type 0 where
   pub holders : AreHeldBefore (length task.log.records) task.frames
   pub some : 0 < length task.frames
   pub empty : task.empty ≡ none_in proc.body
-  pub undo : task.undo ≡ undo_of_all 0 task.log.records
   pub definers : (x : ℕ) → definer_in task.definers x ≡ last_place (sets_variable x) 0 task.log.records
   pub counted : task.executed ≤ length task.log.records
 
 -- the call behind a record, before frames are dropped
 abbrev pub behind_record : Task → Origin → Record → List Frame → Frame → RStmt → Bool → Task
 behind_record task origin r outer p s b = with_record task origin s r (going (length task.log.records) outer p s b)
-
-undo_then : (rs : List Record) (r : Record) → undo_of_all 0 (rs ++ r ∷ []) ≡ undo_of_all 0 rs ++ undo_of (length rs) r.writes
-undo_then rs r = undo_more 0 rs r ∙ ap (λ n. undo_of_all 0 rs ++ undo_of n r.writes) (let e : 0 + length rs ≡ length rs = omega arith in e)
-
--- its own writes are those of its records, of earlier numbers
-pub undo_earlier : (rs : List Record) → All (λ o. o.number < length rs) (undo_of_all 0 rs)
-undo_earlier rs = subst (λ n. All (λ (o : Owned). o.number < n) (undo_of_all 0 rs)) (let e : 0 + length rs ≡ length rs = omega arith in e) (undo_below 0 rs)
 
 definers_then : (ds : List (Option ℕ)) (rs : List Record) (r : Record) → ((x : ℕ) → definer_in ds x ≡ last_place (sets_variable x) 0 rs)
     → (x : ℕ) → definer_in (define (with_room (slot_room r.sets) ds) r.sets (length rs)) x ≡ last_place (sets_variable x) 0 (rs ++ r ∷ [])
@@ -173,7 +162,6 @@ going_kept proc task origin r outer p s b t at = record {
   holders = subst (λ n. AreHeldBefore n (going (length task.log.records) outer p s b)) (sym (length_push task.log.records r)) (going_held proc (length task.log.records) (frames_of task) outer p s b at t.holders);
   some = going_some (length task.log.records) outer p s b;
   empty = t.empty;
-  undo = ap (λ os. os ++ undo_of (length task.log.records) r.writes) t.undo ∙ sym (undo_then task.log.records r);
   definers = definers_then task.definers task.log.records r t.definers;
   counted = omega (arith, t.counted, length_push task.log.records r);
 }
@@ -186,7 +174,6 @@ trimmed_task proc mid new k t = subst (IsTask proc) (sym t.rest) (record {
   holders = subst (AreHeldBefore (length mid.log.records)) (sym t.front) (held_front (length mid.log.records) t.stay mid.frames k.holders);
   some = t.some k.some;
   empty = k.empty;
-  undo = k.undo;
   definers = k.definers;
   counted = k.counted;
 })
@@ -199,7 +186,6 @@ ended_task proc mid k = record {
   holders = tt;
   some = k.some;
   empty = k.empty;
-  undo = k.undo;
   definers = k.definers;
   counted = k.counted;
 }
@@ -318,15 +304,11 @@ parts_behind task origin r outer p s b held inner behind at frames h are inside 
 -- The call where memory ran out
 
 -- what was added is taken back
-pub undone : (origin : Origin) (old : Task) (first log : Logged) (number : ℕ) (fallen : Task) (frames : List Frame) (undo : List Owned)
-    → HasFronts number (with_log old first) fallen → All (λ o. o.number < number) old.undo → log.records ≡ old.log.records → log.past ≡ old.log.past → (origin ≡ Executed → log.kept ≡ old.log.kept)
-    → frames ≡ take (length old.frames) fallen.frames → undo ≡ before number fallen.undo
-    → IsWidened origin old (record fallen { log = log; frames = frames; undo = undo })
-undone origin old first log number fallen frames undo f all records past kept ps less = record {
-  rest =
-      ap (λ (u : Task). record u { log = log; frames = frames; undo = undo }) f.rest
-      ∙ (ap (λ v. record old { log = log; definers = fallen.definers; frames = v; undo = undo }) (ps ∙ f.frames)
-      ∙ ap (λ v. record old { log = log; definers = fallen.definers; undo = v }) (less ∙ (ap (before number) f.undo.1 ∙ before_undo number old.undo f.undo.0 all)));
+pub undone : (origin : Origin) (old : Task) (first log : Logged) (fallen : Task) (frames : List Frame)
+    → HasFronts (with_log old first) fallen → log.records ≡ old.log.records → log.past ≡ old.log.past → (origin ≡ Executed → log.kept ≡ old.log.kept) → frames ≡ take (length old.frames) fallen.frames
+    → IsWidened origin old (record fallen { log = log; frames = frames })
+undone origin old first log fallen frames f records past kept ps = record {
+  rest = ap (λ (u : Task). record u { log = log; frames = frames }) f.rest ∙ ap (λ v. record old { log = log; definers = fallen.definers; frames = v }) (ps ∙ f.frames);
   records = records;
   past = past;
   kept = kept;

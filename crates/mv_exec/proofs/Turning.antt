@@ -171,7 +171,6 @@ turned_task proc old outer p t due =
           (same_holder (length old.log.records) p.holder (held_last (length old.log.records) outer p (subst (AreHeldBefore (length old.log.records)) due.are t.holders)));
       some = omega (arith, length-append outer (next_turn p ∷ []));
       empty = t.empty;
-      undo = t.undo;
       definers = t.definers;
       counted = t.counted;
     }
@@ -186,7 +185,6 @@ turned_before proc old outer p t due = record {
   parameters = refl;
   records = refl;
   executed = refl;
-  undo = refl;
   beginning = refl;
   left = λ tables db.
       let s : Option RStmt = holder_of proc None outer in

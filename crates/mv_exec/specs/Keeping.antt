@@ -1,13 +1,6 @@
 -- Defines what a call derives from its records.
-use Rattle.std.specs.Prelude.{◌≡◌, ℕ, zero, suc, ◌+◌, max, List, [], ◌∷◌, ◌++◌, Option, Some, None, slice_set}
-use Rattle.mv_values.specs.declared.patch.Write.{Write}
+use Rattle.std.specs.Prelude.{ℕ, zero, suc, ◌+◌, max, List, [], ◌∷◌, Option, Some, None, slice_set}
 use Rattle.mv_record.specs.declared.record.Slot.{Slot}
-use Rattle.mv_undo.specs.declared.owned.Owned.{Owned}
-use Rattle.mv_undo.specs.Owning.{undo_of}
-
--- only writes of a record with this number were added
-abbrev pub HasMore : ℕ → List Owned → List Owned → Type 0
-HasMore number old new = (ws : List Write) × (new ≡ old ++ undo_of number ws)
 
 -- the list with at least this many numbers
 abbrev pub with_room : ℕ → List (Option ℕ) → List (Option ℕ)

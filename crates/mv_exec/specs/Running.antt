@@ -9,7 +9,6 @@ use Rattle.mv_eval.specs.TableAfter.{entered}
 use Rattle.mv_record.specs.declared.record.Record.{Record}
 use Rattle.mv_record.specs.Runs.{writes_in}
 use Rattle.mv_record.specs.Writes.{AreRising}
-use Rattle.mv_undo.specs.Owning.{HasWritesOf}
 use Rattle.mv_view.specs.Viewing.{Sight}
 use Rattle.mv_record.specs.Databases.{IsDatabaseOf}
 use Rattle.mv_effect.specs.Looking.{AskedFor}
@@ -28,8 +27,7 @@ use Rattle.mv_exec.specs.Tasks.{IsTask, BeginsCall, left_of}
 abbrev pub HasLeft : Graph → Call → Tables → Task → List Record → Type 0
 HasLeft g call db task rest = (meaning_of g call db).records ≡ task.log.records ++ rest
 
--- the task is this call of the graph, at some point of its run. What it keeps beside its records and its own writes is
--- private.
+-- the task is this call of the graph, at some point of its run. What it keeps beside its records is private.
 pub record IsTaskOf (g : Graph) (call : Call) (task : Task) : Type 0 where
   pub whole : IsTask g.procedure task
   pub rest : IsAtRest task.log
@@ -37,7 +35,6 @@ pub record IsTaskOf (g : Graph) (call : Call) (task : Task) : Type 0 where
   pub fits : length call.arguments ≡ length g.procedure.params
   pub found : task.variables.env.found ≡ (entered g.procedure call).found
   pub left : (db : Tables) (rest : List Record) → AreRising db → HasLeft g call db task rest → left_of g.procedure g.tables task db ≡ rest
-  pub writes : HasWritesOf task.undo task.log.records
   pub keys : (db : Tables) (rest : List Record) → IsDatabaseOf g.tables db → HasLeft g call db task rest → KeysStand g.tables (applied (writes_in task.log.records) db)
 
 -- the task is this call of the graph, and its records are the first ones of its full run on a database
@@ -67,7 +64,6 @@ pub record IsUnchanged (old new : Task) : Type 0 where
   pub records : new.log.records ≡ old.log.records
   pub executed : new.executed ≡ old.executed
   pub ended : new.ended ≡ old.ended
-  pub undo : new.undo ≡ old.undo
 
 -- `Ended` if the task has ended, `Ran` otherwise
 abbrev pub stepped : Bool → Stepped

@@ -17,8 +17,7 @@ use Rattle.mv_exec.specs.declared.task.Task.{Task}
 use Rattle.mv_exec.specs.declared.recording.Origin.{Origin}
 use Rattle.mv_exec.specs.declared.recording.Origin.TheVariants.{Executed}
 use Rattle.mv_exec.specs.Ahead.{PeeksLeft, ahead_in}
-use Rattle.mv_undo.specs.Owning.{undo_of}
-use Rattle.mv_exec.specs.Keeping.{HasMore, with_room, define, slot_room}
+use Rattle.mv_exec.specs.Keeping.{with_room, define, slot_room}
 use Rattle.mv_exec.specs.Moves.{after_empty_loop}
 use Rattle.mv_exec.specs.Recording.{closed}
 use Rattle.mv_exec.specs.Running.{HasContent}
@@ -34,7 +33,6 @@ with_log task log = record task { log = log }
 abbrev pub changed_by : Task → ℕ → RStmt → Record → List Frame → Task
 changed_by task number s r inner = let was = task.variables in record task {
   variables = record was { env = after_empty_loop (out-RStmt s) r.rows (with_slots r.sets was.env) };
-  undo = task.undo ++ undo_of number r.writes;
   definers = define (with_room (slot_room r.sets) task.definers) r.sets number;
   frames = task.frames ++ inner;
 }
@@ -45,10 +43,9 @@ with_record task origin s r frames =
     let changed : Task = changed_by (with_log task (closed task.log origin r)) (length task.log.records) s r [] in
     record changed { frames = frames }
 
--- own writes of this number and some frames were added, and nothing else changed but the room for definers
-pub record HasFronts (number : ℕ) (old new : Task) : Type 0 where
-  pub rest : new ≡ record old { undo = new.undo; definers = new.definers; frames = new.frames }
-  pub undo : HasMore number old.undo new.undo
+-- some frames were added, and nothing else changed but the room for definers
+pub record HasFronts (old new : Task) : Type 0 where
+  pub rest : new ≡ record old { definers = new.definers; frames = new.frames }
   pub definers : (x : ℕ) → definer_in new.definers x ≡ definer_in old.definers x
   pub frames : take (length old.frames) new.frames ≡ old.frames
 

@@ -19,7 +19,6 @@ use Rattle.mv_exec.specs.declared.frames.Frame.{Frame}
 use Rattle.mv_exec.specs.declared.task.Task.{Task}
 use Rattle.mv_exec.specs.Left.{left}
 use Rattle.mv_exec.specs.Env.{at_beginning}
-use Rattle.mv_undo.specs.Owning.{undo_of_all}
 use Rattle.mv_exec.specs.Frames.{jobs_left, AreFilled, AreNumbered, EndsLeft, with_next_row}
 
 -- the variables with which the call began
@@ -85,7 +84,6 @@ pub record IsTask (proc : ProcInfo) (task : Task) : Type 0 where
   pub holders : AreHeldBefore (length task.log.records) (frames_of task)
   pub some : 0 < length task.frames
   pub empty : task.empty ≡ none_in proc.body
-  pub undo : task.undo ≡ undo_of_all 0 task.log.records
   pub definers : (x : ℕ) → definer_in task.definers x ≡ last_place (sets_variable x) 0 task.log.records
   pub counted : task.executed ≤ length task.log.records
 
@@ -94,7 +92,6 @@ pub record StandsAsBefore (proc : ProcInfo) (old new : Task) : Type 0 where
   pub parameters : new.parameters ≡ old.parameters
   pub records : new.log.records ≡ old.log.records
   pub executed : new.executed ≡ old.executed
-  pub undo : new.undo ≡ old.undo
   pub beginning : beginning new ≡ beginning old
   pub left : (tables : List TableInfo) (db : Tables) → left_of proc tables new db ≡ left_of proc tables old db
 
@@ -112,7 +109,7 @@ task_at task outer last frame false = task
 -- a call that has these parameters, variables and log, and has executed nothing
 abbrev pub fresh_task : ℕ → Env → Logged → Bool → Task
 fresh_task params env log empty =
-    record { parameters = params; variables = at_beginning env; log = log; executed = 0; undo = []; definers = []; frames = first_frame ∷ []; ended = empty; empty = empty }
+    record { parameters = params; variables = at_beginning env; log = log; executed = 0; definers = []; frames = first_frame ∷ []; ended = empty; empty = empty }
 
 -- the flag is true exactly if no record is left, on any database
 abbrev pub TellsEnd : ProcInfo → Task → Bool → Type 0

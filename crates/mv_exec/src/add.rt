@@ -1,6 +1,6 @@
 //! Adds a record to a running call.
 
-ghost use Rattle.std.specs.Prelude.{◌≡◌, ◌<◌, ◌+◌, ◌++◌, ◌∷◌, [], None, false, true, All, Some, List, length, slice_get, option_to_list, max, IfOk, OnOk, OnErr};
+ghost use Rattle.std.specs.Prelude.{◌≡◌, ◌<◌, ◌+◌, ◌++◌, ◌∷◌, [], None, false, true, Some, List, length, slice_get, option_to_list, max, IfOk, OnOk, OnErr};
 ghost use Rattle.mv_catalog.specs.declared.resolved.ProcInfo.{ProcInfo};
 ghost use Rattle.mv_catalog.specs.declared.resolved.RStmt.{RStmt, out-RStmt};
 ghost use Rattle.mv_record.specs.declared.record.Record.{Record};
@@ -17,7 +17,7 @@ ghost use Rattle.mv_exec.specs.Running.{stepped};
 ghost use Rattle.mv_exec.specs.Tasks.{frames_of, IsTask, StandsAsBefore, IsTrimmed};
 
 use crate::frames::Frame;
-use crate::keeping::{add_writes, set_definers, widen};
+use crate::keeping::{set_definers, widen};
 use crate::moves::{frame_after, inner_frame};
 use crate::position::Position;
 use crate::recording::{OpenStatement, Origin, add_record, ends_call};
@@ -61,8 +61,8 @@ fn push_frame(frames: &mut List<Frame>, inner: Option<Frame>) -> Result<(), NoMe
     }
 }
 
-/// Makes the changes of the record with this number, which has just been added to the log: to the variables, the
-/// definers and the own writes, and by the frame inside its statement. On `NoMemory` some of this may be done.
+/// Makes the changes of the record with this number, which has just been added to the log: to the variables and the
+/// definers, and by the frame inside its statement. On `NoMemory` some of this may be done.
 fn make_changes_of(
     alloc: Global,
     task: &mut Task,
@@ -70,14 +70,12 @@ fn make_changes_of(
     step: &Step,
     inner: Option<Frame>,
 ) -> Result<(), NoMemory>
-    requires there { number < length task.old.log.records }
-    requires earlier { All (λ o. o.number < number) task.old.undo }
+    requires { number < length task.old.log.records }
     ensures ok { OnOk result ((proc : ProcInfo) (s : RStmt) (r : Record) → TellsOf proc s step.now → slice_get task.old.log.records number ≡ Some r → task.new ≡ changed_by task.old number s r (option_to_list inner)) }
-    ensures err { OnErr result (HasFronts number task.old task.new) }
+    ensures err { OnErr result (HasFronts task.old task.new) }
 {
     let given = task.log.records().get(number as usize);
     widen(&mut task.definers, room_for(given.sets()))?;
-    add_writes(alloc, &mut task.undo, number, given.writes())?;
     push_frame(&mut task.frames, inner)?;
     change_variables(alloc, &mut task.variables, step, &given)?;
     set_definers(&mut task.definers, given.sets(), number);
@@ -95,7 +93,6 @@ fn push_record(
     inner: Option<Frame>,
 ) -> Result<(), NoMemory>
     requires origin { MayCome task.old.log origin }
-    requires earlier { All (λ o. o.number < length task.old.log.records) task.old.undo }
     ensures ok { OnOk result ((proc : ProcInfo) (s : RStmt) (r : Record) → TellsOf proc s step.now → IsRecordOf task.old.log at origin r → task.new ≡ changed_by (with_log task.old (closed task.old.log origin r)) (length task.old.log.records) s r (option_to_list inner)) }
     ensures err { OnErr result (IsWidened origin task.old task.new) }
 {
@@ -107,7 +104,6 @@ fn push_record(
         Err(error) => {
             task.log.truncate(number);
             task.frames.truncate(depth);
-            task.undo.drop_from(number as usize);
             Err(error)
         }
     }

@@ -63,7 +63,6 @@ fn execute<'s, V: View<'s>>(
         graph.tables.as_slice(),
         &position.step.statement,
         task.variables.env(),
-        &task.undo,
         number as usize,
         &mut task.log,
         view,

@@ -9,7 +9,7 @@ ghost use Rattle.mv_catalog.specs.declared.resolved.RStmt.{RStmt};
 ghost use Rattle.mv_eval.specs.TableAfter.{entered};
 ghost use Rattle.mv_eval.specs.declared.state.Env.{Env};
 ghost use Rattle.mv_recorded.specs.Recorded.{recorded};
-ghost use Rattle.mv_log.specs.Logged.{empty as no_records};
+ghost use Rattle.mv_log.specs.Logged.{empty as no_records, owned};
 ghost use Rattle.mv_graph.specs.declared.graph.Graph.{Graph};
 ghost use Rattle.mv_exec.specs.Env.{at_beginning};
 ghost use Rattle.mv_exec.specs.Running.{IsRunning, IsRunningOn, IsTaskOf, IsTaskOn};
@@ -27,7 +27,7 @@ use mv_values::list::List;
 use mv_values::memory::NoMemory;
 use std::alloc::Global;
 
-/// A running call: the log of its records so far, its own writes, and its position.
+/// A running call: the log of its records so far, and its position.
 pub struct Task {
     /// The number of variables that are parameters.
     pub(crate) parameters: usize,
@@ -35,7 +35,6 @@ pub struct Task {
     pub(crate) log: Log,
     /// The number of records that were added by executing a statement.
     pub(crate) executed: usize,
-    pub(crate) undo: Undo,
     /// For each variable the number of the record that last set it.
     pub(crate) definers: List<Option<u32>>,
     /// The position of the call, from the outside in. Each frame but the first lies in the statement just before the
@@ -55,7 +54,6 @@ impl Drop for Task {
             variables: _,
             log: _,
             executed: _,
-            undo: _,
             definers: _,
             frames: _,
             ended: _,
@@ -105,7 +103,6 @@ fn fresh_task(
         variables,
         log,
         executed: 0,
-        undo: Undo::new(alloc),
         definers: List::new(alloc),
         frames,
         ended: empty,
@@ -180,10 +177,10 @@ impl Task {
     }
 
     /// Returns the call's own writes, with the numbers of their records.
-    pub fn undo(&self) -> &Undo
-        ensures { result.now ≡ self.now.undo }
+    pub fn undo(&self) -> Undo<'_>
+        ensures { result ≡ owned self.now.log }
     {
-        &self.undo
+        self.log.undo()
     }
 
     /// Returns the log, which is empty and has its room. So another call can use it.
@@ -195,7 +192,6 @@ impl Task {
             variables: _,
             mut log,
             executed: _,
-            undo: _,
             definers: _,
             frames: _,
             ended: _,
@@ -213,7 +209,6 @@ impl Task {
     {
         self.variables.begin_again();
         self.executed = 0;
-        self.undo.drop_from(0);
         self.definers.truncate(0);
         go_back(&mut self.frames);
         self.ended = self.empty;

@@ -3,7 +3,6 @@ use Rattle.std.proofs.Common.{◌≡◌, ◌↔◌, ℕ, ◌≤◌, ◌<◌, Boo
 use Rattle.std.specs.Prelude.{IsTrue}
 use mathlib.Core.List.{IsPrefix}
 use Rattle.mv_values.specs.Tables.{Tables}
-use Rattle.mv_undo.specs.Owning.{HasWritesOf}
 use Rattle.mv_exec.specs.declared.task.Task.{Task}
 use Rattle.mv_journal.specs.declared.outcome.Round.{Round}
 use Rattle.mv_changes.specs.declared.recent.Committed.{Committed}
@@ -77,10 +76,6 @@ known_whole s b ledger starts h d k p known ended =
 -- its start
 pub known_start : (b : Booked) (h : Holding) → IsKnown b h → (l : Live) → IsLive b.schedule h.call l → l.start ≡ h.start.number
 known_start b h k l at = sym (ap (λ (x : Live). x.start) (one_live b.schedule h.call k.live l k.is_live at)) ∙ k.start
-
--- its own writes are those of its records
-pub whole_writes : (b : Booked) (c : ℕ) (t : Task) → IsCompiledScript b.script → IsWhole b c t → HasWritesOf t.undo t.log.records
-whole_writes b c t sound h = let has = sound.1.there c h.there in (h.runs h.live.0 h.live.1 has.0 has.1 has.2).is.writes
 
 -- Whether a call is known
 

@@ -1,11 +1,18 @@
 -- A log whose open statement is added to its records.
-use Rattle.std.proofs.Common.{◌≡◌, ◌≤◌, ◌+◌, ◌<◌, ℕ, zero, suc, Option, None, Some, List, [], ◌∷◌, ◌++◌, length, take, drop, refl, sym, ap, subst, ◌∙◌, arith, length-append}
+use Rattle.std.proofs.Common.{◌≡◌, ◌≤◌, ◌+◌, ◌<◌, ℕ, zero, suc, Option, None, Some, List, [], ◌∷◌, ◌++◌, All, length, take, drop, refl, sym, ap, subst, ◌∙◌, arith, length-append}
 use Rattle.std.specs.Prelude.{map, slice_get}
-use Rattle.std.proofs.lemmas.List.{take_all, drop_all, map-append, take-append-le, drop-append-le}
+use Rattle.std.proofs.lemmas.List.{take_all, take-take, take-append-drop, drop_all, map-append, take-append-le, drop-append-le}
+use Rattle.mv_values.specs.declared.patch.Write.{Write}
 use Rattle.mv_values.specs.declared.pred.Pred.{Pred}
 use Rattle.mv_record.specs.declared.record.Record.{Record}
 use Rattle.mv_record.specs.Effects.{record_of}
+use Rattle.mv_undo.specs.declared.place.Place.{Place}
+use Rattle.mv_undo.specs.Owned.{owned_by}
+use Rattle.mv_undo.specs.Owning.{undo_of}
+use Rattle.mv_undo.specs.Indexed.{Indexed, Finds, IsIndexOf}
+use Rattle.mv_undo.proofs.Finding.{finds_back, finds_below, finds_grown, finds_more}
 use Rattle.mv_log.specs.declared.head.Head.{Head}
+use Rattle.mv_log.specs.declared.head.Range.{Range}
 use Rattle.mv_log.specs.declared.head.Side.{Side}
 use Rattle.mv_log.specs.declared.head.Asked.{Asked}
 use Rattle.mv_log.specs.declared.head.Marks.{Marks}
@@ -13,14 +20,13 @@ use Rattle.mv_log.specs.declared.lists.Lists.{Lists}
 use Rattle.mv_log.specs.declared.log.Log.TheInside.{Inside}
 use Rattle.mv_log.specs.Parts.{Fits}
 use Rattle.mv_log.specs.Fitting.{Sizes, marks_of, IsBelow, HeadFits, HeadsFit, SideFits, SidesFit, AskedFits, AskedFit, AreUpTo}
-use Rattle.mv_log.specs.Heads.{blank, side_at, pred_of, record_with, record_at}
+use Rattle.mv_log.specs.Heads.{blank, side_at, side_of, pred_of, record_with, record_at}
 use Rattle.mv_log.specs.Cutting.{side_between, head_between, HasNothing, HasSide}
 use Rattle.mv_log.specs.Logged.{Logged, no_effect}
 use Rattle.mv_log.specs.Expanding.{expanded, effect_from, closed_sizes, IsWhole}
-use Rattle.mv_log.specs.Sharing.{IsApart}
-use Rattle.mv_log.proofs.Lending.{heads_drop}
-use Rattle.mv_log.proofs.Sharing.{apart_bare, apart_more, apart_kept}
-use Rattle.mv_log.proofs.Growing.{AgreeTo, AreIn, heads_same, past_same, heads_more, sides_more, asked_more, up_to_same}
+use Rattle.mv_log.proofs.Lending.{length_map}
+use Rattle.mv_log.proofs.Sides.{side_fits}
+use Rattle.mv_log.proofs.Growing.{AgreeTo, AreIn, heads_same, own_kept, past_same, heads_more, sides_more, asked_more, up_to_same}
 
 -- Lists with one item more
 
@@ -81,22 +87,42 @@ record_blank l h m e =
     let ends : drop m.ends (take (length l.ends) l.ends) ≡ [] = part_of_nothing l.ends m.ends e.ends in
     rw preds (rw rows (rw writes (rw lines (rw ends refl))))
 
+-- the record of a head without a side, and of one with the new side
+
+blank_record : (p : Inside) (n : ℕ) (parent : Option ℕ) → HasNothing p.from (marks_of p.lists) → record_at p.lists (head_between p.from (marks_of p.lists) n parent None) ≡ new_record p n parent
+blank_record p n parent e = record_blank p.lists (head_between p.from (marks_of p.lists) n parent None) p.from e ∙ record_between p n parent None
+
+side_record : (p : Inside) (n : ℕ) (parent : Option ℕ) (i : ℕ) → i ≡ length p.lists.sides → (let l = p.lists in record_at (record l { sides = l.sides ++ side_between p.from (marks_of l) ∷ [] }) (head_between p.from (marks_of l) n parent (Some i)) ≡ new_record p n parent)
+side_record p n parent i is = ap (record_with p.lists (head_between p.from (marks_of p.lists) n parent (Some i))) (side_last p.lists.sides (side_between p.from (marks_of p.lists)) i is) ∙ record_between p n parent (Some i)
+
+sides_front : (es : List Side) (e : Side) → take (length es) (es ++ e ∷ []) ≡ es
+sides_front es e = take-append-le (length es) es (e ∷ []) (omega arith) ∙ take_all (length es) es (omega arith)
+
 -- Closing
 
--- the log with these sides and one more head, and nothing open
-abbrev pub closing : Inside → List Side → Head → Inside
-closing p es h = let l = p.lists in record p { lists = record l { sides = es }; heads = p.heads ++ h ∷ []; from = marks_of l }
+-- the log with these sides, one more head and this index, and nothing open
+abbrev pub closing : Inside → List Side → Head → Indexed → Inside
+closing p es h j = let l = p.lists in record p { lists = record l { sides = es }; heads = p.heads ++ h ∷ []; from = marks_of l; own = j }
 
 abbrev pub closing_view : Logged → Record → Logged
 closing_view was r = record was { records = was.records ++ r ∷ []; turns = []; reads = []; effect = no_effect; tests = []; columns = [] }
 
-closing_is : (p : Inside) (es : List Side) (h : Head) (r : Record) → take (length p.lists.sides) es ≡ p.lists.sides → (let l = p.lists in record_at (record l { sides = es }) h ≡ r) → IsWhole p → expanded (closing p es h) ≡ closing_view (expanded p) r
-closing_is p es h r s is w =
+agree_sides : (p : Inside) (es : List Side) → take (length p.lists.sides) es ≡ p.lists.sides → (let l = p.lists in AgreeTo p.from (record l { sides = es }) l)
+agree_sides p es s = record { turns = refl; reads = refl; sets = refl; sides = s; preds = refl; tests = refl; columns = refl; rows = refl; writes = refl; lines = refl; ends = refl }
+
+closing_records : (p : Inside) (es : List Side) (h : Head) (r : Record) → take (length p.lists.sides) es ≡ p.lists.sides → (let l = p.lists in record_at (record l { sides = es }) h ≡ r) → IsWhole p
+    → (let l = p.lists in map (record_at (record l { sides = es })) (p.heads ++ h ∷ [])) ≡ map (record_at p.lists) p.heads ++ r ∷ []
+closing_records p es h r s is w =
     let l : Lists = p.lists in
     let k : Lists = record l { sides = es } in
-    let e : AgreeTo p.from k l = record { turns = refl; reads = refl; sets = refl; sides = s; preds = refl; tests = refl; columns = refl; rows = refl; writes = refl; lines = refl; ends = refl } in
-    let heads : map (record_at k) (p.heads ++ h ∷ []) ≡ map (record_at l) p.heads ++ r ∷ [] =
-    map-append (record_at k) p.heads (h ∷ []) ∙ ap (λ rs. rs ++ record_at k h ∷ []) (heads_same p k w e) ∙ ap (λ x. map (record_at l) p.heads ++ x ∷ []) is in
+    map-append (record_at k) p.heads (h ∷ []) ∙ ap (λ rs. rs ++ record_at k h ∷ []) (heads_same p k w (agree_sides p es s)) ∙ ap (λ x. map (record_at l) p.heads ++ x ∷ []) is
+
+closing_is : (p : Inside) (es : List Side) (h : Head) (j : Indexed) (r : Record) → take (length p.lists.sides) es ≡ p.lists.sides → (let l = p.lists in record_at (record l { sides = es }) h ≡ r) → IsWhole p → expanded (closing p es h j) ≡ closing_view (expanded p) r
+closing_is p es h j r s is w =
+    let l : Lists = p.lists in
+    let k : Lists = record l { sides = es } in
+    let e : AgreeTo p.from k l = agree_sides p es s in
+    let heads : map (record_at k) (p.heads ++ h ∷ []) ≡ map (record_at l) p.heads ++ r ∷ [] = closing_records p es h r s is w in
     let past : map (record_at k) p.past ≡ map (record_at l) p.past = past_same p k w e in
     let turns : drop (length l.turns) l.turns ≡ [] = none_after l.turns in
     let reads : drop (length l.reads) l.reads ≡ [] = none_after l.reads in
@@ -110,25 +136,23 @@ closing_is p es h r s is w =
     let ends : drop (length l.ends) l.ends ≡ [] = none_after l.ends in
     rw heads (rw past (rw turns (rw reads (rw sets (rw preds (rw tests (rw columns (rw rows (rw writes (rw lines (rw ends refl)))))))))))
 
-pub closed : (p : Inside) (k : Lists) (n : ℕ) (parent at : Option ℕ) → HasSide p.from (marks_of p.lists) p.lists k at → IsWhole p → expanded (closing p k.sides (head_between p.from (marks_of p.lists) n parent at)) ≡ closing_view (expanded p) (new_record p n parent)
-closed p k n parent None s w =
+pub closed : (p : Inside) (k : Lists) (n : ℕ) (parent at : Option ℕ) (j : Indexed) → HasSide p.from (marks_of p.lists) p.lists k at → IsWhole p → expanded (closing p k.sides (head_between p.from (marks_of p.lists) n parent at) j) ≡ closing_view (expanded p) (new_record p n parent)
+closed p k n parent None j s w =
     let l : Lists = p.lists in
     let h : Head = head_between p.from (marks_of l) n parent None in
-    subst (λ (es : List Side). expanded (closing p es h) ≡ closing_view (expanded p) (new_record p n parent)) (ap (λ (x : Lists). x.sides) (sym s.0))
-    (closing_is p l.sides h (new_record p n parent) (take_all (length l.sides) l.sides (omega arith)) (record_blank l h p.from s.1 ∙ record_between p n parent None) w)
-closed p k n parent (Some i) s w =
+    subst (λ (es : List Side). expanded (closing p es h j) ≡ closing_view (expanded p) (new_record p n parent)) (ap (λ (x : Lists). x.sides) (sym s.0))
+    (closing_is p l.sides h j (new_record p n parent) (take_all (length l.sides) l.sides (omega arith)) (blank_record p n parent s.1) w)
+closed p k n parent (Some i) j s w =
     let l : Lists = p.lists in
     let h : Head = head_between p.from (marks_of l) n parent (Some i) in
     let e : Side = side_between p.from (marks_of l) in
     let es : List Side = l.sides ++ e ∷ [] in
-    let q : Lists = record l { sides = es } in
-    let is : side_at es i ≡ e = side_last l.sides e i s.1 in
-    let r : record_at q h ≡ new_record p n parent = ap (record_with l h) is ∙ record_between p n parent (Some i) in
-    subst (λ (fs : List Side). expanded (closing p fs h) ≡ closing_view (expanded p) (new_record p n parent)) (ap (λ (x : Lists). x.sides) (sym s.0))
-    (closing_is p es h (new_record p n parent) (take-append-le (length l.sides) l.sides (e ∷ []) (omega arith) ∙ take_all (length l.sides) l.sides (omega arith)) r w)
+    subst (λ (fs : List Side). expanded (closing p fs h j) ≡ closing_view (expanded p) (new_record p n parent)) (ap (λ (x : Lists). x.sides) (sym s.0))
+    (closing_is p es h j (new_record p n parent) (sides_front l.sides e) (side_record p n parent i s.1) w)
 
-closing_whole : (p : Inside) (es : List Side) (h : Head) → length p.lists.sides ≤ length es → SidesFit (marks_of p.lists) es → HeadFits (record { marks = marks_of p.lists; sides = length es }) h → IsApart es (p.heads ++ h ∷ []) (drop p.kept p.past) → IsWhole p → IsWhole (closing p es h)
-closing_whole p es h l f g a w =
+closing_whole : (p : Inside) (es : List Side) (h : Head) (j : Indexed) → length p.lists.sides ≤ length es → SidesFit (marks_of p.lists) es → HeadFits (record { marks = marks_of p.lists; sides = length es }) h
+    → (let l = p.lists in Finds j (take (length l.writes) l.writes) (map (record_at (record l { sides = es })) (p.heads ++ h ∷ []))) → IsWhole p → IsWhole (closing p es h j)
+closing_whole p es h j l f g o w =
     let m : Marks = marks_of p.lists in
     let s : Sizes = record { marks = m; sides = length es } in
     let i : AreIn (closed_sizes p) s = record { marks = w.from; sides = l } in
@@ -138,7 +162,7 @@ closing_whole p es h l f g a w =
       sides = f;
       preds = asked_more p.from m p.lists.preds w.from w.preds;
       from = up_to_same m;
-      apart = a;
+      own = o;
     }
 
 to_end_fits : (i n : ℕ) → i ≤ n → Fits n (record { from = i; to = n })
@@ -165,21 +189,71 @@ between_fits p w =
       ends = to_end_fits p.from.ends (length l.ends) w.from.ends;
     }
 
-pub closed_whole : (p : Inside) (k : Lists) (n : ℕ) (parent at : Option ℕ) → HasSide p.from (marks_of p.lists) p.lists k at → IsWhole p → IsWhole (closing p k.sides (head_between p.from (marks_of p.lists) n parent at))
-closed_whole p k n parent None s w =
+-- The index
+
+-- it finds the writes of the records among all writes
+all_found : (p : Inside) → IsWhole p → Finds p.own p.lists.writes (map (record_at p.lists) p.heads)
+all_found p w =
+    let ws : List Write = p.lists.writes in
+    let m : ℕ = p.from.writes in
+    subst (λ (vs : List Write). Finds p.own vs (map (record_at p.lists) p.heads)) (take-append-drop m ws) (finds_grown p.own (take m ws) (drop m ws) (map (record_at p.lists) p.heads) w.own)
+
+pub all_indexed : (p : Inside) → IsWhole p → IsIndexOf p.own p.lists.writes
+all_indexed p w = (all_found p w).index
+
+pub writes_below : (p : Inside) → IsWhole p → All (λ (q : Place). q.number < length p.heads) p.own.places
+writes_below p w = finds_below p.own (take p.from.writes p.lists.writes) (map (record_at p.lists) p.heads) (length p.heads) (sym (length_map (record_at p.lists) p.heads)) w.own
+
+-- the index finds as many writes more as the open statement has
+abbrev pub IsIndexWith : Inside → Indexed → Type 0
+IsIndexWith p j = let ws = p.lists.writes in IsIndexOf j ws × (owned_by j.places ws ≡ owned_by p.own.places ws ++ undo_of (length p.heads) (drop p.from.writes (take (length ws) ws)))
+
+closing_own : (p : Inside) (es : List Side) (h : Head) (j : Indexed) (n : ℕ) (parent : Option ℕ) → take (length p.lists.sides) es ≡ p.lists.sides → (let l = p.lists in record_at (record l { sides = es }) h ≡ new_record p n parent) → IsIndexWith p j → IsWhole p
+    → (let l = p.lists in Finds j (take (length l.writes) l.writes) (map (record_at (record l { sides = es })) (p.heads ++ h ∷ [])))
+closing_own p es h j n parent s is ix w =
+    let l : Lists = p.lists in
+    let ws : List Write = l.writes in
+    let k : Lists = record l { sides = es } in
+    let rs : List Record = map (record_at l) p.heads in
+    let more : owned_by j.places ws ≡ owned_by p.own.places ws ++ undo_of (length p.heads) (drop p.from.writes ws) = ix.1 ∙ ap (λ vs. owned_by p.own.places ws ++ undo_of (length p.heads) vs) (part_to_end ws p.from.writes) in
+    let found : Finds j ws (rs ++ new_record p n parent ∷ []) = finds_more p.own j ws rs (new_record p n parent) (length p.heads) (sym (length_map (record_at l) p.heads)) (all_found p w) ix.0 more in
+    subst (λ (vs : List Write). Finds j vs (map (record_at k) (p.heads ++ h ∷ []))) (sym (take_all (length ws) ws (omega arith))) (subst (Finds j ws) (sym (closing_records p es h (new_record p n parent) s is w)) found)
+
+pub closed_whole : (p : Inside) (k : Lists) (n : ℕ) (parent at : Option ℕ) (j : Indexed) → HasSide p.from (marks_of p.lists) p.lists k at → IsIndexWith p j → IsWhole p → IsWhole (closing p k.sides (head_between p.from (marks_of p.lists) n parent at) j)
+closed_whole p k n parent None j s ix w =
     let l : Lists = p.lists in
     let h : Head = head_between p.from (marks_of l) n parent None in
-    subst (λ (es : List Side). IsWhole (closing p es h)) (ap (λ (x : Lists). x.sides) (sym s.0))
-    (closing_whole p l.sides h (omega arith) (sides_more p.from (marks_of l) l.sides w.from w.sides) (new_fits p n (length l.sides) parent None tt w) (apart_bare l.sides p.heads (drop p.kept p.past) h refl w.apart) w)
-closed_whole p k n parent (Some i) s w =
+    let o = closing_own p l.sides h j n parent (take_all (length l.sides) l.sides (omega arith)) (blank_record p n parent s.1) ix w in
+    subst (λ (es : List Side). IsWhole (closing p es h j)) (ap (λ (x : Lists). x.sides) (sym s.0))
+    (closing_whole p l.sides h j (omega arith) (sides_more p.from (marks_of l) l.sides w.from w.sides) (new_fits p n (length l.sides) parent None tt w) o w)
+closed_whole p k n parent (Some i) j s ix w =
     let l : Lists = p.lists in
     let h : Head = head_between p.from (marks_of l) n parent (Some i) in
     let e : Side = side_between p.from (marks_of l) in
     let es : List Side = l.sides ++ e ∷ [] in
     let longer : length l.sides ≤ length es = omega (arith, length-append l.sides (e ∷ [])) in
     let below : i < length es = omega (arith, s.1, length-append l.sides (e ∷ [])) in
-    subst (λ (fs : List Side). IsWhole (closing p fs h)) (ap (λ (x : Lists). x.sides) (sym s.0))
-    (closing_whole p es h longer (sides_push (marks_of l) l.sides e (sides_more p.from (marks_of l) l.sides w.from w.sides) (between_fits p w)) (new_fits p n (length es) parent (Some i) below w) (apart_more p.from l.sides e p.heads (drop p.kept p.past) h i refl s.1 refl w.sides w.heads (heads_drop (closed_sizes p) p.kept p.past w.past) w.apart) w)
+    let o = closing_own p es h j n parent (sides_front l.sides e) (side_record p n parent i s.1) ix w in
+    subst (λ (fs : List Side). IsWhole (closing p fs h j)) (ap (λ (x : Lists). x.sides) (sym s.0))
+    (closing_whole p es h j longer (sides_push (marks_of l) l.sides e (sides_more p.from (marks_of l) l.sides w.from w.sides) (between_fits p w)) (new_fits p n (length es) parent (Some i) below w) o w)
+
+-- another index of the same writes
+pub reindexed : (p : Inside) (j : Indexed) → IsIndexOf j (take p.from.writes p.lists.writes) → j.places ≡ p.own.places → IsWhole p → IsWhole (record p { own = j })
+reindexed p j ix same w = record {
+  heads = w.heads;
+  past = w.past;
+  sides = w.sides;
+  preds = w.preds;
+  from = w.from;
+  own = record { index = ix; all = ap (λ ps. owned_by ps (take p.from.writes p.lists.writes)) same ∙ w.own.all };
+}
+
+pub back_indexed : (p : Inside) (j : Indexed) → IsIndexOf j p.lists.writes → j.places ≡ p.own.places → IsWhole p → IsWhole (record p { own = j })
+back_indexed p j ix same w =
+    let ws : List Write = p.lists.writes in
+    let m : ℕ = p.from.writes in
+    let all : IsIndexOf j (take m ws ++ drop m ws) = subst (IsIndexOf j) (sym (take-append-drop m ws)) ix in
+    reindexed p j (finds_back p.own j (take m ws) (drop m ws) (map (record_at p.lists) p.heads) w.own all same).index same w
 
 -- A side that is taken back
 
@@ -199,13 +273,16 @@ sides_alone from to before after (Some i) s = subst (λ (x : Lists). x ≡ (let 
 
 -- A predicate more
 
+agree_asked : (p : Inside) (a : Asked) → IsWhole p → (let l = p.lists in AgreeTo p.from (record l { preds = l.preds ++ a ∷ [] }) l)
+agree_asked p a w = let l : Lists = p.lists in record { turns = refl; reads = refl; sets = refl; sides = take_all (length l.sides) l.sides (omega arith); preds = take-append-le p.from.preds l.preds (a ∷ []) w.from.preds; tests = refl; columns = refl; rows = refl; writes = refl; lines = refl; ends = refl }
+
 pub asking : (p : Inside) (t : ℕ) → IsWhole p → expanded (let l = p.lists in let m = p.from in record p { lists = record l { preds = l.preds ++ record { table = t; tests = record { from = m.tests; to = length l.tests }; columns = record { from = m.columns; to = length l.columns } } ∷ [] }; from = record m { tests = length l.tests; columns = length l.columns } }) ≡ (let was = expanded p in let o = was.effect in record was { effect = record o { preds = o.preds ++ record { table = t; tests = was.tests; columns = was.columns } ∷ [] }; tests = []; columns = [] })
 asking p t w =
     let l : Lists = p.lists in
     let m : Marks = p.from in
     let a : Asked = record { table = t; tests = record { from = m.tests; to = length l.tests }; columns = record { from = m.columns; to = length l.columns } } in
     let k : Lists = record l { preds = l.preds ++ a ∷ [] } in
-    let e : AgreeTo m k l = record { turns = refl; reads = refl; sets = refl; sides = take_all (length l.sides) l.sides (omega arith); preds = take-append-le m.preds l.preds (a ∷ []) w.from.preds; tests = refl; columns = refl; rows = refl; writes = refl; lines = refl; ends = refl } in
+    let e : AgreeTo m k l = agree_asked p a w in
     let heads : map (record_at k) p.heads ≡ map (record_at l) p.heads = heads_same p k w e in
     let past : map (record_at k) p.past ≡ map (record_at l) p.past = past_same p k w e in
     let tests : drop m.tests (take (length l.tests) l.tests) ≡ drop m.tests l.tests = part_to_end l.tests m.tests in
@@ -229,7 +306,7 @@ asking_whole p t w =
       heads = heads_more (closed_sizes p) (record { marks = n; sides = length l.sides }) p.heads i w.heads;
       past = heads_more (closed_sizes p) (record { marks = n; sides = length l.sides }) p.past i w.past;
       sides = sides_more m n l.sides u w.sides;
-      apart = w.apart;
+      own = own_kept p (record l { preds = l.preds ++ a ∷ [] }) w (agree_asked p a w);
       preds = asked_push n l.preds a (asked_more m n l.preds u w.preds) (record { tests = to_end_fits m.tests (length l.tests) w.from.tests; columns = to_end_fits m.columns (length l.columns) w.from.columns });
       from = record { turns = w.from.turns; reads = w.from.reads; sets = w.from.sets; preds = omega (arith, w.from.preds, length-append l.preds (a ∷ [])); tests = omega arith; columns = omega arith; rows = w.from.rows; writes = w.from.writes; lines = w.from.lines; ends = w.from.ends };
     }
@@ -246,11 +323,11 @@ kept_head p n parent kept = record {
   side = kept.side;
 }
 
-abbrev pub adopting : Inside → ℕ → Option ℕ → ℕ → Head → Inside
-adopting p n parent old kept = let l = p.lists in let m = p.from in record p { heads = p.heads ++ kept_head p n parent kept ∷ []; from = record m { turns = length l.turns; reads = length l.reads }; kept = old + 1 }
+abbrev pub adopting : Inside → ℕ → Option ℕ → ℕ → Head → Indexed → Inside
+adopting p n parent old kept j = let l = p.lists in let m = p.from in record p { heads = p.heads ++ kept_head p n parent kept ∷ []; from = record m { turns = length l.turns; reads = length l.reads }; kept = old + 1; own = j }
 
-pub adopted : (p : Inside) (n : ℕ) (parent : Option ℕ) (old : ℕ) (kept : Head) (given : Record) → record_at p.lists kept ≡ given → expanded (adopting p n parent old kept) ≡ (let was = expanded p in record was { records = was.records ++ record given { spot = record { statement = n; turns = was.turns }; parent = parent; reads = was.reads } ∷ []; turns = []; reads = []; kept = old + 1 })
-adopted p n parent old kept given is =
+pub adopted : (p : Inside) (n : ℕ) (parent : Option ℕ) (old : ℕ) (kept : Head) (j : Indexed) (given : Record) → record_at p.lists kept ≡ given → expanded (adopting p n parent old kept j) ≡ (let was = expanded p in record was { records = was.records ++ record given { spot = record { statement = n; turns = was.turns }; parent = parent; reads = was.reads } ∷ []; turns = []; reads = []; kept = old + 1 })
+adopted p n parent old kept j given is =
     let l : Lists = p.lists in
     let m : Marks = p.from in
     let h : Head = kept_head p n parent kept in
@@ -264,8 +341,29 @@ adopted p n parent old kept given is =
     let no_reads : drop (length l.reads) l.reads ≡ [] = none_after l.reads in
     rw heads (rw no_turns (rw no_reads refl))
 
-pub adopted_whole : (p : Inside) (n : ℕ) (parent : Option ℕ) (old : ℕ) (kept : Head) → p.kept ≤ old → slice_get p.past old ≡ Some kept → HeadFits (closed_sizes p) kept → IsWhole p → IsWhole (adopting p n parent old kept)
-adopted_whole p n parent old kept o at f w =
+-- the index finds the old record's writes as well
+abbrev pub IsIndexKept : Inside → Head → Indexed → Type 0
+IsIndexKept p kept j =
+    let ws = take p.from.writes p.lists.writes in
+    let r = (side_of p.lists.sides kept.side).writes in
+    IsIndexOf j ws × (owned_by j.places ws ≡ owned_by p.own.places ws ++ undo_of (length p.heads) (drop r.from (take r.to ws)))
+
+-- the writes of a closed record stand before those of the open statement
+pub kept_within : (p : Inside) (kept : Head) → HeadFits (closed_sizes p) kept → IsWhole p → Fits p.from.writes (side_of p.lists.sides kept.side).writes
+kept_within p kept f w = (side_fits p.from p.lists.sides kept.side f.side w.sides).writes
+
+adopted_own : (p : Inside) (n : ℕ) (parent : Option ℕ) (kept : Head) (j : Indexed) → HeadFits (closed_sizes p) kept → IsIndexKept p kept j → IsWhole p → Finds j (take p.from.writes p.lists.writes) (map (record_at p.lists) (p.heads ++ kept_head p n parent kept ∷ []))
+adopted_own p n parent kept j f ix w =
+    let l : Lists = p.lists in
+    let ws : List Write = take p.from.writes l.writes in
+    let h : Head = kept_head p n parent kept in
+    let r : Range = (side_of l.sides kept.side).writes in
+    let there : r.to ≤ p.from.writes = (kept_within p kept f w).within in
+    let more : owned_by j.places ws ≡ owned_by p.own.places ws ++ undo_of (length p.heads) (drop r.from (take r.to l.writes)) = ix.1 ∙ ap (λ vs. owned_by p.own.places ws ++ undo_of (length p.heads) (drop r.from vs)) (take-take r.to p.from.writes l.writes there) in
+    subst (Finds j ws) (sym (map-append (record_at l) p.heads (h ∷ []))) (finds_more p.own j ws (map (record_at l) p.heads) (record_at l h) (length p.heads) (sym (length_map (record_at l) p.heads)) w.own ix.0 more)
+
+pub adopted_whole : (p : Inside) (n : ℕ) (parent : Option ℕ) (old : ℕ) (kept : Head) (j : Indexed) → HeadFits (closed_sizes p) kept → IsIndexKept p kept j → IsWhole p → IsWhole (adopting p n parent old kept j)
+adopted_whole p n parent old kept j f ix w =
     let l : Lists = p.lists in
     let m : Marks = p.from in
     let t : Marks = record m { turns = length l.turns; reads = length l.reads } in
@@ -277,7 +375,7 @@ adopted_whole p n parent old kept o at f w =
       past = heads_more (closed_sizes p) s p.past i w.past;
       sides = sides_more m t l.sides u w.sides;
       preds = asked_more m t l.preds u w.preds;
-      apart = apart_kept l.sides p.heads p.past p.kept old kept (kept_head p n parent kept) o at refl w.apart;
+      own = adopted_own p n parent kept j f ix w;
       from = record { turns = omega arith; reads = omega arith; sets = w.from.sets; preds = w.from.preds; tests = w.from.tests; columns = w.from.columns; rows = w.from.rows; writes = w.from.writes; lines = w.from.lines; ends = w.from.ends };
     }
 

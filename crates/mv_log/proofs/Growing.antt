@@ -1,6 +1,8 @@
 -- Shared lists that grow, or that lose what no head names: the records stay.
-use Rattle.std.proofs.Common.{◌≡◌, ◌≤◌, ◌<◌, ℕ, zero, suc, List, [], ◌∷◌, Option, Some, None, length, take, refl, ap, ◌∙◌, arith}
+use Rattle.std.proofs.Common.{◌≡◌, ◌≤◌, ◌<◌, ℕ, zero, suc, List, [], ◌∷◌, Option, Some, None, length, take, refl, sym, ap, subst, ◌∙◌, arith}
 use Rattle.std.specs.Prelude.{map}
+use Rattle.mv_values.specs.declared.patch.Write.{Write}
+use Rattle.mv_undo.specs.Indexed.{Finds}
 use Rattle.mv_log.specs.declared.head.Head.{Head}
 use Rattle.mv_log.specs.declared.head.Range.{Range}
 use Rattle.mv_log.specs.declared.head.Side.{Side}
@@ -81,6 +83,12 @@ heads_same p k w e = records_same p.from k p.lists p.heads w.heads w.sides w.pre
 
 pub past_same : (p : Inside) (k : Lists) → IsWhole p → AgreeTo p.from k p.lists → map (record_at k) p.past ≡ map (record_at p.lists) p.past
 past_same p k w e = records_same p.from k p.lists p.past w.past w.sides w.preds e
+
+-- the index finds the writes of the records as before
+pub own_kept : (p : Inside) (k : Lists) → IsWhole p → AgreeTo p.from k p.lists → Finds p.own (take p.from.writes k.writes) (map (record_at k) p.heads)
+own_kept p k w e =
+    subst (Finds p.own (take p.from.writes k.writes)) (sym (heads_same p k w e))
+    (subst (λ (ws : List Write). Finds p.own ws (map (record_at p.lists) p.heads)) (sym e.writes) w.own)
 
 -- Fitting in longer lists
 

@@ -3,7 +3,5 @@ pub mod Sides
 pub mod Lending
 pub mod Growing
 pub mod Pushing
-pub mod Sharing
 pub mod Closing
 pub mod Cutting
-pub mod Taking

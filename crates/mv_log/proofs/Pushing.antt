@@ -1,5 +1,5 @@
 -- A log of which a shared list has grown.
-use Rattle.std.proofs.Common.{◌≡◌, ◌≤◌, ℕ, None, Some, List, [], ◌∷◌, ◌++◌, length, drop, refl, arith, length-append}
+use Rattle.std.proofs.Common.{◌≡◌, ◌≤◌, ℕ, None, Some, List, [], ◌∷◌, ◌++◌, Result, Ok, Err, OnOk, OnErr, length, drop, refl, sym, subst, arith, length-append}
 use Rattle.std.specs.Prelude.{map}
 use Rattle.std.proofs.lemmas.List.{take-append-le, drop-append-le, take_all}
 use Rattle.mv_values.specs.declared.value.Value.{Value}
@@ -14,7 +14,7 @@ use Rattle.mv_log.specs.Parts.{first_of}
 use Rattle.mv_log.specs.Heads.{pred_of, record_at}
 use Rattle.mv_log.specs.Expanding.{expanded, IsWhole}
 use Rattle.mv_log.proofs.Sides.{asked_drop}
-use Rattle.mv_log.proofs.Growing.{AgreeTo, heads_same, past_same, preds_same}
+use Rattle.mv_log.proofs.Growing.{AgreeTo, heads_same, own_kept, past_same, preds_same}
 
 longer : {X : Type 0} (xs more : List X) (n : ℕ) → n ≤ length xs → n ≤ length (xs ++ more)
 longer xs more n l = omega (arith, length-append xs more, l)
@@ -41,7 +41,7 @@ more_turns p more w =
 pub whole_turns : (p : Inside) (more : List ℕ) → IsWhole p → IsWhole (let l = p.lists in record p { lists = record l { turns = l.turns ++ more } })
 whole_turns p more w =
     let l : Lists = p.lists in
-    record { heads = w.heads; past = w.past; sides = w.sides; preds = w.preds; apart = w.apart; from = record { turns = longer l.turns (more) p.from.turns w.from.turns; reads = w.from.reads; sets = w.from.sets; preds = w.from.preds; tests = w.from.tests; columns = w.from.columns; rows = w.from.rows; writes = w.from.writes; lines = w.from.lines; ends = w.from.ends } }
+    record { heads = w.heads; past = w.past; sides = w.sides; preds = w.preds; own = own_kept p (record l { turns = l.turns ++ more }) w (agree_turns p more w); from = record { turns = longer l.turns (more) p.from.turns w.from.turns; reads = w.from.reads; sets = w.from.sets; preds = w.from.preds; tests = w.from.tests; columns = w.from.columns; rows = w.from.rows; writes = w.from.writes; lines = w.from.lines; ends = w.from.ends } }
 
 -- reads
 
@@ -61,7 +61,7 @@ more_reads p more w =
 pub whole_reads : (p : Inside) (more : List Read) → IsWhole p → IsWhole (let l = p.lists in record p { lists = record l { reads = l.reads ++ more } })
 whole_reads p more w =
     let l : Lists = p.lists in
-    record { heads = w.heads; past = w.past; sides = w.sides; preds = w.preds; apart = w.apart; from = record { turns = w.from.turns; reads = longer l.reads (more) p.from.reads w.from.reads; sets = w.from.sets; preds = w.from.preds; tests = w.from.tests; columns = w.from.columns; rows = w.from.rows; writes = w.from.writes; lines = w.from.lines; ends = w.from.ends } }
+    record { heads = w.heads; past = w.past; sides = w.sides; preds = w.preds; own = own_kept p (record l { reads = l.reads ++ more }) w (agree_reads p more w); from = record { turns = w.from.turns; reads = longer l.reads (more) p.from.reads w.from.reads; sets = w.from.sets; preds = w.from.preds; tests = w.from.tests; columns = w.from.columns; rows = w.from.rows; writes = w.from.writes; lines = w.from.lines; ends = w.from.ends } }
 
 -- tests
 
@@ -82,7 +82,7 @@ more_tests p more w =
 pub whole_tests : (p : Inside) (more : List Test) → IsWhole p → IsWhole (let l = p.lists in record p { lists = record l { tests = l.tests ++ more } })
 whole_tests p more w =
     let l : Lists = p.lists in
-    record { heads = w.heads; past = w.past; sides = w.sides; preds = w.preds; apart = w.apart; from = record { turns = w.from.turns; reads = w.from.reads; sets = w.from.sets; preds = w.from.preds; tests = longer l.tests (more) p.from.tests w.from.tests; columns = w.from.columns; rows = w.from.rows; writes = w.from.writes; lines = w.from.lines; ends = w.from.ends } }
+    record { heads = w.heads; past = w.past; sides = w.sides; preds = w.preds; own = own_kept p (record l { tests = l.tests ++ more }) w (agree_tests p more w); from = record { turns = w.from.turns; reads = w.from.reads; sets = w.from.sets; preds = w.from.preds; tests = longer l.tests (more) p.from.tests w.from.tests; columns = w.from.columns; rows = w.from.rows; writes = w.from.writes; lines = w.from.lines; ends = w.from.ends } }
 
 -- columns
 
@@ -103,7 +103,7 @@ more_columns p more w =
 pub whole_columns : (p : Inside) (more : List ℕ) → IsWhole p → IsWhole (let l = p.lists in record p { lists = record l { columns = l.columns ++ more } })
 whole_columns p more w =
     let l : Lists = p.lists in
-    record { heads = w.heads; past = w.past; sides = w.sides; preds = w.preds; apart = w.apart; from = record { turns = w.from.turns; reads = w.from.reads; sets = w.from.sets; preds = w.from.preds; tests = w.from.tests; columns = longer l.columns (more) p.from.columns w.from.columns; rows = w.from.rows; writes = w.from.writes; lines = w.from.lines; ends = w.from.ends } }
+    record { heads = w.heads; past = w.past; sides = w.sides; preds = w.preds; own = own_kept p (record l { columns = l.columns ++ more }) w (agree_columns p more w); from = record { turns = w.from.turns; reads = w.from.reads; sets = w.from.sets; preds = w.from.preds; tests = w.from.tests; columns = longer l.columns (more) p.from.columns w.from.columns; rows = w.from.rows; writes = w.from.writes; lines = w.from.lines; ends = w.from.ends } }
 
 -- sets
 
@@ -123,7 +123,7 @@ more_sets p more w =
 pub whole_sets : (p : Inside) (more : List Slot) → IsWhole p → IsWhole (let l = p.lists in record p { lists = record l { sets = l.sets ++ more } })
 whole_sets p more w =
     let l : Lists = p.lists in
-    record { heads = w.heads; past = w.past; sides = w.sides; preds = w.preds; apart = w.apart; from = record { turns = w.from.turns; reads = w.from.reads; sets = longer l.sets (more) p.from.sets w.from.sets; preds = w.from.preds; tests = w.from.tests; columns = w.from.columns; rows = w.from.rows; writes = w.from.writes; lines = w.from.lines; ends = w.from.ends } }
+    record { heads = w.heads; past = w.past; sides = w.sides; preds = w.preds; own = own_kept p (record l { sets = l.sets ++ more }) w (agree_sets p more w); from = record { turns = w.from.turns; reads = w.from.reads; sets = longer l.sets (more) p.from.sets w.from.sets; preds = w.from.preds; tests = w.from.tests; columns = w.from.columns; rows = w.from.rows; writes = w.from.writes; lines = w.from.lines; ends = w.from.ends } }
 
 -- rows
 
@@ -143,7 +143,7 @@ more_rows p more w =
 pub whole_rows : (p : Inside) (more : List (List Value)) → IsWhole p → IsWhole (let l = p.lists in record p { lists = record l { rows = l.rows ++ more } })
 whole_rows p more w =
     let l : Lists = p.lists in
-    record { heads = w.heads; past = w.past; sides = w.sides; preds = w.preds; apart = w.apart; from = record { turns = w.from.turns; reads = w.from.reads; sets = w.from.sets; preds = w.from.preds; tests = w.from.tests; columns = w.from.columns; rows = longer l.rows (more) p.from.rows w.from.rows; writes = w.from.writes; lines = w.from.lines; ends = w.from.ends } }
+    record { heads = w.heads; past = w.past; sides = w.sides; preds = w.preds; own = own_kept p (record l { rows = l.rows ++ more }) w (agree_rows p more w); from = record { turns = w.from.turns; reads = w.from.reads; sets = w.from.sets; preds = w.from.preds; tests = w.from.tests; columns = w.from.columns; rows = longer l.rows (more) p.from.rows w.from.rows; writes = w.from.writes; lines = w.from.lines; ends = w.from.ends } }
 
 -- writes
 
@@ -163,7 +163,12 @@ more_writes p more w =
 pub whole_writes : (p : Inside) (more : List Write) → IsWhole p → IsWhole (let l = p.lists in record p { lists = record l { writes = l.writes ++ more } })
 whole_writes p more w =
     let l : Lists = p.lists in
-    record { heads = w.heads; past = w.past; sides = w.sides; preds = w.preds; apart = w.apart; from = record { turns = w.from.turns; reads = w.from.reads; sets = w.from.sets; preds = w.from.preds; tests = w.from.tests; columns = w.from.columns; rows = w.from.rows; writes = longer l.writes (more) p.from.writes w.from.writes; lines = w.from.lines; ends = w.from.ends } }
+    record { heads = w.heads; past = w.past; sides = w.sides; preds = w.preds; own = own_kept p (record l { writes = l.writes ++ more }) w (agree_writes p more w); from = record { turns = w.from.turns; reads = w.from.reads; sets = w.from.sets; preds = w.from.preds; tests = w.from.tests; columns = w.from.columns; rows = w.from.rows; writes = longer l.writes (more) p.from.writes w.from.writes; lines = w.from.lines; ends = w.from.ends } }
+
+-- the same after an attempt to add a write
+pub whole_written : {T E : Type 0} (r : Result T E) (p : Inside) (write : Write) (now : List Write) → OnOk r (now ≡ p.lists.writes ++ write ∷ []) → OnErr r (now ≡ p.lists.writes) → IsWhole p → IsWhole (let l = p.lists in record p { lists = record l { writes = now } })
+whole_written (Ok x) p write now ok err w = subst (λ (ws : List Write). IsWhole (let l = p.lists in record p { lists = record l { writes = ws } })) (sym ok) (whole_writes p (write ∷ []) w)
+whole_written (Err x) p write now ok err w = subst (λ (ws : List Write). IsWhole (let l = p.lists in record p { lists = record l { writes = ws } })) (sym err) w
 
 -- lines
 
@@ -184,7 +189,7 @@ more_lines p x w h =
 pub whole_lines : (p : Inside) (x : List ℕ) → IsWhole p → IsWhole (let l = p.lists in record p { lists = record l { lines = l.lines ++ x ∷ [] } })
 whole_lines p x w =
     let l : Lists = p.lists in
-    record { heads = w.heads; past = w.past; sides = w.sides; preds = w.preds; apart = w.apart; from = record { turns = w.from.turns; reads = w.from.reads; sets = w.from.sets; preds = w.from.preds; tests = w.from.tests; columns = w.from.columns; rows = w.from.rows; writes = w.from.writes; lines = longer l.lines (x ∷ []) p.from.lines w.from.lines; ends = w.from.ends } }
+    record { heads = w.heads; past = w.past; sides = w.sides; preds = w.preds; own = own_kept p (record l { lines = l.lines ++ x ∷ [] }) w (agree_lines p x w); from = record { turns = w.from.turns; reads = w.from.reads; sets = w.from.sets; preds = w.from.preds; tests = w.from.tests; columns = w.from.columns; rows = w.from.rows; writes = w.from.writes; lines = longer l.lines (x ∷ []) p.from.lines w.from.lines; ends = w.from.ends } }
 
 -- ends
 
@@ -205,4 +210,4 @@ more_ends p x w h =
 pub whole_ends : (p : Inside) (x : End) → IsWhole p → IsWhole (let l = p.lists in record p { lists = record l { ends = l.ends ++ x ∷ [] } })
 whole_ends p x w =
     let l : Lists = p.lists in
-    record { heads = w.heads; past = w.past; sides = w.sides; preds = w.preds; apart = w.apart; from = record { turns = w.from.turns; reads = w.from.reads; sets = w.from.sets; preds = w.from.preds; tests = w.from.tests; columns = w.from.columns; rows = w.from.rows; writes = w.from.writes; lines = w.from.lines; ends = longer l.ends (x ∷ []) p.from.ends w.from.ends } }
+    record { heads = w.heads; past = w.past; sides = w.sides; preds = w.preds; own = own_kept p (record l { ends = l.ends ++ x ∷ [] }) w (agree_ends p x w); from = record { turns = w.from.turns; reads = w.from.reads; sets = w.from.sets; preds = w.from.preds; tests = w.from.tests; columns = w.from.columns; rows = w.from.rows; writes = w.from.writes; lines = w.from.lines; ends = longer l.ends (x ∷ []) p.from.ends w.from.ends } }

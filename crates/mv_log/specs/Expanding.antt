@@ -1,6 +1,7 @@
 -- What a log's heads and shared lists describe.
-use Rattle.std.specs.Prelude.{length, drop, map}
+use Rattle.std.specs.Prelude.{length, take, drop, map}
 use Rattle.mv_record.specs.declared.effect.Effect.{Effect}
+use Rattle.mv_undo.specs.Indexed.{Finds}
 use Rattle.mv_log.specs.declared.head.Marks.{Marks}
 use Rattle.mv_log.specs.declared.lists.Lists.{Lists}
 use Rattle.mv_log.specs.declared.log.Log.TheInside.{Inside}
@@ -8,7 +9,6 @@ use Rattle.mv_log.specs.Parts.{first_of}
 use Rattle.mv_log.specs.Fitting.{Sizes, marks_of, HeadsFit, SidesFit, AskedFit, AreUpTo}
 use Rattle.mv_log.specs.Heads.{pred_of, record_at}
 use Rattle.mv_log.specs.Logged.{Logged}
-use Rattle.mv_log.specs.Sharing.{IsApart}
 
 -- the effect whose parts begin at these marks
 abbrev pub effect_from : Marks → Lists → Effect
@@ -37,11 +37,11 @@ expanded p = record {
 abbrev pub closed_sizes : Inside → Sizes
 closed_sizes p = record { marks = p.from; sides = length p.lists.sides }
 
--- heads, sides and predicates have their parts before the open statement, and no side is shared
+-- heads, sides and predicates have their parts before the open statement, and the index finds the writes of the records
 pub record IsWhole (p : Inside) : Type 0 where
   pub heads : HeadsFit (closed_sizes p) p.heads
   pub past : HeadsFit (closed_sizes p) p.past
   pub sides : SidesFit p.from p.lists.sides
   pub preds : AskedFit p.from p.lists.preds
   pub from : AreUpTo p.from (marks_of p.lists)
-  pub apart : IsApart p.lists.sides p.heads (drop p.kept p.past)
+  pub own : Finds p.own (take p.from.writes p.lists.writes) (map (record_at p.lists) p.heads)

@@ -2,6 +2,5 @@ pub mod Parts
 pub mod Fitting
 pub mod Heads
 pub mod Logged
-pub mod Sharing
 pub mod Expanding
 pub mod Cutting

@@ -1,13 +1,12 @@
 //! A list of fewer than 2^32 items, of which parts are lent.
 
-ghost use Rattle.std.specs.Prelude.{◌≡◌, ◌<◌, ◌^◌, [], ◌∷◌, ◌++◌, length, OnOk, OnErr, take, slice_get, slice_set, Some};
+ghost use Rattle.std.specs.Prelude.{◌≡◌, ◌≤◌, ◌<◌, ◌^◌, [], ◌∷◌, ◌++◌, length, OnOk, OnErr, take};
 ghost use Rattle.mv_log.specs.Parts.{part, Fits};
 
 use crate::head::Range;
 use mv_values::memory::NoMemory;
 use std::alloc::Global;
 use std::marker::Model;
-use std::mem;
 
 /// Items in order, fewer than 2^32. Contracts see only the items.
 #[derive(Drop)]
@@ -52,13 +51,12 @@ impl<T> Flat<T> {
         self.items.as_slice()
     }
 
-    /// Replaces an item and returns the old one.
-    pub fn replace(&mut self, at: u32, item: T) -> T
-        requires { at < length self.old }
-        ensures items { self.new ≡ slice_set self.old at item }
-        ensures back { slice_get self.old at ≡ Some result }
+    /// Borrows the first items, so many.
+    pub fn first(&self, len: u32) -> &[T]
+        requires { len ≤ length self.now }
+        ensures { result.now ≡ take len self.now }
     {
-        mem::replace(&mut self.items[at as usize], item)
+        &self.items.as_slice()[..len as usize]
     }
 
     /// Borrows a part.

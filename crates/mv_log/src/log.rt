@@ -1,13 +1,17 @@
 //! The records of a running call.
 
-ghost use Rattle.std.specs.Prelude.{◌≡◌, ◌==◌, ◌<◌, ◌≤◌, ◌+◌, [], ◌∷◌, ◌++◌, List as Seq, Some, None, length, OnOk, OnErr, take, drop, map, slice_get, slice_set};
+ghost use Rattle.std.specs.Prelude.{◌≡◌, ◌==◌, ◌<◌, ◌≤◌, ◌+◌, [], ◌∷◌, ◌++◌, All, List as Seq, Some, None, length, OnOk, OnErr, take, drop, map, slice_get};
 ghost use Rattle.std.specs.List.{list_any};
 ghost use Rattle.mv_values.specs.declared.pred.Pred.{Pred};
 ghost use Rattle.mv_record.specs.declared.record.Record.{Record};
 ghost use Rattle.mv_record.specs.Effects.{record_of};
+ghost use Rattle.mv_undo.specs.Owned.{owned_by};
+ghost use Rattle.mv_undo.specs.Owning.{undo_of};
+ghost use Rattle.mv_undo.specs.Indexed.{IsIndexOf};
+ghost use Rattle.mv_log.specs.Parts.{Fits};
 ghost use Rattle.mv_log.specs.Fitting.{marks_of, AskedFit};
 ghost use Rattle.mv_log.specs.Heads.{pred_of};
-ghost use Rattle.mv_log.specs.Logged.{no_effect, empty, once_more};
+ghost use Rattle.mv_log.specs.Logged.{no_effect, empty, once_more, owned};
 ghost use Rattle.mv_log.specs.Cutting.{head_between};
 
 use crate::flat::Flat;
@@ -17,6 +21,8 @@ use crate::pred_ref::Preds;
 use crate::records::Records;
 use crate::var_read::VarRead;
 use mv_record::record::Slot;
+use mv_undo::own_index::OwnIndex;
+use mv_undo::undo::Undo;
 use mv_values::calls::End;
 use mv_values::memory::NoMemory;
 use mv_values::patch::Write;
@@ -30,7 +36,8 @@ use std::mem;
 
 /// The records of a running call, those of its run before a repair, and the effect of the statement that it executes.
 /// A record is a small head, which names its parts of lists that all records share. So a repair keeps a record without
-/// moving any of its items, and the next call uses the room again.
+/// moving any of its items, and the next call uses the room again. An index finds the writes of the records by table and
+/// key.
 pub struct Log {
     heads: Flat<Head>,
     past: Flat<Head>,
@@ -39,6 +46,8 @@ pub struct Log {
     lists: Lists,
     /// Where the items of the open statement begin.
     from: Marks,
+    /// Where the writes of the records are.
+    own: OwnIndex,
 }
 
 impl Drop for Log {
@@ -50,6 +59,7 @@ impl Drop for Log {
             kept: _,
             lists: _,
             from: _,
+            own: _,
         } = self;
     }
 }
@@ -73,14 +83,6 @@ fn head_at(heads: &[Head], at: u32) -> Head
     ensures { slice_get heads.now at ≡ Some result }
 {
     heads[at as usize]
-}
-
-/// Returns the place of an item of a part.
-fn place_in(range: Range, at: u32) -> u32
-    requires { range.from + at < range.to }
-    ensures { result ≡ range.from + at }
-{
-    range.from + at
 }
 
 /// Returns the head of a statement whose items stand between these marks.
@@ -110,6 +112,31 @@ fn head_between(
         },
         side,
     }
+}
+
+/// Adds a record's head, and its writes to the index: those of a part of these. On `NoMemory` neither has them.
+fn push_head(
+    heads: &mut Flat<Head>,
+    own: &mut OwnIndex,
+    head: Head,
+    part: Range,
+    writes: &[Write],
+) -> Result<(), NoMemory>
+    requires index { IsIndexOf own.old writes.now }
+    requires within { Fits (length writes.now) part }
+    requires last { All (λ p. p.number < length heads.old) own.old.places }
+    ensures index { IsIndexOf own.new writes.now }
+    ensures heads { OnOk result (heads.new ≡ heads.old ++ head ∷ []) }
+    ensures own { OnOk result (owned_by own.new.places writes.now ≡ owned_by own.old.places writes.now ++ undo_of (length heads.old) (drop part.from (take part.to writes.now))) }
+    ensures err { OnErr result ((heads.new ≡ heads.old) × (own.new.places ≡ own.old.places)) }
+{
+    let number = heads.len();
+    heads.push(head)?;
+    if let Err(error) = own.push_all(number, part.from, part.to, writes) {
+        heads.truncate(number);
+        return Err(error);
+    }
+    Ok(())
 }
 
 /// Lends the predicates from this number on.
@@ -145,6 +172,7 @@ impl Log {
             kept: 0,
             lists: Lists::new(alloc),
             from: start(),
+            own: OwnIndex::new(alloc),
         }
     }
 
@@ -158,6 +186,7 @@ impl Log {
         self.kept = 0;
         self.lists.clear();
         self.from = start();
+        self.own.clear();
     }
 
     /// Returns the number of records.
@@ -189,6 +218,13 @@ impl Log {
         ensures { result ≡ self.now.kept }
     {
         self.kept
+    }
+
+    /// Lends the writes of the records, each with the number of its record. Costs nothing.
+    pub fn undo(&self) -> Undo<'_>
+        ensures { result ≡ owned self.now }
+    {
+        Undo::of(&self.own, self.lists.writes.first(self.from.writes))
     }
 
     /// Lends the predicates of the open effect.
@@ -320,7 +356,7 @@ impl Log {
     }
 
     /// Adds a write of the open effect. On `NoMemory` the log is unchanged.
-    #[tactic(auto, using(crate::proofs::Pushing::more_writes, crate::proofs::Pushing::whole_writes))]
+    #[tactic(auto, using(crate::proofs::Pushing::more_writes))]
     pub fn push_write(&mut self, write: Write) -> Result<(), NoMemory>
         ensures ok { OnOk result (self.new ≡ (let was = self.old in let o = was.effect in record was { effect = record o { writes = o.writes ++ write ∷ [] } })) }
         ensures err { OnErr result (self.new ≡ self.old) }
@@ -367,7 +403,6 @@ impl Log {
 
     /// Adds the record of the open statement, with its turns, reads and effect, and begins the next one. On `NoMemory`
     /// the log is unchanged.
-    #[tactic(auto, using(crate::proofs::Closing::closed, crate::proofs::Closing::closed_whole, crate::proofs::Closing::taken_back))]
     pub fn close(&mut self, statement: u16, parent: Option<u32>) -> Result<(), NoMemory>
         ensures ok { OnOk result (self.new ≡ (let was = self.old in record was { records = was.records ++ record_of (record { statement = statement; turns = was.turns }) parent was.reads was.effect ∷ []; turns = []; reads = []; effect = no_effect; tests = []; columns = [] })) }
         ensures err { OnErr result (self.new ≡ self.old) }
@@ -377,7 +412,12 @@ impl Log {
         let sides = self.lists.sides.len();
         let side = self.lists.push_side(from, to)?;
         let head = head_between(from, to, statement, parent, side);
-        if let Err(error) = self.heads.push(head) {
+        let writes = Range {
+            from: from.writes,
+            to: to.writes,
+        };
+        let all = self.lists.writes.as_slice();
+        if let Err(error) = push_head(&mut self.heads, &mut self.own, head, writes, all) {
             self.lists.sides.truncate(sides);
             return Err(error);
         }
@@ -388,7 +428,6 @@ impl Log {
     /// Adds a record of the run before the repair, with the position, controller and reads of the open statement. It
     /// names the items of the old record, and moves none. Old records are kept in their order. On `NoMemory` the log is
     /// unchanged.
-    #[tactic(auto, using(crate::proofs::Closing::adopted, crate::proofs::Closing::adopted_whole))]
     pub fn adopt(&mut self, old: u32, statement: u16, parent: Option<u32>) -> Result<(), NoMemory>
         requires within { old < length self.old.past }
         requires rises { self.old.kept ≤ old }
@@ -404,14 +443,17 @@ impl Log {
             from: self.from.reads,
             to: self.lists.reads.len(),
         };
-        self.heads.push(Head {
+        let head = Head {
             statement,
             parent,
             turns,
             reads,
             sets: kept.sets,
             side: kept.side,
-        })?;
+        };
+        let side = self.lists.side(kept.side);
+        let closed = self.lists.writes.first(self.from.writes);
+        push_head(&mut self.heads, &mut self.own, head, side.writes, closed)?;
         self.from.turns = turns.to;
         self.from.reads = reads.to;
         self.kept = old as usize + 1;
@@ -420,10 +462,11 @@ impl Log {
 
     /// Keeps the first records, so many, or all of them, and begins an empty statement. All room is kept; that of items
     /// of dropped records is used again after `clear`.
-    #[tactic(auto, using(crate::proofs::Cutting::cut, crate::proofs::Cutting::cut_whole))]
     pub fn truncate(&mut self, len: u32)
         ensures { self.new ≡ (let was = self.old in record was { records = take len was.records; turns = []; reads = []; effect = no_effect; tests = []; columns = [] }) }
     {
+        let closed = self.lists.writes.first(self.from.writes);
+        self.own.drop_from(len as usize, closed);
         self.heads.truncate(len);
         self.lists.keep_to(self.from);
     }
@@ -437,6 +480,7 @@ impl Log {
         self.past.truncate(0);
         self.kept = 0;
         mem::swap(&mut self.heads, &mut self.past);
+        self.own.clear();
     }
 
     /// Forgets the records of the run before the repair.
@@ -446,18 +490,5 @@ impl Log {
     {
         self.past.truncate(0);
         self.kept = 0;
-    }
-
-    /// Moves a write of a record out, and leaves another one in its place. There may be no past records.
-    pub fn take_write(&mut self, number: u32, at: u32, blank: Write) -> Write
-        requires ended { self.old.past ≡ [] }
-        requires within { number < length self.old.records }
-        requires there { (given : Record) → slice_get self.old.records number ≡ Some given → at < length given.writes }
-        ensures taken { (given : Record) → slice_get self.old.records number ≡ Some given → slice_get given.writes at ≡ Some result }
-        ensures others { (given : Record) → slice_get self.old.records number ≡ Some given → self.new ≡ (let was = self.old in record was { records = slice_set was.records number (record given { writes = slice_set given.writes at blank }) }) }
-    {
-        let head = head_at(self.heads.as_slice(), number);
-        let side = self.lists.side(head.side);
-        self.lists.writes.replace(place_in(side.writes, at), blank)
     }
 }

@@ -18,7 +18,7 @@ use mv_values::memory::NoMemory;
 use std::alloc::Global;
 
 /// Whether a commit hits the record with this number, whose predicates match rows only under keys that they admit.
-fn commit_hits(record: &RecordRef<'_>, number: usize, undo: &Undo, changes: &Changes) -> bool
+fn commit_hits(record: &RecordRef<'_>, number: usize, undo: &Undo<'_>, changes: &Changes) -> bool
     requires { AreAdmitted changes.now record.now }
     ensures { result ≡ any_hits changes.now (with_writes (earlier number undo.now)) record.now }
 {
@@ -27,7 +27,7 @@ fn commit_hits(record: &RecordRef<'_>, number: usize, undo: &Undo, changes: &Cha
 
 /// Whether one of the commits hits the record with this number, whose predicates match rows only under keys that they
 /// admit.
-fn is_hit(record: &RecordRef<'_>, number: usize, undo: &Undo, since: &[Committed]) -> bool
+fn is_hit(record: &RecordRef<'_>, number: usize, undo: &Undo<'_>, since: &[Committed]) -> bool
     requires { All (λ c. AreAdmitted c.changes record.now) since.now }
     ensures { result ≡ is_hit_by (earlier number undo.now) record.now since.now }
 {
@@ -44,7 +44,7 @@ fn is_hit(record: &RecordRef<'_>, number: usize, undo: &Undo, since: &[Committed
 pub(crate) fn hits_of(
     alloc: Global,
     records: &Records<'_>,
-    undo: &Undo,
+    undo: &Undo<'_>,
     since: &[Committed],
 ) -> Result<List<bool>, NoMemory>
     requires writes { HasWritesOf undo.now records.now }

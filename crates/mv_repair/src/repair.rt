@@ -156,7 +156,7 @@ pub fn repair<'s, V: View<'s>>(
     ensures queried { HasQueried task.old.log.records task.new.log.records (changes_since since.now) (if_refused result (preds_ahead graph.now (V.sight view.old).database task.new)) (V.sight view.old) (V.sight view.new) }
     ensures view { OnlyAsks (V.sight view.old) (V.sight view.new) result }
 {
-    let hits = hits_of(alloc, &task.records(), task.undo(), since)?;
+    let hits = hits_of(alloc, &task.records(), &task.undo(), since)?;
     task.begin_repair();
     let mut old = OldRun {
         hits,

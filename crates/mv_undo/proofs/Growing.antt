@@ -22,7 +22,7 @@ use Rattle.mv_values.proofs.KeyOrder.{exact_keys, key_order_total}
 use Rattle.mv_record.specs.Writes.{is_on, writes_on, patched_by}
 use Rattle.mv_record.proofs.Patching.{patched_append}
 use Rattle.mv_undo.specs.declared.links.Link.{Link}
-use Rattle.mv_undo.specs.declared.owned.Owned.{Owned}
+use Rattle.mv_undo.specs.Owned.{Owned}
 use Rattle.mv_undo.specs.Indexing.{owned_at, owned_on, full_key, key_at, link_at, no_link, AreToOneKey, HasNone, IsComposed, IsComposedOf, IsCut, IsFound, IsIndexed, IsLast, IsLastOn, IsLinked, is_up_to, patch_at, patch_or, renewed}
 use Rattle.mv_undo.proofs.Indexing.{below_misses, on_full, on_itself, on_own, on_parts}
 use Rattle.mv_undo.proofs.Linking.{at_key, at_last, at_more, some_weaker, writes_lined}

@@ -13,7 +13,7 @@ use Rattle.mv_values.specs.declared.value.Value.TheVariants.{Int}
 use Rattle.mv_values.specs.Order.{key_order}
 use Rattle.mv_values.proofs.KeyOrder.{key_order_total, tied, same_table}
 use Rattle.mv_record.specs.Writes.{is_on}
-use Rattle.mv_undo.specs.declared.owned.Owned.{Owned}
+use Rattle.mv_undo.specs.Owned.{Owned}
 use Rattle.mv_table.specs.declared.span.Span.{Span}
 use Rattle.mv_table.specs.Spans.{is_past, is_within, RunsTo, IsForward}
 use Rattle.mv_undo.specs.Indexing.{owned_at, full_key, key_at, AreLast, HasNone, IsLast, IsCut, is_below, is_up_to, end_of, end_in}

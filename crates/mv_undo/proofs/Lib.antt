@@ -1,4 +1,5 @@
 pub mod Owning
+pub mod Placing
 pub mod Fixing
 pub mod Laying
 pub mod Merging
@@ -8,5 +9,7 @@ pub mod Looking
 pub mod Linking
 pub mod Growing
 pub mod Shrinking
+pub mod Adding
 pub mod Taking
 pub mod Writing
+pub mod Finding

@@ -10,7 +10,7 @@ use Rattle.mv_values.specs.declared.value.Value.{Value}
 use Rattle.mv_values.specs.declared.patch.Patch.{Patch}
 use Rattle.mv_record.specs.Writes.{is_on, writes_on, patched_by}
 use Rattle.mv_undo.specs.declared.links.Link.{Link}
-use Rattle.mv_undo.specs.declared.owned.Owned.{Owned}
+use Rattle.mv_undo.specs.Owned.{Owned}
 use Rattle.mv_undo.specs.Owning.{IsInOrder, before, earlier, touches}
 use Rattle.mv_undo.specs.Indexing.{owned_at, owned_on, AreToOneKey, IsLastOn, IsLinked, IsUpTo, IsComposed, DoesAll, link_at, patch_at}
 use Rattle.mv_undo.proofs.Indexing.{on_parts}

@@ -14,7 +14,7 @@ use Rattle.mv_values.specs.declared.patch.Patch.{Patch}
 use Rattle.mv_values.specs.Order.{key_order}
 use Rattle.mv_record.specs.Writes.{is_on}
 use Rattle.mv_undo.specs.declared.links.Link.{Link}
-use Rattle.mv_undo.specs.declared.owned.Owned.{Owned}
+use Rattle.mv_undo.specs.Owned.{Owned}
 use Rattle.mv_undo.specs.Owning.{before}
 use Rattle.mv_undo.specs.Indexing.{owned_at, owned_on, full_key, key_at, link_at, no_link, AreToOneKey, GoesBack, HasNone, IsComposed, IsComposedOf, IsIndexed, IsLast, IsLastOn, IsLinked, patch_at, patch_or}
 use Rattle.mv_undo.proofs.Indexing.{on_full, on_itself, on_parts}

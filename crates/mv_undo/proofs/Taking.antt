@@ -15,6 +15,7 @@ use Rattle.std.specs.declared.cmp.Ordering.TheVariants.{Less}
 use Rattle.mv_values.specs.declared.value.Value.{Value}
 use Rattle.mv_values.specs.declared.value.Value.TheVariants.{Int}
 use Rattle.mv_values.specs.declared.rows.Keyed.{Keyed}
+use Rattle.mv_values.specs.declared.patch.Write.{Write}
 use Rattle.mv_values.specs.declared.pred.Pred.{Pred}
 use Rattle.mv_values.specs.Order.{key_order}
 use Rattle.mv_values.specs.Patching.{row_of}
@@ -26,7 +27,7 @@ use Rattle.mv_table.specs.declared.scan.Direction.TheVariants.{Forward, Backward
 use Rattle.mv_table.specs.Scans.{with_foremost}
 use Rattle.mv_table.proofs.Scanning.{with_mapped}
 use Rattle.mv_record.specs.Writes.{is_on}
-use Rattle.mv_undo.specs.declared.owned.Owned.{Owned}
+use Rattle.mv_undo.specs.Owned.{Owned}
 use Rattle.mv_undo.specs.Taking.{meets_first, is_sought_at, sought_keys, HasAdmitted}
 use Rattle.mv_undo.specs.Indexing.{owned_at, key_at, AreLast, IsLast, IsLastOn}
 use Rattle.mv_undo.specs.Owning.{before, earlier, touches, is_sought, is_among, AreSought}
@@ -192,7 +193,7 @@ module _ (pred : Pred) (number : ℕ) (items : List Owned) (places : List ℕ) w
 
 -- Whether a key is one of them
 
-module _ (pred : Pred) (number : ℕ) (items : List Owned) (place : ℕ) (o : Owned) (m : Option ℕ) (there : o ≡ owned_at items place) (same : o.write.table ≡ pred.table)
+module _ (pred : Pred) (number : ℕ) (items : List Owned) (place : ℕ) (w : Write) (m : Option ℕ) (there : w ≡ (owned_at items place).write) (same : w.table ≡ pred.table)
     (last : IsLastOn (before number items) (owned_at items place).write.table (owned_at items place).write.key m) where
   tests : (b : Bool) → is_some m ≡ b → is_sought_at pred number items place ≡ b && admits pred (owned_at items place).write.key
   tests b is =
@@ -201,10 +202,10 @@ module _ (pred : Pred) (number : ℕ) (items : List Owned) (place : ℕ) (o : Ow
       (ap (λ t. touches t (owned_at items place).write.key (earlier number items)) (sym table) ∙ (sym (touched_last number (owned_at items place).write.table (owned_at items place).write.key items m last) ∙ is))
     where
       table : (owned_at items place).write.table ≡ pred.table
-      table = ap (λ (x : Owned). x.write.table) (sym there) ∙ same
+      table = ap (λ (x : Write). x.table) (sym there) ∙ same
 
-  pub sought_there : is_some m ≡ true → admits pred o.write.key ≡ is_sought_at pred number items place
-  sought_there is = ap (λ (x : Owned). admits pred x.write.key) there ∙ sym (tests true is)
+  pub sought_there : is_some m ≡ true → admits pred w.key ≡ is_sought_at pred number items place
+  sought_there is = ap (λ (x : Write). admits pred x.key) there ∙ sym (tests true is)
 
   pub sought_not : is_some m ≡ false → false ≡ is_sought_at pred number items place
   sought_not is = sym (tests false is)

@@ -1,11 +1,11 @@
 -- The writes of records, each with the number of its record.
 use Rattle.std.proofs.Common.{◌≡◌, ◌≤◌, ◌<◌, ◌+◌, ℕ, zero, suc, Bool, true, false, List, [], ◌∷◌, ◌++◌, All, map, length, take, nat_lt, if◌then◌else◌, refl, sym, ap, ◌∙◌, arith, append-nil, append_assoc}
 use Rattle.std.proofs.lemmas.Bool.{lt-ltb, le-ltb}
-use Rattle.std.proofs.lemmas.List.Elements.{All-nil, All-cons, All-append, All-weaker}
+use Rattle.std.proofs.lemmas.List.Elements.{All-nil, All-cons, All-append, All-weaker, filter-append}
 use Rattle.mv_values.specs.declared.patch.Write.{Write}
 use Rattle.mv_record.specs.declared.record.Record.{Record}
 use Rattle.mv_record.specs.Runs.{writes_in}
-use Rattle.mv_undo.specs.declared.owned.Owned.{Owned}
+use Rattle.mv_undo.specs.Owned.{Owned}
 use Rattle.mv_undo.specs.Owning.{undo_of, undo_of_all, before, earlier, HasWritesOf}
 
 -- Numbers
@@ -61,6 +61,34 @@ none_earlier number n [] le = refl
 none_earlier number n (r ∷ rs) le =
     earlier_both number (undo_of n r.writes) (undo_of_all (n + 1) rs)
     ∙ (ap (λ ws. ws ++ earlier number (undo_of_all (n + 1) rs)) (later_undo number n r.writes le) ∙ none_earlier number (n + 1) rs (omega (arith, le)))
+
+-- so it is for the writes with their numbers
+
+before_undo : (number n : ℕ) (ws : List Write) → n < number → before number (undo_of n ws) ≡ undo_of n ws
+before_undo number n [] lt = refl
+before_undo number n (w ∷ ws) lt =
+    ap (λ b. let o : Owned = record { number = n; write = w } in if b then o ∷ before number (undo_of n ws) else before number (undo_of n ws)) (lt-ltb n number lt)
+    ∙ ap (λ os. (let o : Owned = record { number = n; write = w } in o) ∷ os) (before_undo number n ws lt)
+
+later_before : (number n : ℕ) (ws : List Write) → number ≤ n → before number (undo_of n ws) ≡ []
+later_before number n [] le = refl
+later_before number n (w ∷ ws) le =
+    ap (λ b. let o : Owned = record { number = n; write = w } in if b then o ∷ before number (undo_of n ws) else before number (undo_of n ws)) (le-ltb n number le) ∙ later_before number n ws le
+
+none_before : (number n : ℕ) (rs : List Record) → number ≤ n → before number (undo_of_all n rs) ≡ []
+none_before number n [] le = refl
+none_before number n (r ∷ rs) le =
+    filter-append (λ (o : Owned). nat_lt o.number number) (undo_of n r.writes) (undo_of_all (n + 1) rs)
+    ∙ (ap (λ os. os ++ before number (undo_of_all (n + 1) rs)) (later_before number n r.writes le) ∙ none_before number (n + 1) rs (omega (arith, le)))
+
+pub first_before : (n k : ℕ) (rs : List Record) → before (n + k) (undo_of_all n rs) ≡ undo_of_all n (take k rs)
+first_before n zero [] = refl
+first_before n (suc k) [] = refl
+first_before n zero (r ∷ rs) = none_before (n + 0) n (r ∷ rs) (omega arith)
+first_before n (suc k) (r ∷ rs) =
+    filter-append (λ (o : Owned). nat_lt o.number (n + suc k)) (undo_of n r.writes) (undo_of_all (n + 1) rs)
+    ∙ (ap (λ os. os ++ before (n + suc k) (undo_of_all (n + 1) rs)) (before_undo (n + suc k) n r.writes (omega arith))
+    ∙ ap (λ os. undo_of n r.writes ++ os) (ap (λ m. before m (undo_of_all (n + 1) rs)) (let e : n + suc k ≡ n + 1 + k = omega arith in e) ∙ first_before (n + 1) k rs))
 
 -- of records, of which the first has a number, those are earlier that the first records have
 first_earlier : (n k : ℕ) (rs : List Record) → earlier (n + k) (undo_of_all n rs) ≡ writes_in (take k rs)

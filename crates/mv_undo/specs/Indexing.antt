@@ -13,7 +13,7 @@ use Rattle.mv_values.specs.Patching.{patched}
 use Rattle.mv_table.specs.declared.span.Span.{Span}
 use Rattle.mv_record.specs.Writes.{is_on, patched_by}
 use Rattle.mv_undo.specs.declared.links.Link.{Link}
-use Rattle.mv_undo.specs.declared.owned.Owned.{Owned}
+use Rattle.mv_undo.specs.Owned.{Owned}
 use Rattle.mv_undo.specs.Owning.{before}
 
 -- the write at a place; a write to an empty key if there is none

@@ -13,7 +13,7 @@ use Rattle.mv_values.specs.Preds.{admits}
 use Rattle.mv_record.specs.declared.record.Record.{Record}
 use Rattle.mv_record.specs.Runs.{writes_in}
 pub use Rattle.mv_record.specs.Writes.{touches}
-use Rattle.mv_undo.specs.declared.owned.Owned.{Owned}
+use Rattle.mv_undo.specs.Owned.{Owned}
 
 -- the writes of a record with this number
 abbrev pub undo_of : ℕ → List Write → List Owned

@@ -6,9 +6,8 @@ ghost use Rattle.mv_undo.specs.Taking.{sought_keys, HasAdmitted};
 ghost use Rattle.mv_undo.specs.Indexing.{AreLast, IsLinked};
 ghost use Rattle.mv_undo.specs.Owning.{earlier, AreSought, IsInOrder};
 
+use crate::items::Items;
 use crate::links::{Link, is_sought};
-use crate::lookup::write_at;
-use crate::owned::Owned;
 use mv_table::scan::Direction;
 use mv_values::pred_ref::PredRef;
 use mv_values::value::Key;
@@ -17,7 +16,7 @@ use std::marker::Model;
 /// Returns the key that a scan of these places meets first of those that a predicate seeks, and the places that it meets
 /// later.
 fn first_sought<'a>(
-    items: &'a [Owned],
+    items: &Items<'a>,
     links: &[Link],
     places: &'a [usize],
     number: usize,
@@ -33,7 +32,7 @@ fn first_sought<'a>(
     let mut left = places;
     while let Some((place, later)) = direction.split(left) {
         if is_sought(items, links, *place, number, pred) {
-            return Some((&write_at(items, *place).write.key, later));
+            return Some((&items.write(*place).key, later));
         }
         left = later;
     }
@@ -43,7 +42,7 @@ fn first_sought<'a>(
 /// The keys that a predicate seeks among own writes, each once, in order. They are taken from either end.
 #[derive(Drop)]
 pub struct SoughtKeys<'a> {
-    items: &'a [Owned],
+    items: Items<'a>,
     links: &'a [Link],
     places: &'a [usize],
     number: usize,
@@ -59,25 +58,25 @@ impl<'a> Model for SoughtKeys<'a> {
 
     ghost Value = { Seq (Seq Column) };
 
-    ghost view = { λ s. sought_keys s.pred.now s.number s.items.now s.places.now };
+    ghost view = { λ s. sought_keys s.pred.now s.number s.items s.places.now };
 
-    ghost invariant = { λ s. IsLinked s.items.now s.links.now × IsInOrder s.items.now × AreLast s.items.now s.places.now };
+    ghost invariant = { λ s. IsLinked s.items s.links.now × IsInOrder s.items × AreLast s.items s.places.now };
 }
 
 impl<'a> SoughtKeys<'a> {
     /// Returns the keys at these places that the predicate seeks.
     pub(crate) fn new(
-        items: &'a [Owned],
+        items: Items<'a>,
         links: &'a [Link],
         places: &'a [usize],
         number: usize,
         pred: &'a PredRef<'a>,
     ) -> SoughtKeys<'a>
-        requires linked { IsLinked items.now links.now }
-        requires numbers { IsInOrder items.now }
-        requires last { AreLast items.now places.now }
-        requires admitted { HasAdmitted pred.now items.now places.now }
-        ensures { AreSought pred.now (earlier number items.now) result }
+        requires linked { IsLinked items links.now }
+        requires numbers { IsInOrder items }
+        requires last { AreLast items places.now }
+        requires admitted { HasAdmitted pred.now items places.now }
+        ensures { AreSought pred.now (earlier number items.entry) result }
     {
         SoughtKeys {
             items,
@@ -94,7 +93,7 @@ impl<'a> SoughtKeys<'a> {
         ensures { MatchOption result (self.old ≡ []) (λ key. self.old ≡ with_foremost direction key.now self.new) }
     {
         let found = first_sought(
-            self.items,
+            &self.items,
             self.links,
             self.places,
             self.number,

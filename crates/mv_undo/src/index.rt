@@ -1,26 +1,17 @@
 //! An index of the own writes by table and key.
 
-ghost use Rattle.std.specs.Prelude.{◌≡◌, ◌<◌, ◌≤◌, ◌∷◌, [], true, pos, List, IfSome, OnOk, OnErr, length, slice_get, slice_range};
-ghost use Rattle.std.specs.Option.{option_copied};
+ghost use Rattle.std.specs.Prelude.{◌≡◌, ◌<◌, ◌≤◌, ◌∷◌, [], true, pos, List, IfSome, OnOk, OnErr, length, slice_range};
 ghost use Rattle.mv_values.specs.declared.value.Value.{Value};
 ghost use Rattle.mv_values.specs.declared.value.Value.TheVariants.{Int};
 ghost use Rattle.mv_values.specs.Order.{value_order, key_order};
 ghost use Rattle.mv_table.specs.Spans.{is_within, IsForward};
 ghost use Rattle.mv_undo.specs.Indexing.{AreLast, HasNone, IsIndexed, IsCut, IsFound, IsLastOn, is_below, is_up_to, end_in, key_at, owned_on, renewed};
 
-use crate::lookup::write_at;
-use crate::owned::Owned;
+use crate::items::{Items, is_on};
 use mv_table::span::Span;
 use mv_values::memory::NoMemory;
 use mv_values::value::{Key, Value};
 use std::cmp::Ordering;
-
-/// Returns the write at a place.
-fn at(items: &[Owned], place: usize) -> Option<&Owned>
-    ensures { option_copied result ≡ slice_get items.now place }
-{
-    items.get(place)
-}
 
 /// Compares a table with another.
 fn order_of_tables(table: u8, other: u16) -> Ordering
@@ -41,16 +32,16 @@ fn compare(table: u8, key: &Key, other: u16, other_key: &Key) -> Ordering
 }
 
 /// Compares the key of the write at a place with a key of a table.
-fn compare_at(items: &[Owned], place: usize, table: u16, key: &Key) -> Ordering
+#[tactic(auto, using(crate::proofs::Placing::key_past))]
+fn compare_at(items: &Items<'_>, place: usize, table: u16, key: &Key) -> Ordering
     ensures { result ≡ key_order (key_at items.now place) (Int (pos table) ∷ key.now) }
 {
-    match at(items, place) {
-        Some(owned) => compare(owned.write.table, &owned.write.key, table, key),
-        None => {
-            let empty = Key::new();
-            compare(0, &empty, table, key)
-        }
+    if place < items.len() {
+        let write = items.write(place);
+        return compare(write.table, &write.key, table, key);
     }
+    let empty = Key::new();
+    compare(0, &empty, table, key)
 }
 
 /// Returns the places from index `from` up to `to`.
@@ -63,7 +54,7 @@ fn part(order: &[usize], from: usize, to: usize) -> &[usize]
 }
 
 /// Counts the places whose writes are below a key of a table. Costs the logarithm of the number of places.
-pub(crate) fn count_below(items: &[Owned], places: &[usize], table: u16, key: &Key) -> usize
+pub(crate) fn count_below(items: &Items<'_>, places: &[usize], table: u16, key: &Key) -> usize
     requires { AreLast items.now places.now }
     ensures within { result ≤ length places.now }
     ensures below { IsCut (is_below items.now (Int (pos table) ∷ key.now)) places.now result }
@@ -77,7 +68,7 @@ pub(crate) fn count_below(items: &[Owned], places: &[usize], table: u16, key: &K
 
 /// Counts the places whose writes are up to and including a key of a table. Costs the logarithm of the number of
 /// places.
-pub(crate) fn count_up_to(items: &[Owned], places: &[usize], table: u16, key: &Key) -> usize
+pub(crate) fn count_up_to(items: &Items<'_>, places: &[usize], table: u16, key: &Key) -> usize
     requires { AreLast items.now places.now }
     ensures within { result ≤ length places.now }
     ensures up_to { IsCut (is_up_to items.now (Int (pos table) ∷ key.now)) places.now result }
@@ -92,7 +83,7 @@ pub(crate) fn count_up_to(items: &[Owned], places: &[usize], table: u16, key: &K
 /// Returns the place of the last write to a key, if there is one. `at` counts the places whose writes are up to and
 /// including the key.
 pub(crate) fn found_at(
-    items: &[Owned],
+    items: &Items<'_>,
     order: &[usize],
     at: usize,
     table: u8,
@@ -107,14 +98,14 @@ pub(crate) fn found_at(
         return None;
     }
     let place = order[at - 1];
-    if !write_at(items, place).is_on(table, key) {
+    if !is_on(items.write(place), table, key) {
         return None;
     }
     Some(place)
 }
 
 /// Returns the place of the last write to a key, if there is one. Costs the logarithm of the number of written keys.
-pub(crate) fn last_on(items: &[Owned], order: &[usize], table: u8, key: &Key) -> Option<usize>
+pub(crate) fn last_on(items: &Items<'_>, order: &[usize], table: u8, key: &Key) -> Option<usize>
     requires { IsIndexed items.now order.now }
     ensures { IsLastOn items.now table key.now result }
 {
@@ -143,7 +134,7 @@ pub(crate) fn renew(
 }
 
 /// Counts the places whose writes are to lower tables, or to the table before the end of a span of keys.
-fn count_before_end(items: &[Owned], order: &[usize], table: u8, span: &Span) -> usize
+fn count_before_end(items: &Items<'_>, order: &[usize], table: u8, span: &Span) -> usize
     requires { AreLast items.now order.now }
     ensures within { result ≤ length order.now }
     ensures before { IsCut (is_below items.now (end_in table span.now)) order.now result }
@@ -160,7 +151,7 @@ fn count_before_end(items: &[Owned], order: &[usize], table: u8, span: &Span) ->
 /// Returns the places of the last writes to keys of a table that are in a span. Costs the logarithm of the number of
 /// written keys.
 pub(crate) fn places_in<'a>(
-    items: &[Owned],
+    items: &Items<'_>,
     order: &'a [usize],
     table: u8,
     span: &Span,

@@ -3,10 +3,13 @@
 
 pub mod ends;
 mod index;
+mod items;
 mod links;
 mod lookup;
 mod merge;
 mod overlay;
-pub mod owned;
+pub mod own_index;
+pub mod own_writes;
+pub mod place;
 mod state;
 pub mod undo;

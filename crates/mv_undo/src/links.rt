@@ -6,8 +6,7 @@ ghost use Rattle.mv_undo.specs.Indexing.{GoesBack, IsLast, IsLastOn, IsLinked, I
 ghost use Rattle.mv_undo.specs.Owning.{before, IsInOrder};
 ghost use Rattle.mv_undo.specs.Taking.{is_sought_at};
 
-use crate::lookup::write_at;
-use crate::owned::Owned;
+use crate::items::Items;
 use mv_values::pred_ref::PredRef;
 
 /// Where the earlier writes to the key of a write are.
@@ -32,7 +31,7 @@ fn link_at(links: &[Link], place: usize) -> Link
 /// Returns the place that a new write skips to, given that of the last write to its key. This is where two skips lead
 /// from there, if both pass as many writes, and else that place itself. So any way back takes as many skips and steps as
 /// the logarithm of the number of writes.
-fn skip_from(items: &[Owned], links: &[Link], place: usize) -> usize
+fn skip_from(items: &Items<'_>, links: &[Link], place: usize) -> usize
     requires linked { IsLinked items.now links.now }
     requires within { place < length items.now }
     ensures { (result ≤ place) × AreToOneKey items.now place result }
@@ -53,7 +52,7 @@ fn skip_from(items: &[Owned], links: &[Link], place: usize) -> usize
 }
 
 /// Returns the link of a new write, given the place of the last write to its key, if there is one.
-pub(crate) fn link_to(items: &[Owned], links: &[Link], before: Option<usize>) -> Link
+pub(crate) fn link_to(items: &Items<'_>, links: &[Link], before: Option<usize>) -> Link
     requires linked { IsLinked items.now links.now }
     requires within { IfSome before (λ place. place < length items.now) }
     ensures before { result.before ≡ before }
@@ -76,7 +75,7 @@ pub(crate) fn link_to(items: &[Owned], links: &[Link], before: Option<usize>) ->
 
 /// Returns the place of an earlier write to the key of the write at a place, if there is one, such that no record below
 /// `number` wrote the key between the two. The record of the write at the place isn't below `number`.
-fn back_from(items: &[Owned], links: &[Link], place: usize, number: usize) -> Option<usize>
+fn back_from(items: &Items<'_>, links: &[Link], place: usize, number: usize) -> Option<usize>
     requires linked { IsLinked items.now links.now }
     requires numbers { IsInOrder items.now }
     requires within { place < length items.now }
@@ -86,7 +85,7 @@ fn back_from(items: &[Owned], links: &[Link], place: usize, number: usize) -> Op
 {
     let link = link_at(links, place);
     if let Some(far) = link.far {
-        if !write_at(items, far).is_before(number) {
+        if !items.is_before(far, number) {
             return Some(far);
         }
     }
@@ -96,7 +95,7 @@ fn back_from(items: &[Owned], links: &[Link], place: usize, number: usize) -> Op
 /// Returns the place of the last write to a key by a record below `number`, given that of the last write to the key, if
 /// there is one. Costs the logarithm of the number of writes to the key by other records.
 pub(crate) fn last_before(
-    items: &[Owned],
+    items: &Items<'_>,
     links: &[Link],
     last: Option<usize>,
     number: usize,
@@ -108,7 +107,7 @@ pub(crate) fn last_before(
 {
     let mut last = last;
     while let Some(place) = last {
-        if write_at(items, place).is_before(number) {
+        if items.is_before(place, number) {
             return Some(place);
         }
         last = back_from(items, links, place, number);
@@ -119,7 +118,7 @@ pub(crate) fn last_before(
 /// Whether a predicate seeks the key of the write at a place, which is the last write to it, and a record below `number`
 /// wrote the key.
 pub(crate) fn is_sought(
-    items: &[Owned],
+    items: &Items<'_>,
     links: &[Link],
     place: usize,
     number: usize,
@@ -130,7 +129,7 @@ pub(crate) fn is_sought(
     requires last { IsLast items.now place }
     ensures { result ≡ is_sought_at pred.now number items.now place }
 {
-    let write = &write_at(items, place).write;
+    let write = items.write(place);
     let table = pred.table();
     if write.table != table {
         return false;
@@ -143,7 +142,7 @@ pub(crate) fn is_sought(
 
 /// Puts the places of the last writes by records below `number` in place of those of the last writes to their keys. Where
 /// no such record wrote a key, its place stays.
-pub(crate) fn go_back(items: &[Owned], links: &[Link], order: &mut Vec<usize>, number: usize)
+pub(crate) fn go_back(items: &Items<'_>, links: &[Link], order: &mut Vec<usize>, number: usize)
     requires linked { IsLinked items.now links.now }
     requires numbers { IsInOrder items.now }
     requires last { All (IsLast items.now) order.old.items }

@@ -26,7 +26,7 @@ fn matched(pred: &PredRef<'_>, row: Option<Row>) -> Option<Row>
     }
 }
 
-impl Undo {
+impl Undo<'_> {
     /// Returns the predicate's rows after the writes of records below `number`. `keys` are those that `Undo::keys`
     /// returns. `rows` are the predicate's rows before these writes. `own` has the database's rows before them at those
     /// keys for which `fixes` doesn't hold. Fails if memory runs out. Moves each row once.

@@ -7,8 +7,7 @@ ghost use Rattle.mv_record.specs.Writes.{writes_on};
 ghost use Rattle.mv_undo.specs.Indexing.{IsComposed, IsLastOn, IsComposedOf, DoesAll, patch_at, patch_or};
 ghost use Rattle.mv_undo.specs.Owning.{is_whole};
 
-use crate::lookup::write_at;
-use crate::owned::Owned;
+use crate::items::Items;
 use mv_record::composing::compose;
 use mv_values::memory::NoMemory;
 use mv_values::patch::{Patch, Write};
@@ -26,20 +25,20 @@ pub(crate) fn is_whole(patch: &Patch) -> bool
 }
 
 /// Returns the patch that is kept for the write at a place.
-fn patch_at<'a>(items: &'a [Owned], composed: &'a [Option<Patch>], place: usize) -> &'a Patch
+fn patch_at<'a>(items: &Items<'a>, composed: &'a [Option<Patch>], place: usize) -> &'a Patch
     requires items { place < length items.now }
     requires composed { place < length composed.now }
     ensures { result.now ≡ patch_at items.now composed.now place }
 {
     match &composed[place] {
         Some(patch) => patch,
-        None => &write_at(items, place).write.patch,
+        None => &items.write(place).patch,
     }
 }
 
 /// Returns the patch that is kept for the write at a place, if a place is given.
 pub(crate) fn patch_up_to<'a>(
-    items: &'a [Owned],
+    items: &Items<'a>,
     composed: &'a [Option<Patch>],
     last: Option<usize>,
 ) -> Option<&'a Patch>
@@ -72,7 +71,7 @@ fn patch_after(
 /// writes to its key and then itself do. `None` if its own patch does that, as a whole row and a deletion always do.
 pub(crate) fn patch_with(
     alloc: Global,
-    items: &[Owned],
+    items: &Items<'_>,
     composed: &[Option<Patch>],
     last: Option<usize>,
     write: &Write,

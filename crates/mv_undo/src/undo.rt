@@ -1,17 +1,20 @@
 //! The writes of a running call, in order.
 
-ghost use Rattle.std.specs.Prelude.{◌≡◌, ◌≤◌, nat_lt, [], ◌∷◌, ◌++◌, All, IfOk, OnOk, OnErr};
+ghost use Rattle.std.specs.Prelude.{◌≡◌, ◌==◌, IfOk, length};
 ghost use Rattle.std.specs.Option.{option_copied};
 ghost use Rattle.mv_record.specs.Writes.{writes_on, patched_by};
-ghost use Rattle.mv_undo.specs.Owning.{IsInOrder, before, earlier, is_fixed, touches, AreSought};
+ghost use Rattle.mv_undo.specs.Owned.{owned_by};
+ghost use Rattle.mv_undo.specs.Owning.{before, earlier, is_fixed, touches, AreSought};
+ghost use Rattle.mv_undo.specs.Indexed.{IsIndexOf};
 ghost use Rattle.mv_undo.specs.Indexing.{DoesAll, IsLastOn};
 
 use crate::ends::SoughtKeys;
-use crate::index::{count_up_to, found_at, last_on, places_in, renew};
-use crate::links::{Link, go_back, last_before, link_to};
+use crate::index::{last_on, places_in};
+use crate::items::Items;
+use crate::links::last_before;
 use crate::lookup::copy_of;
-use crate::owned::Owned;
-use crate::state::{is_whole, patch_up_to, patch_with};
+use crate::own_index::OwnIndex;
+use crate::state::{is_whole, patch_up_to};
 use mv_record::applying::patch_row;
 use mv_table::scan::Direction;
 use mv_table::span::Span;
@@ -24,112 +27,47 @@ use mv_values::value::{Key, Row};
 use std::alloc::Global;
 use std::marker::Model;
 
-/// The writes of a running call, each with the number of its record. Contracts see them in the order of `push`. `order`
-/// has the place of the last write to each key, by table and key. `links` has for each write where the earlier writes
-/// to its key are. `composed` has for each write the patch that does what the writes to its key do up
-/// to it, or `None` where its own patch does.
-pub struct Undo {
-    alloc: Global,
-    items: Vec<Owned>,
-    composed: Vec<Option<Patch>>,
-    links: Vec<Link>,
-    order: Vec<usize>,
+/// The writes of a running call, each with the number of its record. The log of the call has the writes, and an index
+/// finds them. Contracts see them in the order of the index.
+#[derive(Drop)]
+pub struct Undo<'u> {
+    index: &'u OwnIndex,
+    writes: &'u [Write],
 }
 
-impl Drop for Undo {
-    /// Drops the lists. A drop of its own is one step for who drops own writes; a derived one is a step for each list.
-    fn drop(self) {
-        let Undo {
-            alloc: _,
-            items: _,
-            composed: _,
-            links: _,
-            order: _,
-        } = self;
-    }
-}
-
-impl Model for Undo {
+impl<'u> Model for Undo<'u> {
     ghost use Rattle.std.specs.Prelude.{List as Seq};
-    ghost use Rattle.mv_undo.specs.declared.owned.Owned.{Owned};
-    ghost use Rattle.mv_undo.specs.Owning.{IsInOrder};
-    ghost use Rattle.mv_undo.specs.Indexing.{IsComposed, IsIndexed, IsLinked};
+    ghost use Rattle.mv_undo.specs.Owned.{owned_by, Owned};
+    ghost use Rattle.mv_undo.specs.Indexed.{IsIndexOf};
 
     ghost Value = { Seq Owned };
 
-    ghost view = { λ u. u.items.items };
+    ghost view = { λ u. owned_by u.index.now.places u.writes.now };
 
-    ghost invariant = { λ u. IsInOrder u.items.items × IsComposed u.items.items u.composed.items × IsLinked u.items.items u.links.items × IsIndexed u.items.items u.order.items };
+    ghost invariant = { λ u. IsIndexOf u.index.now u.writes.now };
 }
 
-impl Undo {
-    /// Returns an `Undo` without writes. Allocates nothing.
-    pub fn new(alloc: Global) -> Undo
-        ensures { result ≡ [] }
+impl<'u> Undo<'u> {
+    /// Returns the writes of an index. These are the writes of its log.
+    pub fn of(index: &'u OwnIndex, writes: &'u [Write]) -> Undo<'u>
+        requires { IsIndexOf index.now writes.now }
+        ensures { result ≡ owned_by index.now.places writes.now }
     {
-        Undo {
-            alloc,
-            items: Vec::new(alloc),
-            composed: Vec::new(alloc),
-            links: Vec::new(alloc),
-            order: Vec::new(alloc),
-        }
+        Undo { index, writes }
     }
 
-    /// Borrows the writes.
-    pub fn as_slice(&self) -> &[Owned]
-        ensures items { result.now ≡ self.now }
-        ensures order { IsInOrder self.now }
+    /// Whether there are none.
+    pub fn is_empty(&self) -> bool
+        ensures { result ≡ (length self.now == 0) }
     {
-        self.items.as_slice()
+        self.index.places().is_empty()
     }
 
-    /// Appends a write. `number` may not be below that of the last write. Fails if memory runs out; nothing is then
-    /// added. Costs the logarithm of the number of written keys. The first write to a key also moves one place for each
-    /// greater key. A `Patch::Set` after another write to its key also costs the size of the row.
-    pub fn push(&mut self, number: usize, write: Write) -> Result<(), NoMemory>
-        requires { All (λ o. o.number ≤ number) self.old }
-        ensures ok { OnOk result (self.new ≡ self.old ++ record { number = number; write = write } ∷ []) }
-        ensures err { OnErr result (self.new ≡ self.old) }
+    /// Lends the writes in their order.
+    fn items(&self) -> Items<'u>
+        ensures { result ≡ self.now }
     {
-        let items = self.items.as_slice();
-        let order = self.order.as_slice();
-        let at = count_up_to(items, order, write.table as u16, &write.key);
-        let before = found_at(items, order, at, write.table, &write.key);
-        let composed = self.composed.as_slice();
-        let patch = patch_with(self.alloc, items, composed, before, &write)?;
-        let link = link_to(items, self.links.as_slice(), before);
-        let last = self.items.len();
-        self.items.reserve(1)?;
-        self.composed.reserve(1)?;
-        self.links.reserve(1)?;
-        renew(&mut self.order, at, before, last)?;
-        self.composed.push(patch)?;
-        self.links.push(link)?;
-        self.items.push(Owned { number, write })?;
-        Ok(())
-    }
-
-    /// Removes the writes of the record with this number and of later ones. Allocates nothing. Costs the number of
-    /// written keys and of removed writes.
-    pub fn drop_from(&mut self, number: usize)
-        ensures { self.new ≡ before number self.old }
-    {
-        let items = self.items.as_slice();
-        let len = items.partition_point(
-            |owned: &Owned| -> bool
-                ensures { result ≡ nat_lt owned.now.number number }
-            { owned.is_before(number) },
-        );
-        go_back(items, self.links.as_slice(), &mut self.order, number);
-        self.items.truncate(len);
-        self.composed.truncate(len);
-        self.links.truncate(len);
-        self.order.retain(
-            |place: &usize| -> bool
-                ensures { result ≡ nat_lt place.now len }
-            { *place < len },
-        );
+        Items::of(self.index.places(), self.writes)
     }
 
     /// Returns the place of the last write to a key by a record below `number`, if there is one. Costs the logarithm of
@@ -137,9 +75,9 @@ impl Undo {
     fn last_earlier(&self, number: usize, table: u8, key: &Key) -> Option<usize>
         ensures { IsLastOn (before number self.now) table key.now result }
     {
-        let items = self.items.as_slice();
-        let last = last_on(items, self.order.as_slice(), table, key);
-        last_before(items, self.links.as_slice(), last, number)
+        let items = self.items();
+        let last = last_on(&items, self.index.order(), table, key);
+        last_before(&items, self.index.links(), last, number)
     }
 
     /// Whether a record below `number` wrote the key. Allocates nothing. Costs the logarithm of the number of writes.
@@ -179,9 +117,9 @@ impl Undo {
         ensures { IfOk result (λ keys. AreSought pred.now (earlier number self.now) keys) }
     {
         let span = Span::of(alloc, pred.tests())?;
-        let items = self.items.as_slice();
-        let places = places_in(items, self.order.as_slice(), pred.table(), &span);
-        let links = self.links.as_slice();
+        let items = self.items();
+        let places = places_in(&items, self.index.order(), pred.table(), &span);
+        let links = self.index.links();
         Ok(SoughtKeys::new(items, links, places, number, pred))
     }
 
@@ -190,7 +128,7 @@ impl Undo {
         ensures { DoesAll (option_copied result) (writes_on table key.now (earlier number self.now)) }
     {
         let last = self.last_earlier(number, table, key);
-        patch_up_to(self.items.as_slice(), self.composed.as_slice(), last)
+        patch_up_to(&self.items(), self.index.composed(), last)
     }
 
     /// Whether the writes to a key by records below `number` leave the same row, whatever row was there before them. They

@@ -1,2 +1,1 @@
-pub mod Commits
 pub mod Walking

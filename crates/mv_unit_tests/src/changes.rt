@@ -1,7 +1,6 @@
 //! The changes of commits, and what they hit, worked out by hand. The one table has a key, and two columns more.
 
-ghost use Rattle.std.specs.Prelude.{◌≡◌, ◌≤◌, [], All, IfOk, OnOk, length};
-ghost use Rattle.mv_log.specs.Logged.{no_effect};
+ghost use Rattle.std.specs.Prelude.{◌≡◌, ◌≤◌, [], IfOk, length};
 ghost use Rattle.mv_record.specs.Writes.{AreRising};
 
 use crate::cases::ensure_at;
@@ -14,7 +13,7 @@ use mv_changes::recent::Recent;
 use mv_history::change::{Change, Hit};
 use mv_log::log::Log;
 use mv_record::applying::put_row;
-use mv_undo::undo::Undo;
+use mv_undo::own_writes::OwnWrites;
 use mv_values::list::List;
 use mv_values::memory::NoMemory;
 use mv_values::op::Op;
@@ -252,9 +251,9 @@ const CASES: &[Case] = &[
 ];
 
 /// Returns the writes of a call whose first record wrote key 1.
-fn own(alloc: Global) -> Result<Undo, NoMemory> {
+fn own(alloc: Global) -> Result<OwnWrites, NoMemory> {
     let write = write(alloc, 0, 1, &Kind::Set(1))?;
-    let mut undo = Undo::new(alloc);
+    let mut undo = OwnWrites::new(alloc);
     undo.push(0, write)?;
     Ok(undo)
 }
@@ -281,8 +280,8 @@ fn hits(alloc: Global, case: &Case, change: &Change) -> Result<(bool, bool), Fai
     }
     let record = records.get(0);
     Ok((
-        hit(&record, 0, &undo, change),
-        hit(&record, 1, &undo, change),
+        hit(&record, 0, &undo.undo(), change),
+        hit(&record, 1, &undo.undo(), change),
     ))
 }
 
@@ -327,12 +326,7 @@ pub(crate) fn three(alloc: Global) -> Result<Recent, NoMemory>
 }
 
 /// Writes a record into the log that reads the second column of a row, and writes nothing.
-fn read(log: &mut Log, n: i64) -> Result<(), NoMemory>
-    requires blank { log.old.effect ≡ no_effect }
-    requires writes { All (λ r. r.writes ≡ []) log.old.records }
-    ensures blank { OnOk result (log.new.effect ≡ no_effect) }
-    ensures writes { OnOk result (All (λ r. r.writes ≡ []) log.new.records) }
-{
+fn read(log: &mut Log, n: i64) -> Result<(), NoMemory> {
     log.push_test(Test {
         column: 0,
         key_place: Some(0),
@@ -345,9 +339,7 @@ fn read(log: &mut Log, n: i64) -> Result<(), NoMemory>
 }
 
 /// Writes the records of a call that reads the second column of these rows, one by one.
-fn reads(alloc: Global, keys: &[i64]) -> Result<Log, NoMemory>
-    ensures { IfOk result (λ log. All (λ r. r.writes ≡ []) log.records) }
-{
+fn reads(alloc: Global, keys: &[i64]) -> Result<Log, NoMemory> {
     let mut log = Log::new(alloc);
     for n in keys {
         read(&mut log, *n)?;
@@ -365,7 +357,7 @@ fn found(
     requires { recent.now.low ≤ start }
 {
     let log = reads(alloc, keys)?;
-    match recent.first_hit(start, &log.records(), &Undo::new(alloc)) {
+    match recent.first_hit(start, &log.records(), &log.undo()) {
         Some(hit) => Ok(Some((hit.number, hit.commit))),
         None => Ok(None),
     }

@@ -370,33 +370,85 @@ fn fronts_end_at_the_last_record(rt: HostRuntime) -> Result<(), Fail> {
     Ok(())
 }
 
-/// Moves a write out of a record, and leaves a deletion of the key 5 there.
-fn take(alloc: Global, log: &mut Log, number: u32, at: u32) -> Result<Write, Fail> {
-    let key = key(alloc, &[5])?;
-    log.end_repair();
-    if number >= log.len() {
-        return Err("no such record".into());
+/// What is done after the run, a record's number, and the keys that the records below it wrote.
+type Own = (&'static [Step], usize, &'static str);
+
+const OWN: &[Own] = &[
+    (&[], 2, ""),
+    (&[], 3, " w8 w9"),
+    (&[Step::Write(4)], 9, " w8 w9"),
+    (&[Step::Write(4), Step::Close(4, None)], 3, " w8 w9"),
+    (&[Step::Write(4), Step::Close(4, None)], 4, " w4 w8 w9"),
+    (
+        &[Step::Write(8), Step::Close(4, None), Step::Truncate(3)],
+        9,
+        " w8 w9",
+    ),
+    (&[Step::Truncate(2)], 9, ""),
+    (
+        &[Step::Truncate(2), Step::Write(1), Step::Close(3, None)],
+        9,
+        " w1",
+    ),
+    (&[Step::Repair], 9, ""),
+    (&[Step::Repair, Step::Adopt(2, 3, None)], 0, ""),
+    (&[Step::Repair, Step::Adopt(2, 3, None)], 1, " w8 w9"),
+    (
+        &[
+            Step::Repair,
+            Step::Write(6),
+            Step::Close(2, None),
+            Step::Adopt(2, 3, None),
+        ],
+        1,
+        " w6",
+    ),
+    (
+        &[
+            Step::Repair,
+            Step::Write(6),
+            Step::Close(2, None),
+            Step::Adopt(2, 3, None),
+            Step::EndRepair,
+        ],
+        2,
+        " w6 w8 w9",
+    ),
+    (
+        &[Step::Repair, Step::Adopt(2, 3, None), Step::Truncate(0)],
+        9,
+        "",
+    ),
+    (&[Step::Clear], 9, ""),
+];
+
+/// Returns the keys that records below a number wrote, as `show` writes them.
+fn show_own(alloc: Global, log: &Log, number: usize) -> Result<String, Fail> {
+    let mut text = String::new(alloc);
+    for n in 0..10 {
+        if log.undo().touched(number, 0, &key(alloc, &[n])?) {
+            add(alloc, &mut text, "w", n)?;
+        }
     }
-    if at as usize >= log.records().get(number as usize).writes().len() {
-        return Err("no such write".into());
-    }
-    let blank = Write {
-        table: 0,
-        key,
-        patch: Patch::Delete,
-    };
-    Ok(log.take_write(number, at, blank))
+    Ok(text)
+}
+
+fn are_own_as_told(alloc: Global, log: &mut Log, case: &Own) -> Result<bool, Fail> {
+    let (more, number, keys) = *case;
+    log.clear();
+    take_steps(alloc, log, RUN)?;
+    take_steps(alloc, log, more)?;
+    Ok(show_own(alloc, log, number)?.as_str() == keys)
 }
 
 #[test]
-fn a_write_is_moved_out_alone(rt: HostRuntime) -> Result<(), Fail> {
+fn own_writes_are_those_of_the_records(rt: HostRuntime) -> Result<(), Fail> {
     let alloc = rt.alloc();
     let mut log = Log::new(alloc);
-    take_steps(alloc, &mut log, RUN)?;
-    let write = take(alloc, &mut log, 2, 1)?;
-    ensure_at(alloc, write.key.part(0).number().unwrap_or(0) == 9, 0)?;
-    let want = " #1 r3 s4=40 #2 r4=0 a0=7 f70 f71 #3 p1 t1 a0=8 a1=9 s5=1 w8 w5";
-    ensure_at(alloc, show(alloc, &log.records())?.as_str() == want, 1)
+    for (i, case) in OWN.iter().enumerate() {
+        ensure_at(alloc, are_own_as_told(alloc, &mut log, case)?, i)?;
+    }
+    Ok(())
 }
 
 /// Two rows of two columns, whether the first one passes, whether the predicate sees the same of both, and whether it

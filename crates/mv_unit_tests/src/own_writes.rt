@@ -1,13 +1,10 @@
 //! Which keys own writes touched, and which rows are seen after them, worked out by hand.
 
-ghost use Rattle.std.specs.Prelude.{◌↔◌, ◌≤◌, IsTrue, All};
-
 use crate::cases::ensure_at;
 use crate::values::{key, row};
 use mv_record::applying::put_row;
 use mv_table::table::Stored;
-use mv_undo::owned::Owned;
-use mv_undo::undo::Undo;
+use mv_undo::own_writes::OwnWrites;
 use mv_values::list::List;
 use mv_values::memory::NoMemory;
 use mv_values::patch::{Assign, Patch, Write};
@@ -17,12 +14,6 @@ use mv_values::rows::Rows;
 use mv_values::value::{Value, are_same};
 use std::alloc::Global;
 use std::test::Fail;
-
-fn is_last(items: &[Owned], number: usize) -> bool
-    ensures { IsTrue result ↔ All (λ o. o.number ≤ number) items.now }
-{
-    items.iter().all(|owned| owned.number <= number)
-}
 
 /// A record's number, a table and a key.
 type Written = (usize, u8, [i64; 2]);
@@ -35,15 +26,15 @@ const WRITTEN: &[Written] = &[
 ];
 
 /// Adds a write of a record whose number isn't less than those before it.
-fn push_write(undo: &mut Undo, number: usize, write: Write) -> Result<(), Fail> {
-    if !is_last(undo.as_slice(), number) {
+fn push_write(undo: &mut OwnWrites, number: usize, write: Write) -> Result<(), Fail> {
+    if !undo.takes(number) {
         return Err("a lower number".into());
     }
     Ok(undo.push(number, write)?)
 }
 
 /// The same with a deletion.
-fn push(alloc: Global, undo: &mut Undo, written: &Written) -> Result<(), Fail> {
+fn push(alloc: Global, undo: &mut OwnWrites, written: &Written) -> Result<(), Fail> {
     let (number, table, numbers) = *written;
     let write = Write {
         table,
@@ -53,8 +44,8 @@ fn push(alloc: Global, undo: &mut Undo, written: &Written) -> Result<(), Fail> {
     push_write(undo, number, write)
 }
 
-fn undo_of(alloc: Global) -> Result<Undo, Fail> {
-    let mut undo = Undo::new(alloc);
+fn undo_of(alloc: Global) -> Result<OwnWrites, Fail> {
+    let mut undo = OwnWrites::new(alloc);
     for written in WRITTEN {
         push(alloc, &mut undo, written)?;
     }
@@ -62,10 +53,10 @@ fn undo_of(alloc: Global) -> Result<Undo, Fail> {
 }
 
 /// Whether a key of a table is touched for a record.
-fn touched(alloc: Global, undo: &Undo, sought: &Written) -> Result<bool, NoMemory> {
+fn touched(alloc: Global, undo: &OwnWrites, sought: &Written) -> Result<bool, NoMemory> {
     let (number, table, numbers) = *sought;
     let key = key(alloc, &numbers)?;
-    Ok(undo.touched(number, table, &key))
+    Ok(undo.undo().touched(number, table, &key))
 }
 
 const TOUCHED: &[(Written, bool)] = &[
@@ -80,7 +71,7 @@ const TOUCHED: &[(Written, bool)] = &[
     ((9, 0, [1, 3]), false),
 ];
 
-fn touched_as_told(alloc: Global, undo: &Undo) -> Result<(), Fail> {
+fn touched_as_told(alloc: Global, undo: &OwnWrites) -> Result<(), Fail> {
     for (i, (sought, want)) in TOUCHED.iter().enumerate() {
         ensure_at(alloc, touched(alloc, undo, sought)? == *want, i)?;
     }
@@ -99,10 +90,10 @@ type Dropped = (usize, usize, bool);
 const DROPPED: &[Dropped] = &[(0, 0, false), (1, 1, false), (2, 3, true), (4, 4, true)];
 
 /// Drops the writes of later records. After that, a key can be touched that none touched before.
-fn drops(alloc: Global, undo: &mut Undo, case: &Dropped) -> Result<bool, Fail> {
+fn drops(alloc: Global, undo: &mut OwnWrites, case: &Dropped) -> Result<bool, Fail> {
     let (number, want, early) = *case;
     undo.drop_from(number);
-    let is_left = undo.as_slice().len() == want;
+    let is_left = undo.len() == want;
     let is_early = touched(alloc, undo, &(9, 0, [1, 4]))? == early;
     push(alloc, undo, &(5, 0, [7, 7]))?;
     let is_late = touched(alloc, undo, &(6, 0, [7, 7]))?;
@@ -192,7 +183,7 @@ fn patch_of(alloc: Global, n: i64, kind: &Kind) -> Result<Patch, NoMemory> {
 }
 
 /// Adds the changes of records from this number on.
-fn push_from(alloc: Global, undo: &mut Undo, from: usize) -> Result<(), Fail> {
+fn push_from(alloc: Global, undo: &mut OwnWrites, from: usize) -> Result<(), Fail> {
     for (number, n, kind) in CHANGES {
         if *number < from {
             continue;
@@ -209,13 +200,17 @@ fn push_from(alloc: Global, undo: &mut Undo, from: usize) -> Result<(), Fail> {
 
 /// Returns the rows, each under its first number, that are of all keys, or of those that a record's predecessors wrote
 /// without fixing their rows.
-fn rows_of(alloc: Global, numbers: Numbers, own: Option<(&Undo, usize)>) -> Result<Rows, NoMemory> {
+fn rows_of(
+    alloc: Global,
+    numbers: Numbers,
+    own: Option<(&OwnWrites, usize)>,
+) -> Result<Rows, NoMemory> {
     let mut rows = Rows::new(alloc);
     for item in numbers {
         let key = key(alloc, &[item[0]])?;
         let is_wanted = match own {
             Some((undo, number)) => {
-                undo.touched(number, 0, &key) && !undo.fixes(number, 0, &key)
+                undo.undo().touched(number, 0, &key) && !undo.undo().fixes(number, 0, &key)
             }
             None => true,
         };
@@ -240,7 +235,7 @@ pub(crate) fn are_equal<S: Stored>(rows: &[S], want: &[S]) -> bool {
 }
 
 /// Whether a record sees these rows.
-fn sees(alloc: Global, undo: &Undo, number: usize, want: Numbers) -> Result<bool, NoMemory> {
+fn sees(alloc: Global, undo: &OwnWrites, number: usize, want: Numbers) -> Result<bool, NoMemory> {
     let pred = Pred {
         table: 0,
         tests: List::new(alloc),
@@ -248,8 +243,8 @@ fn sees(alloc: Global, undo: &Undo, number: usize, want: Numbers) -> Result<bool
     };
     let rows = rows_of(alloc, BEFORE, None)?;
     let own = rows_of(alloc, BEFORE, Some((undo, number)))?;
-    let keys = undo.keys(alloc, number, &PredRef::of(&pred))?;
-    let seen = undo.overlay(
+    let keys = undo.undo().keys(alloc, number, &PredRef::of(&pred))?;
+    let seen = undo.undo().overlay(
         alloc,
         number,
         &PredRef::of(&pred),
@@ -261,7 +256,7 @@ fn sees(alloc: Global, undo: &Undo, number: usize, want: Numbers) -> Result<bool
     Ok(are_equal(seen.as_slice(), want.as_slice()))
 }
 
-fn seen_as_told(alloc: Global, undo: &Undo) -> Result<(), Fail> {
+fn seen_as_told(alloc: Global, undo: &OwnWrites) -> Result<(), Fail> {
     for (number, want) in SEEN.iter().enumerate() {
         ensure_at(alloc, sees(alloc, undo, number, want)?, number)?;
     }
@@ -270,7 +265,7 @@ fn seen_as_told(alloc: Global, undo: &Undo) -> Result<(), Fail> {
 
 #[test]
 fn each_record_sees_the_rows_after_those_before_it(rt: HostRuntime) -> Result<(), Fail> {
-    let mut undo = Undo::new(rt.alloc());
+    let mut undo = OwnWrites::new(rt.alloc());
     push_from(rt.alloc(), &mut undo, 0)?;
     seen_as_told(rt.alloc(), &undo)
 }
@@ -278,7 +273,7 @@ fn each_record_sees_the_rows_after_those_before_it(rt: HostRuntime) -> Result<()
 /// Whether a record that comes after all sees these rows where those from a number on are dropped.
 fn sees_without(
     alloc: Global,
-    undo: &mut Undo,
+    undo: &mut OwnWrites,
     number: usize,
     want: Numbers,
 ) -> Result<bool, Fail> {
@@ -289,7 +284,7 @@ fn sees_without(
 #[test]
 fn rows_are_seen_where_records_were_dropped_and_came_again(rt: HostRuntime) -> Result<(), Fail> {
     let alloc = rt.alloc();
-    let mut undo = Undo::new(alloc);
+    let mut undo = OwnWrites::new(alloc);
     push_from(alloc, &mut undo, 0)?;
     for (number, want) in SEEN.iter().enumerate() {
         ensure_at(alloc, sees_without(alloc, &mut undo, number, want)?, number)?;
@@ -299,7 +294,7 @@ fn rows_are_seen_where_records_were_dropped_and_came_again(rt: HostRuntime) -> R
 }
 
 /// Adds a write of each of these records to one key: its number is in the row.
-fn push_numbers(alloc: Global, undo: &mut Undo, from: u32, to: u32) -> Result<(), Fail> {
+fn push_numbers(alloc: Global, undo: &mut OwnWrites, from: u32, to: u32) -> Result<(), Fail> {
     for number in from..to {
         let write = Write {
             table: 0,
@@ -312,16 +307,19 @@ fn push_numbers(alloc: Global, undo: &mut Undo, from: u32, to: u32) -> Result<()
 }
 
 /// Whether a record finds the row that another one wrote.
-fn finds(alloc: Global, undo: &Undo, number: u32, other: u32) -> Result<bool, NoMemory> {
+fn finds(alloc: Global, undo: &OwnWrites, number: u32, other: u32) -> Result<bool, NoMemory> {
     let want = row(alloc, &[1, other as i64, 0])?;
-    match undo.row_behind(alloc, number as usize, 0, &key(alloc, &[1])?, None)? {
+    match undo
+        .undo()
+        .row_behind(alloc, number as usize, 0, &key(alloc, &[1])?, None)?
+    {
         Some(found) => Ok(are_same(found.as_slice(), want.as_slice())),
         None => Ok(false),
     }
 }
 
 /// Checks that each record finds what the one before it wrote, and that later ones find what the last one wrote.
-fn find_the_last(alloc: Global, undo: &Undo, records: u32) -> Result<(), Fail> {
+fn find_the_last(alloc: Global, undo: &OwnWrites, records: u32) -> Result<(), Fail> {
     for other in 0..records {
         let is_found = finds(alloc, undo, other.saturating_add(1), other)?;
         ensure_at(alloc, is_found, other as usize)?;
@@ -333,7 +331,7 @@ fn find_the_last(alloc: Global, undo: &Undo, records: u32) -> Result<(), Fail> {
 #[test]
 fn each_record_finds_the_last_write_to_a_key(rt: HostRuntime) -> Result<(), Fail> {
     let alloc = rt.alloc();
-    let mut undo = Undo::new(alloc);
+    let mut undo = OwnWrites::new(alloc);
     push_numbers(alloc, &mut undo, 0, 100)?;
     find_the_last(alloc, &undo, 100)?;
     undo.drop_from(37);

@@ -6,7 +6,7 @@ use Rattle.std.proofs.lemmas.Option.{slice_get_within}
 use Rattle.std.proofs.lemmas.List.Elements.{All-weaker}
 use Rattle.mv_values.specs.declared.patch.Write.{Write}
 use Rattle.mv_record.specs.declared.record.Record.{Record}
-use Rattle.mv_undo.specs.declared.owned.Owned.{Owned}
+use Rattle.mv_undo.specs.Owned.{Owned}
 use Rattle.mv_undo.specs.Owning.{undo_of, undo_of_all}
 use Rattle.mv_undo.proofs.Writing.{undo_more, undo_below}
 use Rattle.mv_why.proofs.Lists.{got_there}

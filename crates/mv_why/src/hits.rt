@@ -13,6 +13,7 @@ use mv_changes::recent::Committed;
 use mv_history::change::Change;
 use mv_log::record_ref::RecordRef;
 use mv_log::records::Records;
+use mv_undo::own_writes::OwnWrites;
 use mv_undo::undo::Undo;
 use mv_values::copied::Copied;
 use mv_values::list::List;
@@ -23,7 +24,7 @@ use std::alloc::Global;
 /// Adds the writes of the record with this number.
 fn add_writes(
     alloc: Global,
-    undo: &mut Undo,
+    undo: &mut OwnWrites,
     number: usize,
     writes: &[Write],
 ) -> Result<(), NoMemory>
@@ -37,10 +38,10 @@ fn add_writes(
 }
 
 /// Returns the writes of a run.
-pub(crate) fn own_writes(alloc: Global, records: &Records<'_>) -> Result<Undo, NoMemory>
+pub(crate) fn own_writes(alloc: Global, records: &Records<'_>) -> Result<OwnWrites, NoMemory>
     ensures { IfOk result (λ undo. HasWritesOf undo records.now) }
 {
-    let mut undo = Undo::new(alloc);
+    let mut undo = OwnWrites::new(alloc);
     for number in 0..records.len() {
         let record = records.get(number);
         add_writes(alloc, &mut undo, number, record.writes())?;
@@ -66,7 +67,7 @@ fn hit_in(
     alloc: Global,
     record: &RecordRef<'_>,
     number: usize,
-    undo: &Undo,
+    undo: &Undo<'_>,
     commit: u32,
     changes: &[Change],
 ) -> Result<Option<Reason>, NoMemory>
@@ -87,7 +88,7 @@ pub(crate) fn hit_by(
     alloc: Global,
     record: &RecordRef<'_>,
     number: usize,
-    undo: &Undo,
+    undo: &Undo<'_>,
     since: &[Committed],
 ) -> Result<Option<Reason>, NoMemory>
     ensures { IfOk result (λ reason. (before : Seq Record) → earlier number undo.now ≡ writes_in before → reason ≡ hit since.now before record.now) }

@@ -54,7 +54,7 @@ fn table_reason(
 ) -> Result<Option<Reason>, NoMemory>
     ensures { IfOk result (λ reason. (before : Seq Record) → earlier walk.now.at runs.now.undo ≡ writes_in before → reason ≡ table_by runs.now walk.now before old.now) }
 {
-    match hit_by(alloc, old, walk.at, &runs.undo, runs.since)? {
+    match hit_by(alloc, old, walk.at, &runs.undo.undo(), runs.since)? {
         Some(reason) => Ok(Some(reason)),
         None => touch_reason(alloc, runs, walk, old),
     }

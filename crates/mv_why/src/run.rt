@@ -8,7 +8,7 @@ use crate::hits::own_writes;
 use crate::paths::{Path, paths_of};
 use mv_changes::recent::Committed;
 use mv_log::records::Records;
-use mv_undo::undo::Undo;
+use mv_undo::own_writes::OwnWrites;
 use mv_values::list::List;
 use mv_values::memory::NoMemory;
 use std::alloc::Global;
@@ -25,7 +25,7 @@ pub(crate) struct Run<'a> {
 pub(crate) struct Runs<'a> {
     pub(crate) old: Run<'a>,
     pub(crate) fresh: Run<'a>,
-    pub(crate) undo: Undo,
+    pub(crate) undo: OwnWrites,
     pub(crate) since: &'a [Committed],
 }
 

@@ -3,7 +3,7 @@ use Rattle.std.specs.Prelude.{IfOk}
 use Rattle.mv_values.specs.Keys.{keys}
 use Rattle.mv_values.specs.Patching.{applied}
 use Rattle.mv_log.specs.Logged.{Logged}
-use Rattle.mv_undo.specs.Owning.{earlier}
+use Rattle.mv_effect.specs.Seeing.{own_seen}
 use Rattle.mv_recorded.specs.Asking.{Check, first_fault, preds_up_to, delete_checks}
 use Rattle.mv_recorded.specs.Own.{Each}
 use Rattle.mv_checks.specs.Checking.{MayAsk}
@@ -28,7 +28,7 @@ run_checks-requires g c =
 
 pub returns-clause-fault : goal.returns-clause-fault
 returns-clause-fault g c =
-    let ws = earlier c.args.context.now.number c.args.context.now.undo.now in
+    let ws = own_seen c.args.context.now c.args.log.now in
     let before = g.V.View.sight c.args.view.now in
     let db = applied ws before.database in
     let log : Logged = c.args.log.now in
@@ -39,7 +39,7 @@ returns-clause-fault g c =
 
 pub returns-clause-asked : goal.returns-clause-asked
 returns-clause-asked g c =
-    let ws = earlier c.args.context.now.number c.args.context.now.undo.now in
+    let ws = own_seen c.args.context.now c.args.log.now in
     let before = g.V.View.sight c.args.view.now in
     let db = applied ws before.database in
     let log : Logged = c.args.log.now in
@@ -50,7 +50,7 @@ returns-clause-asked g c =
 
 pub returns-clause-looks : goal.returns-clause-looks
 returns-clause-looks g c =
-    let ws = earlier c.args.context.now.number c.args.context.now.undo.now in
+    let ws = own_seen c.args.context.now c.args.log.now in
     let before = g.V.View.sight c.args.view.now in
     let db = applied ws before.database in
     let log : Logged = c.args.log.now in
@@ -63,7 +63,7 @@ returns-clause-looks g c =
 
 pub returns-then-is_empty-clause-fault : goal.returns-then-is_empty-clause-fault
 returns-then-is_empty-clause-fault g c =
-    let ws = earlier c.args.context.now.number c.args.context.now.undo.now in
+    let ws = own_seen c.args.context.now c.args.log.now in
     let before = g.V.View.sight c.args.view.now in
     let db = applied ws before.database in
     let log : Logged = c.args.log.now in
@@ -73,7 +73,7 @@ returns-then-is_empty-clause-fault g c =
 
 pub returns-then-is_empty-clause-asked : goal.returns-then-is_empty-clause-asked
 returns-then-is_empty-clause-asked g c =
-    let ws = earlier c.args.context.now.number c.args.context.now.undo.now in
+    let ws = own_seen c.args.context.now c.args.log.now in
     let before = g.V.View.sight c.args.view.now in
     let db = applied ws before.database in
     let log : Logged = c.args.log.now in
@@ -83,24 +83,24 @@ returns-then-is_empty-clause-asked g c =
 
 pub returns-then-is_empty-clause-looks : goal.returns-then-is_empty-clause-looks
 returns-then-is_empty-clause-looks g c =
-    let ws = earlier c.args.context.now.number c.args.context.now.undo.now in
+    let ws = own_seen c.args.context.now c.args.log.now in
     let before = g.V.View.sight c.args.view.now in
     none_asked (preds_up_to (delete_checks c.args.context.now.tables.now c.args.table c.args.rows.now) (applied ws before.database)) ws before
 
 pub returns-in_err-children-clause-looks : goal.returns-in_err-children-clause-looks
 returns-in_err-children-clause-looks g c =
-    let ws = earlier c.args.context.now.number c.args.context.now.undo.now in
+    let ws = own_seen c.args.context.now c.args.log.now in
     let before = g.V.View.sight c.args.view.now in
     none_asked (preds_up_to (delete_checks c.args.context.now.tables.now c.args.table c.args.rows.now) (applied ws before.database)) ws before
 
 pub returns-in_err-own-clause-looks : goal.returns-in_err-own-clause-looks
 returns-in_err-own-clause-looks g c =
-    let ws = earlier c.args.context.now.number c.args.context.now.undo.now in
+    let ws = own_seen c.args.context.now c.args.log.now in
     let before = g.V.View.sight c.args.view.now in
     none_asked (preds_up_to (delete_checks c.args.context.now.tables.now c.args.table c.args.rows.now) (applied ws before.database)) ws before
 
 pub returns-in_err-checks-clause-looks : goal.returns-in_err-checks-clause-looks
 returns-in_err-checks-clause-looks g c =
-    let ws = earlier c.args.context.now.number c.args.context.now.undo.now in
+    let ws = own_seen c.args.context.now c.args.log.now in
     let before = g.V.View.sight c.args.view.now in
     none_asked (preds_up_to (delete_checks c.args.context.now.tables.now c.args.table c.args.rows.now) (applied ws before.database)) ws before

@@ -2,7 +2,7 @@ use Rattle.std.proofs.Common.{◌≡◌, [], ◌++◌, List, OnOk, map, sym, ap,
 use Rattle.std.specs.Prelude.{IfOk}
 use Rattle.mv_values.specs.Patching.{applied}
 use Rattle.mv_log.specs.Logged.{Logged}
-use Rattle.mv_undo.specs.Owning.{earlier}
+use Rattle.mv_effect.specs.Seeing.{own_seen}
 use Rattle.mv_recorded.specs.Asking.{Check, first_fault, preds_up_to, update_checks}
 use Rattle.mv_recorded.specs.Own.{Each}
 use Rattle.mv_checks.specs.Checking.{meant, MayAsk}
@@ -23,7 +23,7 @@ run_checks-requires g c = λ k. (
 
 pub returns-clause-fault : goal.returns-clause-fault
 returns-clause-fault g c =
-    let ws = earlier c.args.context.now.number c.args.context.now.undo.now in
+    let ws = own_seen c.args.context.now c.args.log.now in
     let before = g.V.View.sight c.args.view.now in
     let db = applied ws before.database in
     let log : Logged = c.args.log.now in
@@ -31,7 +31,7 @@ returns-clause-fault g c =
 
 pub returns-clause-asked : goal.returns-clause-asked
 returns-clause-asked g c =
-    let ws = earlier c.args.context.now.number c.args.context.now.undo.now in
+    let ws = own_seen c.args.context.now c.args.log.now in
     let before = g.V.View.sight c.args.view.now in
     let db = applied ws before.database in
     let log : Logged = c.args.log.now in
@@ -39,7 +39,7 @@ returns-clause-asked g c =
 
 pub returns-clause-looks : goal.returns-clause-looks
 returns-clause-looks g c =
-    let ws = earlier c.args.context.now.number c.args.context.now.undo.now in
+    let ws = own_seen c.args.context.now c.args.log.now in
     let before = g.V.View.sight c.args.view.now in
     let db = applied ws before.database in
     let log : Logged = c.args.log.now in
@@ -47,6 +47,6 @@ returns-clause-looks g c =
 
 pub returns-in_err-checks-clause-looks : goal.returns-in_err-checks-clause-looks
 returns-in_err-checks-clause-looks g c =
-    let ws = earlier c.args.context.now.number c.args.context.now.undo.now in
+    let ws = own_seen c.args.context.now c.args.log.now in
     let before = g.V.View.sight c.args.view.now in
     none_asked (preds_up_to (update_checks c.args.context.now.tables.now c.args.update.now.table c.args.update.now.items.now c.args.context.now.env.now c.args.rows.now) (applied ws before.database)) ws before

@@ -13,7 +13,7 @@ use Rattle.mv_recorded.specs.Asking.{on, first_fault, preds_up_to, insert_checks
 use Rattle.mv_recorded.specs.Doing.{write}
 use Rattle.mv_recorded.specs.Effects.{IsEffect, effect_unless}
 use Rattle.mv_recorded.proofs.Told.{insert_done}
-use Rattle.mv_undo.specs.Owning.{earlier}
+use Rattle.mv_effect.specs.Seeing.{own_seen}
 use Rattle.mv_checks.specs.Checking.{row_checks}
 use Rattle.mv_effect.specs.Looking.{AskedFor}
 use Rattle.mv_effect.proofs.Asked.{none_asked_by}
@@ -24,7 +24,7 @@ pub returns-clause-effect : goal.returns-clause-effect
 returns-clause-effect g c =
     let tables = c.args.context.now.tables.now in
     let env = c.args.context.now.env.now in
-    let ws = earlier c.args.context.now.number c.args.context.now.undo.now in
+    let ws = own_seen c.args.context.now c.args.log.now in
     let before = (g.V.View.sight c.args.view.now).database in
     let db = applied ws before in
     let made = ap (λ cs. new_row cs c.args.exprs.now env) (sym c.columns_in.ensures) ∙ c.in-Ok.ensures in
@@ -41,7 +41,7 @@ pub returns-clause-looks : goal.returns-clause-looks
 returns-clause-looks g c = λ lines.
     let tables = c.args.context.now.tables.now in
     let env = c.args.context.now.env.now in
-    let ws = earlier c.args.context.now.number c.args.context.now.undo.now in
+    let ws = own_seen c.args.context.now c.args.log.now in
     let before = g.V.View.sight c.args.view.now in
     let after = g.V.View.sight c.insert_row.new.view in
     let db = applied ws before.database in
@@ -51,10 +51,10 @@ returns-clause-looks g c = λ lines.
     (subst (λ (item : Keyed). AskedFor (preds_up_to (row_checks tables c.args.table item) db) ws before after) is c.insert_row.ensures.looks)
 
 pub returns-in_err-item-clause-looks : goal.returns-in_err-item-clause-looks
-returns-in_err-item-clause-looks g c = none_asked_by c.args.context.now.tables.now (Insert c.args.table c.args.exprs.now) c.args.context.now.env.now (earlier c.args.context.now.number c.args.context.now.undo.now) (g.V.View.sight c.args.view.now)
+returns-in_err-item-clause-looks g c = none_asked_by c.args.context.now.tables.now (Insert c.args.table c.args.exprs.now) c.args.context.now.env.now (own_seen c.args.context.now c.args.log.now) (g.V.View.sight c.args.view.now)
 
 pub returns-in-Err-clause-looks : goal.returns-in-Err-clause-looks
-returns-in-Err-clause-looks g c = none_asked_by c.args.context.now.tables.now (Insert c.args.table c.args.exprs.now) c.args.context.now.env.now (earlier c.args.context.now.number c.args.context.now.undo.now) (g.V.View.sight c.args.view.now)
+returns-in-Err-clause-looks g c = none_asked_by c.args.context.now.tables.now (Insert c.args.table c.args.exprs.now) c.args.context.now.env.now (own_seen c.args.context.now c.args.log.now) (g.V.View.sight c.args.view.now)
 
 pub returns-in-Err-clause-view : goal.returns-in-Err-clause-view
 returns-in-Err-clause-view g c = c.stop_unasked.ensures.view (g.V.View.sight c.args.view.now)

@@ -2,7 +2,7 @@ use Rattle.std.proofs.Common.{rules, ◌≡◌, [], to_z, of_z, sym, ap, ◌∙�
 use mir.Syntax.{w64}
 use Rattle.mv_eval.specs.Rows.{item_at, matching, ordered}
 use Rattle.mv_log.specs.Logged.{Logged}
-use Rattle.mv_undo.specs.Owning.{earlier}
+use Rattle.mv_effect.specs.Seeing.{own_seen}
 use Rattle.mv_recorded.specs.Effects.{effect_of_select}
 use Rattle.mv_recorded.proofs.Matching.{matching_all}
 use Rattle.mv_effect.specs.Asking.{asked}
@@ -15,7 +15,7 @@ returns-in-Some-clause-effect g c =
     let at : to_z w64 (of_z w64 c.args.at) ≡ c.args.at = search rules in
     c.in_ok-select_found.ensures.ok
     ∙ ap (λ e. record log { effect = e })
-    (select_led c.args.context.now.tables.now (earlier c.args.context.now.number c.args.context.now.undo.now) (g.V.View.sight c.args.view.now).database c.args.query.now.columns.now c.args.to.now c.args.query.now.sorts.now c.in-Some.direction (asked c.args.log.now)
+    (select_led c.args.context.now.tables.now (own_seen c.args.context.now c.args.log.now) (g.V.View.sight c.args.view.now).database c.args.query.now.columns.now c.args.to.now c.args.query.now.sorts.now c.in-Some.direction (asked c.args.log.now)
     c.args.at c.args.context.now.env.now c.in_ok-row.row c.requires.stands c.requires.knows c.in-Some.ensures.leads (sym at ∙ c.in-Some.ensures.first) c.in_ok-row.ensures.found)
 
 pub returns-clause-effect : goal.returns-clause-effect

@@ -1,6 +1,6 @@
 use Rattle.std.proofs.Common.{◌∙◌, ap}
 use Rattle.mv_log.specs.Logged.{Logged}
-use Rattle.mv_undo.specs.Owning.{earlier}
+use Rattle.mv_effect.specs.Seeing.{own_seen}
 use Rattle.mv_recorded.proofs.Matching.{matching_all}
 use Rattle.mv_effect.specs.Asking.{asked}
 use Rattle.mv_effect.specs.Totalling.{total_asked}
@@ -12,7 +12,7 @@ returns-in-Some-clause-effect g c =
     let log : Logged = c.args.log.now in
     c.in_ok-total_row.ensures.ok
     ∙ ap (λ e. record log { effect = e })
-    (total_told c.args.context.now.tables.now (earlier c.args.context.now.number c.args.context.now.undo.now) (g.V.View.sight c.args.view.now).database c.args.agg c.args.to c.in-Some.column c.in-Some.direction (asked log)
+    (total_told c.args.context.now.tables.now (own_seen c.args.context.now c.args.log.now) (g.V.View.sight c.args.view.now).database c.args.agg c.args.to c.in-Some.column c.in-Some.direction (asked log)
     c.args.context.now.env.now c.in_ok-row.row c.requires.stands c.requires.knows c.in-Some.ensures c.in_ok-row.ensures.found)
 
 pub returns-clause-effect : goal.returns-clause-effect

@@ -11,9 +11,8 @@ use Rattle.mv_effect.proofs.rows.first_own.Goals as goal
 pub returns-then-is_empty-clause-found : goal.returns-then-is_empty-clause-found
 returns-then-is_empty-clause-found g c =
     let ws = earlier c.args.number c.args.undo.now in
-    let none : length c.as_slice.result.now ≡ 0 = search rules in
-    none_written c.args.number c.args.undo.now c.args.direction c.args.pred.now (found_by c.args.pred.now (applied ws (g.V.View.sight c.args.view.now).database)) (option_copied c.args.other)
-    (ap length (sym c.as_slice.ensures.items) ∙ none)
+    let none : length c.args.undo.now ≡ 0 = search rules in
+    none_written c.args.number c.args.undo.now c.args.direction c.args.pred.now (found_by c.args.pred.now (applied ws (g.V.View.sight c.args.view.now).database)) (option_copied c.args.other) none
 
 pub loop-key-init : goal.loop-key-init
 loop-key-init g c =

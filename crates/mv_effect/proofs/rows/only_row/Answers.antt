@@ -7,7 +7,7 @@ use Rattle.mv_effect.proofs.rows.only_row.Goals as goal
 
 pub returns-clause-found : goal.returns-clause-found
 returns-clause-found g c =
-    let ws = earlier c.args.context.now.number c.args.context.now.undo.now in
+    let ws = earlier c.args.context.now.number c.args.undo.now in
     let db = (g.V.View.sight c.args.view.now).database in
     c.keyed.ensures
     ∙ (ap (standing c.args.key) c.in_ok-row.ensures.found

@@ -1,38 +1,25 @@
-use Rattle.std.proofs.Common.{◌<◌, subst, sym, refl}
+use Rattle.std.proofs.Common.{◌≡◌, List, refl, sym, subst}
+use Rattle.std.specs.Prelude.{IfOk}
+use Rattle.mv_values.specs.Patching.{applied, found_by}
+use Rattle.mv_undo.specs.Owned.{Owned}
 use Rattle.mv_undo.specs.Owning.{earlier}
-use Rattle.mv_values.specs.Patching.{applied}
-use Rattle.mv_recorded.proofs.Matching.{admitted}
+use Rattle.mv_effect.specs.Looking.{different, AreSoundTables, AskedAtMost}
 use Rattle.mv_effect.proofs.rows.visible_rows.Goals as goal
 
-pub look-requires : goal.look-requires
-look-requires g c = λ k. (
+pub rows_with-requires : goal.rows_with-requires
+rows_with-requires g c = λ k. (
   (refl, tt),
   (
-    c.requires.stands.database.rising,
-    (
-      subst (λ n. c.args.pred.now.table < n) (sym c.requires.stands.database.size) c.requires.knows.table,
-      (
-        admitted c.args.context.now.tables.now c.args.pred.now (g.V.View.sight c.args.view.now).database c.requires.knows c.requires.stands.database.keys,
-        admitted c.args.context.now.tables.now c.args.pred.now (applied (earlier c.args.context.now.number c.args.context.now.undo.now) (g.V.View.sight c.args.view.now).database) c.requires.knows c.requires.stands.behind,
-      ),
-    ),
+    subst (λ (os : List Owned). AreSoundTables c.args.context.now.tables.now (earlier c.args.context.now.number os) (g.V.View.sight c.args.view.now).database) (sym c.undo.ensures) c.requires.stands,
+    c.requires.knows,
   ),
 )
 
-pub returns-in-None-clause-found : goal.returns-in-None-clause-found
-returns-in-None-clause-found g c = c.look.ensures.found
+pub returns-clause-found : goal.returns-clause-found
+returns-clause-found g c =
+    let before = (g.V.View.sight c.args.view.now).database in
+    subst (λ (os : List Owned). let db = applied (earlier c.args.context.now.number os) before in IfOk c.rows_with.result (λ rows. rows ≡ found_by c.args.pred.now db)) c.undo.ensures c.rows_with.ensures.found
 
-pub returns-in-None-clause-view : goal.returns-in-None-clause-view
-returns-in-None-clause-view g c = c.look.ensures.view
-
-pub returns-in-None-clause-looks : goal.returns-in-None-clause-looks
-returns-in-None-clause-looks g c = c.look.ensures.looks
-
-pub returns-in-Some-clause-found : goal.returns-in-Some-clause-found
-returns-in-Some-clause-found g c = c.only_rows.ensures.found
-
-pub returns-in-Some-clause-view : goal.returns-in-Some-clause-view
-returns-in-Some-clause-view g c = c.only_rows.ensures.view
-
-pub returns-in-Some-clause-looks : goal.returns-in-Some-clause-looks
-returns-in-Some-clause-looks g c = c.only_rows.ensures.looks
+pub returns-clause-looks : goal.returns-clause-looks
+returns-clause-looks g c =
+    subst (λ (os : List Owned). AskedAtMost 1 (different (earlier c.args.context.now.number os)) (g.V.View.sight c.args.view.now) (g.V.View.sight c.rows_with.new.view)) c.undo.ensures c.rows_with.ensures.looks

@@ -5,6 +5,7 @@ use Rattle.mv_catalog.specs.declared.resolved.RStmt.{RStmt, out-RStmt, out-roll-
 use Rattle.mv_catalog.specs.declared.resolved.RStmt.TheVariants.{rolls-Select, rolls-Total, rolls-ForSelect, rolls-ForRows, rolls-Insert, rolls-Update, rolls-Delete, rolls-Rollback}
 use Rattle.mv_catalog.specs.declared.resolved.RStmt.TheOpen as layer
 use Rattle.mv_catalog.specs.declared.resolved.RStmt.TheOpen.{RStmt-F}
+use Rattle.mv_log.specs.Logged.{owned}
 use Rattle.mv_undo.specs.Owning.{earlier}
 use Rattle.mv_recorded.specs.Effects.{IsEffect}
 use Rattle.mv_effect.specs.Looking.{AskedBy}
@@ -15,7 +16,7 @@ pub returns-in-ForRows-clause-effect : goal.returns-in-ForRows-clause-effect
 returns-in-ForRows-clause-effect g c =
     let tables = c.args.tables.now in
     let env = c.args.env.now in
-    let db = applied (earlier c.args.number c.args.undo.now) (g.V.View.sight c.args.view.now).database in
+    let db = applied (earlier c.args.number (owned c.args.log.now)) (g.V.View.sight c.args.view.now).database in
     let here : RStmt-F RStmt = layer.ForRows c.in-ForRows.row c.in-ForRows.rows c.in-ForRows.body in
     let is = ap out-RStmt (c.in-ForRows.is ∙ sym (rolls-ForRows c.in-ForRows.row c.in-ForRows.rows c.in-ForRows.body)) ∙ out-roll-RStmt here in
     subst (λ s. OnOk c.for_rows.result (IsEffect tables s env db c.for_rows.new.log.effect)) (sym is) (on_ok_weaker c.for_rows.result (λ h. h c.in-ForRows.row c.in-ForRows.body tables db) c.for_rows.ensures.effect)
@@ -24,7 +25,7 @@ pub returns-in-Rollback-clause-effect : goal.returns-in-Rollback-clause-effect
 returns-in-Rollback-clause-effect g c =
     let tables = c.args.tables.now in
     let env = c.args.env.now in
-    let db = applied (earlier c.args.number c.args.undo.now) (g.V.View.sight c.args.view.now).database in
+    let db = applied (earlier c.args.number (owned c.args.log.now)) (g.V.View.sight c.args.view.now).database in
     let here : RStmt-F RStmt = layer.Rollback c.in-Rollback.reason in
     let is = ap out-RStmt (c.in-Rollback.is ∙ sym (rolls-Rollback c.in-Rollback.reason)) ∙ out-roll-RStmt here in
     subst (λ s. OnOk c.rollback.result (IsEffect tables s env db c.rollback.new.log.effect)) (sym is) (on_ok_weaker c.rollback.result (λ h. h env tables db) c.rollback.ensures.effect)
@@ -129,23 +130,23 @@ pub returns-in-Branch-clause-err : goal.returns-in-Branch-clause-err
 returns-in-Branch-clause-err g c = c.branch-alloc.ensures.err
 
 pub returns-in-Assign-clause-looks : goal.returns-in-Assign-clause-looks
-returns-in-Assign-clause-looks g c = none_asked_by c.args.tables.now (out-RStmt c.args.statement.now) c.args.env.now (earlier c.args.number c.args.undo.now) (g.V.View.sight c.args.view.now)
+returns-in-Assign-clause-looks g c = none_asked_by c.args.tables.now (out-RStmt c.args.statement.now) c.args.env.now (earlier c.args.number (owned c.args.log.now)) (g.V.View.sight c.args.view.now)
 
 pub returns-in-ForRows-clause-looks : goal.returns-in-ForRows-clause-looks
-returns-in-ForRows-clause-looks g c = none_asked_by c.args.tables.now (out-RStmt c.args.statement.now) c.args.env.now (earlier c.args.number c.args.undo.now) (g.V.View.sight c.args.view.now)
+returns-in-ForRows-clause-looks g c = none_asked_by c.args.tables.now (out-RStmt c.args.statement.now) c.args.env.now (earlier c.args.number (owned c.args.log.now)) (g.V.View.sight c.args.view.now)
 
 pub returns-in-Branch-clause-looks : goal.returns-in-Branch-clause-looks
-returns-in-Branch-clause-looks g c = none_asked_by c.args.tables.now (out-RStmt c.args.statement.now) c.args.env.now (earlier c.args.number c.args.undo.now) (g.V.View.sight c.args.view.now)
+returns-in-Branch-clause-looks g c = none_asked_by c.args.tables.now (out-RStmt c.args.statement.now) c.args.env.now (earlier c.args.number (owned c.args.log.now)) (g.V.View.sight c.args.view.now)
 
 pub returns-in-Print-clause-looks : goal.returns-in-Print-clause-looks
-returns-in-Print-clause-looks g c = none_asked_by c.args.tables.now (out-RStmt c.args.statement.now) c.args.env.now (earlier c.args.number c.args.undo.now) (g.V.View.sight c.args.view.now)
+returns-in-Print-clause-looks g c = none_asked_by c.args.tables.now (out-RStmt c.args.statement.now) c.args.env.now (earlier c.args.number (owned c.args.log.now)) (g.V.View.sight c.args.view.now)
 
 pub returns-in-Rollback-clause-looks : goal.returns-in-Rollback-clause-looks
-returns-in-Rollback-clause-looks g c = none_asked_by c.args.tables.now (out-RStmt c.args.statement.now) c.args.env.now (earlier c.args.number c.args.undo.now) (g.V.View.sight c.args.view.now)
+returns-in-Rollback-clause-looks g c = none_asked_by c.args.tables.now (out-RStmt c.args.statement.now) c.args.env.now (earlier c.args.number (owned c.args.log.now)) (g.V.View.sight c.args.view.now)
 
 pub returns-in-Select-clause-effect : goal.returns-in-Select-clause-effect
 returns-in-Select-clause-effect g c =
-    let ws = earlier c.args.number c.args.undo.now in
+    let ws = earlier c.args.number (owned c.args.log.now) in
     let before = g.V.View.sight c.args.view.now in
     let here : RStmt-F RStmt = layer.Select c.in-Select.columns c.in-Select.to c.in-Select.table c.in-Select.conds c.in-Select.sorts c.in-Select.offset in
     let is = ap out-RStmt (c.in-Select.is ∙ sym (rolls-Select c.in-Select.columns c.in-Select.to c.in-Select.table c.in-Select.conds c.in-Select.sorts c.in-Select.offset)) ∙ (out-roll-RStmt here ∙ (ap (λ l. layer.Select l c.in-Select.to c.in-Select.table c.in-Select.conds c.in-Select.sorts c.in-Select.offset) (sym c.as_slice.ensures) ∙ (ap (λ l. layer.Select c.as_slice.result.now l c.in-Select.table c.in-Select.conds c.in-Select.sorts c.in-Select.offset) (sym c.as_slice-in-Select-3.ensures) ∙ (ap (λ l. layer.Select c.as_slice.result.now c.as_slice-in-Select-3.result.now c.in-Select.table l c.in-Select.sorts c.in-Select.offset) (sym c.as_slice-in-Select.ensures) ∙ ap (λ l. layer.Select c.as_slice.result.now c.as_slice-in-Select-3.result.now c.in-Select.table c.as_slice-in-Select.result.now l c.in-Select.offset) (sym c.as_slice-in-Select-2.ensures))))) in
@@ -153,7 +154,7 @@ returns-in-Select-clause-effect g c =
 
 pub returns-in-Select-clause-looks : goal.returns-in-Select-clause-looks
 returns-in-Select-clause-looks g c =
-    let ws = earlier c.args.number c.args.undo.now in
+    let ws = earlier c.args.number (owned c.args.log.now) in
     let before = g.V.View.sight c.args.view.now in
     let here : RStmt-F RStmt = layer.Select c.in-Select.columns c.in-Select.to c.in-Select.table c.in-Select.conds c.in-Select.sorts c.in-Select.offset in
     let is = ap out-RStmt (c.in-Select.is ∙ sym (rolls-Select c.in-Select.columns c.in-Select.to c.in-Select.table c.in-Select.conds c.in-Select.sorts c.in-Select.offset)) ∙ (out-roll-RStmt here ∙ (ap (λ l. layer.Select l c.in-Select.to c.in-Select.table c.in-Select.conds c.in-Select.sorts c.in-Select.offset) (sym c.as_slice.ensures) ∙ (ap (λ l. layer.Select c.as_slice.result.now l c.in-Select.table c.in-Select.conds c.in-Select.sorts c.in-Select.offset) (sym c.as_slice-in-Select-3.ensures) ∙ (ap (λ l. layer.Select c.as_slice.result.now c.as_slice-in-Select-3.result.now c.in-Select.table l c.in-Select.sorts c.in-Select.offset) (sym c.as_slice-in-Select.ensures) ∙ ap (λ l. layer.Select c.as_slice.result.now c.as_slice-in-Select-3.result.now c.in-Select.table c.as_slice-in-Select.result.now l c.in-Select.offset) (sym c.as_slice-in-Select-2.ensures))))) in
@@ -161,7 +162,7 @@ returns-in-Select-clause-looks g c =
 
 pub returns-in-Total-clause-effect : goal.returns-in-Total-clause-effect
 returns-in-Total-clause-effect g c =
-    let ws = earlier c.args.number c.args.undo.now in
+    let ws = earlier c.args.number (owned c.args.log.now) in
     let before = g.V.View.sight c.args.view.now in
     let here : RStmt-F RStmt = layer.Total c.in-Total.agg c.in-Total.to c.in-Total.table c.in-Total.conds in
     let is = ap out-RStmt (c.in-Total.is ∙ sym (rolls-Total c.in-Total.agg c.in-Total.to c.in-Total.table c.in-Total.conds)) ∙ (out-roll-RStmt here ∙ ap (λ l. layer.Total c.in-Total.agg c.in-Total.to c.in-Total.table l) (sym c.as_slice-in-Total.ensures)) in
@@ -169,7 +170,7 @@ returns-in-Total-clause-effect g c =
 
 pub returns-in-Total-clause-looks : goal.returns-in-Total-clause-looks
 returns-in-Total-clause-looks g c =
-    let ws = earlier c.args.number c.args.undo.now in
+    let ws = earlier c.args.number (owned c.args.log.now) in
     let before = g.V.View.sight c.args.view.now in
     let here : RStmt-F RStmt = layer.Total c.in-Total.agg c.in-Total.to c.in-Total.table c.in-Total.conds in
     let is = ap out-RStmt (c.in-Total.is ∙ sym (rolls-Total c.in-Total.agg c.in-Total.to c.in-Total.table c.in-Total.conds)) ∙ (out-roll-RStmt here ∙ ap (λ l. layer.Total c.in-Total.agg c.in-Total.to c.in-Total.table l) (sym c.as_slice-in-Total.ensures)) in
@@ -177,7 +178,7 @@ returns-in-Total-clause-looks g c =
 
 pub returns-in-ForSelect-clause-looks : goal.returns-in-ForSelect-clause-looks
 returns-in-ForSelect-clause-looks g c =
-    let ws = earlier c.args.number c.args.undo.now in
+    let ws = earlier c.args.number (owned c.args.log.now) in
     let before = g.V.View.sight c.args.view.now in
     let here : RStmt-F RStmt = layer.ForSelect c.in-ForSelect.row c.in-ForSelect.distinct c.in-ForSelect.columns c.in-ForSelect.table c.in-ForSelect.conds c.in-ForSelect.sorts c.in-ForSelect.body in
     let is = ap out-RStmt (c.in-ForSelect.is ∙ sym (rolls-ForSelect c.in-ForSelect.row c.in-ForSelect.distinct c.in-ForSelect.columns c.in-ForSelect.table c.in-ForSelect.conds c.in-ForSelect.sorts c.in-ForSelect.body)) ∙ (out-roll-RStmt here ∙ (ap (λ l. layer.ForSelect c.in-ForSelect.row c.in-ForSelect.distinct l c.in-ForSelect.table c.in-ForSelect.conds c.in-ForSelect.sorts c.in-ForSelect.body) (sym c.as_slice-in-ForSelect.ensures) ∙ (ap (λ l. layer.ForSelect c.in-ForSelect.row c.in-ForSelect.distinct c.as_slice-in-ForSelect.result.now c.in-ForSelect.table l c.in-ForSelect.sorts c.in-ForSelect.body) (sym c.as_slice-in-ForSelect-2.ensures) ∙ ap (λ l. layer.ForSelect c.in-ForSelect.row c.in-ForSelect.distinct c.as_slice-in-ForSelect.result.now c.in-ForSelect.table c.as_slice-in-ForSelect-2.result.now l c.in-ForSelect.body) (sym c.as_slice-in-ForSelect-3.ensures)))) in
@@ -185,7 +186,7 @@ returns-in-ForSelect-clause-looks g c =
 
 pub returns-in-Insert-clause-effect : goal.returns-in-Insert-clause-effect
 returns-in-Insert-clause-effect g c =
-    let ws = earlier c.args.number c.args.undo.now in
+    let ws = earlier c.args.number (owned c.args.log.now) in
     let before = g.V.View.sight c.args.view.now in
     let here : RStmt-F RStmt = layer.Insert c.in-Insert.table c.in-Insert.values in
     let is = ap out-RStmt (c.in-Insert.is ∙ sym (rolls-Insert c.in-Insert.table c.in-Insert.values)) ∙ (out-roll-RStmt here ∙ ap (λ l. layer.Insert c.in-Insert.table l) (sym c.as_slice-in-Insert.ensures)) in
@@ -193,7 +194,7 @@ returns-in-Insert-clause-effect g c =
 
 pub returns-in-Insert-clause-looks : goal.returns-in-Insert-clause-looks
 returns-in-Insert-clause-looks g c =
-    let ws = earlier c.args.number c.args.undo.now in
+    let ws = earlier c.args.number (owned c.args.log.now) in
     let before = g.V.View.sight c.args.view.now in
     let here : RStmt-F RStmt = layer.Insert c.in-Insert.table c.in-Insert.values in
     let is = ap out-RStmt (c.in-Insert.is ∙ sym (rolls-Insert c.in-Insert.table c.in-Insert.values)) ∙ (out-roll-RStmt here ∙ ap (λ l. layer.Insert c.in-Insert.table l) (sym c.as_slice-in-Insert.ensures)) in
@@ -201,7 +202,7 @@ returns-in-Insert-clause-looks g c =
 
 pub returns-in-Update-clause-effect : goal.returns-in-Update-clause-effect
 returns-in-Update-clause-effect g c =
-    let ws = earlier c.args.number c.args.undo.now in
+    let ws = earlier c.args.number (owned c.args.log.now) in
     let before = g.V.View.sight c.args.view.now in
     let here : RStmt-F RStmt = layer.Update c.in-Update.table c.in-Update.items c.in-Update.conds in
     let is = ap out-RStmt (c.in-Update.is ∙ sym (rolls-Update c.in-Update.table c.in-Update.items c.in-Update.conds)) ∙ (out-roll-RStmt here ∙ (ap (λ l. layer.Update c.in-Update.table l c.in-Update.conds) (sym c.as_slice-in-Update.ensures) ∙ ap (λ l. layer.Update c.in-Update.table c.as_slice-in-Update.result.now l) (sym c.as_slice-in-Update-2.ensures))) in
@@ -209,7 +210,7 @@ returns-in-Update-clause-effect g c =
 
 pub returns-in-Update-clause-looks : goal.returns-in-Update-clause-looks
 returns-in-Update-clause-looks g c =
-    let ws = earlier c.args.number c.args.undo.now in
+    let ws = earlier c.args.number (owned c.args.log.now) in
     let before = g.V.View.sight c.args.view.now in
     let here : RStmt-F RStmt = layer.Update c.in-Update.table c.in-Update.items c.in-Update.conds in
     let is = ap out-RStmt (c.in-Update.is ∙ sym (rolls-Update c.in-Update.table c.in-Update.items c.in-Update.conds)) ∙ (out-roll-RStmt here ∙ (ap (λ l. layer.Update c.in-Update.table l c.in-Update.conds) (sym c.as_slice-in-Update.ensures) ∙ ap (λ l. layer.Update c.in-Update.table c.as_slice-in-Update.result.now l) (sym c.as_slice-in-Update-2.ensures))) in
@@ -217,7 +218,7 @@ returns-in-Update-clause-looks g c =
 
 pub returns-in-Delete-clause-effect : goal.returns-in-Delete-clause-effect
 returns-in-Delete-clause-effect g c =
-    let ws = earlier c.args.number c.args.undo.now in
+    let ws = earlier c.args.number (owned c.args.log.now) in
     let before = g.V.View.sight c.args.view.now in
     let here : RStmt-F RStmt = layer.Delete c.in-Delete.table c.in-Delete.conds in
     let is = ap out-RStmt (c.in-Delete.is ∙ sym (rolls-Delete c.in-Delete.table c.in-Delete.conds)) ∙ (out-roll-RStmt here ∙ ap (λ l. layer.Delete c.in-Delete.table l) (sym c.as_slice-in-Delete.ensures)) in
@@ -225,7 +226,7 @@ returns-in-Delete-clause-effect g c =
 
 pub returns-in-Delete-clause-looks : goal.returns-in-Delete-clause-looks
 returns-in-Delete-clause-looks g c =
-    let ws = earlier c.args.number c.args.undo.now in
+    let ws = earlier c.args.number (owned c.args.log.now) in
     let before = g.V.View.sight c.args.view.now in
     let here : RStmt-F RStmt = layer.Delete c.in-Delete.table c.in-Delete.conds in
     let is = ap out-RStmt (c.in-Delete.is ∙ sym (rolls-Delete c.in-Delete.table c.in-Delete.conds)) ∙ (out-roll-RStmt here ∙ ap (λ l. layer.Delete c.in-Delete.table l) (sym c.as_slice-in-Delete.ensures)) in

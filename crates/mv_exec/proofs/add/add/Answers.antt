@@ -1,10 +1,9 @@
-use Rattle.std.proofs.Common.{arith, ◌≡◌, ◌++◌, ◌∷◌, ◌<◌, [], All, length, slice_get, option_to_list, refl, sym, ap, subst, ◌∙◌, length-append}
+use Rattle.std.proofs.Common.{arith, ◌≡◌, ◌++◌, ◌∷◌, [], length, slice_get, option_to_list, refl, sym, ap, subst, ◌∙◌, length-append}
 use Rattle.std.specs.Option.{is_some}
 use Rattle.mv_catalog.specs.declared.resolved.RStmt.{out-RStmt}
 use Rattle.mv_log.specs.Logged.{Logged}
 use Rattle.mv_record.specs.declared.record.Record.{Record}
 use Rattle.mv_recorded.specs.Effect.{HasColumns}
-use Rattle.mv_undo.specs.declared.owned.Owned.{Owned}
 use Rattle.mv_effect.specs.Choosing.{Chooses}
 use Rattle.mv_exec.specs.declared.task.Task.{Task}
 use Rattle.mv_exec.specs.Moves.{inner_frames, frame_after}
@@ -14,7 +13,7 @@ use Rattle.mv_exec.proofs.Adding.{get_last}
 use Rattle.mv_exec.proofs.Held.{chooses_told}
 use Rattle.mv_exec.proofs.Logs.{some_record}
 use Rattle.mv_exec.proofs.Numbering.{small_next}
-use Rattle.mv_exec.proofs.Stepping.{IsTaskKept, going_kept, undo_earlier, behind_record, parts_behind, IsPast, past_task, past_added, past_found, past_executed, past_log}
+use Rattle.mv_exec.proofs.Stepping.{IsTaskKept, going_kept, behind_record, parts_behind, IsPast, past_task, past_added, past_found, past_executed, past_log}
 use Rattle.mv_exec.proofs.Turning.{standing_live}
 use Rattle.mv_exec.proofs.Wellness.{columns_at}
 use Rattle.mv_exec.proofs.add.add.Goals as goal
@@ -28,10 +27,6 @@ frame_after-requires-clause-number c = omega (arith, (small_next c.args.graph.no
 
 pub frame_after-requires-clause-at : goal.frame_after-requires-clause-at
 frame_after-requires-clause-at c = (small_next c.args.graph.now.procedure (frames_of c.args.task.now) c.requires.at.at.0 c.args.position.frame c.requires.at.s c.requires.task.numbers c.requires.at.at.1 c.requires.sound.procedure.short).1
-
-pub push_record-requires-clause-earlier : goal.push_record-requires-clause-earlier
-push_record-requires-clause-earlier c =
-    subst (All (λ (o : Owned). o.number < length c.args.task.now.log.records)) (sym c.requires.task.undo) (undo_earlier c.args.task.now.log.records)
 
 -- Before frames are dropped
 

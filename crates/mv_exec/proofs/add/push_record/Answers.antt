@@ -1,7 +1,6 @@
-use Rattle.std.proofs.Common.{◌<◌, ◌++◌, ◌∷◌, [], All, ℕ, length, slice_get, option_to_list, ap, ◌∙◌, take, subst, sym, arith}
+use Rattle.std.proofs.Common.{◌++◌, ◌∷◌, [], ℕ, length, slice_get, option_to_list, ap, ◌∙◌, take, arith}
 use Rattle.std.proofs.lemmas.List.{length_push}
 use Rattle.mv_log.specs.Logged.{Logged}
-use Rattle.mv_undo.specs.declared.owned.Owned.{Owned}
 use Rattle.mv_exec.specs.Recording.{closed, cut}
 use Rattle.mv_exec.specs.declared.task.Task.{Task}
 use Rattle.mv_exec.specs.Steps.{changed_by, with_log}
@@ -10,13 +9,10 @@ use Rattle.mv_exec.proofs.Logs.{cut_closed, cut_kept, cut_past, some_record}
 use Rattle.mv_exec.proofs.Stepping.{undone}
 use Rattle.mv_exec.proofs.add.push_record.Goals as goal
 
-pub make_changes_of-requires-clause-there : goal.make_changes_of-requires-clause-there
-make_changes_of-requires-clause-there c =
+pub make_changes_of-requires : goal.make_changes_of-requires
+make_changes_of-requires c =
     let some = some_record c.args.task.now.log c.args.at c.args.origin c.requires.origin in
     omega (arith, ap (λ (l : Logged). length l.records) (c.in_ok-add_record.ensures.ok some.0 some.1), length_push c.args.task.now.log.records some.0, c.len-number.ensures)
-
-pub make_changes_of-requires-clause-earlier : goal.make_changes_of-requires-clause-earlier
-make_changes_of-requires-clause-earlier c = subst (λ n. All (λ (o : Owned). o.number < n) c.args.task.now.undo) (sym c.len-number.ensures) c.requires.earlier
 
 pub returns-in-Ok-clause-ok : goal.returns-in-Ok-clause-ok
 returns-in-Ok-clause-ok c = λ proc s r tells is.
@@ -31,9 +27,8 @@ returns-in-Err-clause-err c =
     let some = some_record c.args.task.now.log c.args.at c.args.origin c.requires.origin in
     let log = c.in_ok-add_record.ensures.ok some.0 some.1 in
     let less = c.truncate.ensures ∙ ap (cut c.len-number.result) (ap (λ (u : Task). u.log) c.in-Err.ensures.err.rest) in
-    undone c.args.origin c.args.task.now c.add_record.new.log c.truncate.new.self c.len-number.result c.make_changes_of.new.task c.truncate-in-Err.new.self c.drop_from.new.self
-    c.in-Err.ensures.err (subst (λ n. All (λ (o : Owned). o.number < n) c.args.task.now.undo) (sym c.len-number.ensures) c.requires.earlier)
+    undone c.args.origin c.args.task.now c.add_record.new.log c.truncate.new.self c.make_changes_of.new.task c.truncate-in-Err.new.self c.in-Err.ensures.err
     (cut_closed c.args.task.now.log c.add_record.new.log c.truncate.new.self c.args.origin some.0 c.len-number.result log less c.len-number.ensures)
     (cut_past c.args.task.now.log c.add_record.new.log c.truncate.new.self c.args.origin some.0 c.len-number.result log less)
     (cut_kept c.args.task.now.log c.add_record.new.log c.truncate.new.self c.args.origin some.0 c.len-number.result log less)
-    (c.truncate-in-Err.ensures ∙ ap (λ n. take n c.make_changes_of.new.task.frames) c.len-depth.ensures) c.drop_from.ensures
+    (c.truncate-in-Err.ensures ∙ ap (λ n. take n c.make_changes_of.new.task.frames) c.len-depth.ensures)

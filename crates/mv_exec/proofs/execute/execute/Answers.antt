@@ -4,7 +4,7 @@ use Rattle.mv_values.specs.declared.schema.TableInfo.{TableInfo}
 use Rattle.mv_values.specs.Patching.{applied}
 use Rattle.mv_catalog.specs.declared.resolved.RStmt.{out-RStmt}
 use Rattle.mv_eval.specs.declared.state.Env.{Env}
-use Rattle.mv_log.specs.Logged.{Logged}
+use Rattle.mv_log.specs.Logged.{Logged, owned}
 use Rattle.mv_undo.specs.Owning.{earlier}
 use Rattle.mv_recorded.specs.Effects.{IsEffect}
 use Rattle.mv_effect.specs.Looking.{IsExecutable}
@@ -24,16 +24,16 @@ effect-requires g c = λ k. (
   (refl, tt),
   (
     (let well = well_at c.args.graph.now.tables c.args.graph.now.procedure c.requires.at.at.0 c.args.position.frame c.requires.at.s c.requires.sound.procedure c.requires.at.at.1.stands in
-        subst (λ (e : Env). IsExecutable c.as_slice.result.now c.args.position.step.now.statement e (earlier c.len-number.result c.args.task.now.undo) (g.V.View.sight c.args.view.now).database) (sym c.env.ensures)
-        (subst (λ (ts : List TableInfo). IsExecutable ts c.args.position.step.now.statement c.args.task.now.variables.env (earlier c.len-number.result c.args.task.now.undo) (g.V.View.sight c.args.view.now).database) (sym c.as_slice.ensures)
-        (subst (λ n. IsExecutable c.args.graph.now.tables c.args.position.step.now.statement c.args.task.now.variables.env (earlier n c.args.task.now.undo) (g.V.View.sight c.args.view.now).database) (sym c.len-number.ensures)
+        subst (λ (e : Env). IsExecutable c.as_slice.result.now c.args.position.step.now.statement e (earlier c.len-number.result (owned c.args.task.now.log)) (g.V.View.sight c.args.view.now).database) (sym c.env.ensures)
+        (subst (λ (ts : List TableInfo). IsExecutable ts c.args.position.step.now.statement c.args.task.now.variables.env (earlier c.len-number.result (owned c.args.task.now.log)) (g.V.View.sight c.args.view.now).database) (sym c.as_slice.ensures)
+        (subst (λ n. IsExecutable c.args.graph.now.tables c.args.position.step.now.statement c.args.task.now.variables.env (earlier n (owned c.args.task.now.log)) (g.V.View.sight c.args.view.now).database) (sym c.len-number.ensures)
         (record {
           stands = record {
             few = c.requires.sound.few;
             each = c.requires.sound.tables;
             parents = c.requires.sound.parents;
             database = c.requires.database;
-            behind = keys_before c.args.graph.now.procedure c.args.graph.now.tables c.args.task.now (g.V.View.sight c.args.view.now).database c.requires.task c.requires.keys;
+            behind = keys_before c.args.graph.now.tables c.args.task.now (g.V.View.sight c.args.view.now).database c.requires.keys;
           };
           names = names_told c.args.graph.now.tables c.args.graph.now.procedure c.requires.at.s c.args.position.step.now c.requires.at.tells (well_named c.args.graph.now.tables c.requires.at.s well.0 well.1);
           found = c.requires.found;
@@ -62,12 +62,12 @@ returns-clause-executed g c =
     c.requires.at.at.0 c.args.position.frame c.requires.at.s (peeked c.args.task.now.log c.args.at) c.effect.new.log.effect (record_in c.effect.new.log c.args.at) c.requires.task c.requires.at.at.1
     (columns_at c.args.graph.now.tables c.args.graph.now.procedure (frames_of c.args.task.now) c.args.position.frame c.requires.at.s c.requires.sound.procedure c.requires.at.at)
     c.requires.database.rising c.requires.next
-    (effect_told c.args.graph.now.tables c.args.graph.now.procedure c.requires.at.s c.args.position.step.now c.args.task.now.variables.env (applied (earlier (length c.args.task.now.log.records) c.args.task.now.undo) (g.V.View.sight c.args.view.now).database) c.effect.new.log.effect c.requires.at.tells
-    (subst (λ (ts : List TableInfo). IsEffect ts (out-RStmt c.args.position.step.now.statement) c.args.task.now.variables.env (applied (earlier (length c.args.task.now.log.records) c.args.task.now.undo) (g.V.View.sight c.args.view.now).database) c.effect.new.log.effect)
+    (effect_told c.args.graph.now.tables c.args.graph.now.procedure c.requires.at.s c.args.position.step.now c.args.task.now.variables.env (applied (earlier (length c.args.task.now.log.records) (owned c.args.task.now.log)) (g.V.View.sight c.args.view.now).database) c.effect.new.log.effect c.requires.at.tells
+    (subst (λ (ts : List TableInfo). IsEffect ts (out-RStmt c.args.position.step.now.statement) c.args.task.now.variables.env (applied (earlier (length c.args.task.now.log.records) (owned c.args.task.now.log)) (g.V.View.sight c.args.view.now).database) c.effect.new.log.effect)
     c.as_slice.ensures
-    (subst (λ n. IsEffect c.as_slice.result.now (out-RStmt c.args.position.step.now.statement) c.args.task.now.variables.env (applied (earlier n c.args.task.now.undo) (g.V.View.sight c.args.view.now).database) c.effect.new.log.effect)
+    (subst (λ n. IsEffect c.as_slice.result.now (out-RStmt c.args.position.step.now.statement) c.args.task.now.variables.env (applied (earlier n (owned c.args.task.now.log)) (g.V.View.sight c.args.view.now).database) c.effect.new.log.effect)
     c.len-number.ensures
-    (subst (λ (e : Env). IsEffect c.as_slice.result.now (out-RStmt c.args.position.step.now.statement) e (applied (earlier c.len-number.result c.args.task.now.undo) (g.V.View.sight c.args.view.now).database) c.effect.new.log.effect)
+    (subst (λ (e : Env). IsEffect c.as_slice.result.now (out-RStmt c.args.position.step.now.statement) e (applied (earlier c.len-number.result (owned c.args.task.now.log)) (g.V.View.sight c.args.view.now).database) c.effect.new.log.effect)
     c.env.ensures c.in_ok-holds.ensures.effect))))
     (asked_ahead c.args.graph.now c.args.task.now (g.V.View.sight c.args.view.now) (g.V.View.sight c.effect.new.view) c.requires.at.at.0 c.args.position.frame c.requires.at.s c.args.position.step.now _ _ _
     c.requires.task c.requires.at.at.1 c.requires.at.tells c.as_slice.ensures c.env.ensures c.len-number.ensures c.effect.ensures.looks)

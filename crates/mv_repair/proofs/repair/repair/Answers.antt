@@ -3,8 +3,8 @@ use Rattle.mv_values.specs.Tables.{Tables}
 use Rattle.mv_values.specs.declared.pred.Pred.{Pred}
 use Rattle.mv_record.specs.declared.record.Record.{Record}
 use Rattle.mv_record.specs.Runs.{writes_in}
-use Rattle.mv_undo.specs.declared.owned.Owned.{Owned}
-use Rattle.mv_undo.specs.Owning.{HasWritesOf}
+use Rattle.mv_undo.specs.Owning.{undo_of_all}
+use Rattle.mv_undo.proofs.Writing.{has_writes}
 use Rattle.mv_effect.specs.Looking.{AskedFor}
 use Rattle.mv_exec.specs.Running.{if_refused, preds_ahead}
 use Rattle.mv_exec.proofs.Viewing.{never_on, same_on}
@@ -16,9 +16,7 @@ use Rattle.mv_repair.proofs.Repairing.{begun, none_queried, all_there, is_on, tr
 use Rattle.mv_repair.proofs.repair.repair.Goals as goal
 
 pub hits_of-requires-clause-writes : goal.hits_of-requires-clause-writes
-hits_of-requires-clause-writes g c =
-    subst (λ (rs : List Record). HasWritesOf c.undo.result.now rs) (sym c.records.ensures)
-    (subst (λ (ws : List Owned). HasWritesOf ws c.args.task.now.log.records) (sym c.undo.ensures) c.requires.leads.on.is.writes)
+hits_of-requires-clause-writes g c = has_writes c.undo.result c.records.result (c.undo.ensures ∙ ap (undo_of_all 0) (sym c.records.ensures))
 
 pub hits_of-requires-clause-admitted : goal.hits_of-requires-clause-admitted
 hits_of-requires-clause-admitted g c = subst (λ (rs : List Record). All (AreAdmitted (changes_since c.args.since.now)) rs) (sym c.records.ensures) c.requires.leads.admitted

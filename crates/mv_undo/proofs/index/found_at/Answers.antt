@@ -1,6 +1,5 @@
 use Rattle.std.proofs.Common.{◌-◌, refl, sym, ap, ◌∙◌, arith}
 use Rattle.mv_record.specs.Writes.{is_on}
-use Rattle.mv_undo.specs.declared.owned.Owned.{Owned}
 use Rattle.mv_undo.proofs.Indexing.{none_found}
 use Rattle.mv_undo.proofs.index.found_at.Goals as goal
 
@@ -11,7 +10,7 @@ returns-then-at-eq0 c =
 pub returns-then-not-is_on : goal.returns-then-not-is_on
 returns-then-not-is_on c =
     none_found c.args.items.now c.args.order.now c.args.at c.args.table c.args.key.now c.requires.indexed.are c.requires.within c.requires.up_to
-    (λ low. ap (λ (o : Owned). is_on c.args.table c.args.key.now o.write) (sym c.write_at.ensures) ∙ (sym c.is_on.ensures ∙ c.if-not-is_on.true))
+    (λ low. ap (is_on c.args.table c.args.key.now) (sym c.write.ensures) ∙ (sym c.is_on.ensures ∙ c.if-not-is_on.true))
 
 pub returns : goal.returns
-returns c = (omega (arith, c.if-at-eq0.false), refl, ap (λ (o : Owned). is_on c.args.table c.args.key.now o.write) (sym c.write_at.ensures) ∙ (sym c.is_on.ensures ∙ c.if-not-is_on.false))
+returns c = (omega (arith, c.if-at-eq0.false), refl, ap (is_on c.args.table c.args.key.now) (sym c.write.ensures) ∙ (sym c.is_on.ensures ∙ c.if-not-is_on.false))

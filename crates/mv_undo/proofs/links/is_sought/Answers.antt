@@ -7,13 +7,13 @@ pub returns-then-is_none : goal.returns-then-is_none
 returns-then-is_none c =
     let items = c.args.items.now in
     let write = (owned_at items c.args.place).write in
-    let same : c.write_at.result.now.write.table ≡ c.args.pred.now.table = omega (arith, c.if-write-table.false, c.table-table.ensures) in
-    sought_not c.args.pred.now c.args.number items c.args.place c.write_at.result.now c.last_before.result c.write_at.ensures same (c.last_before.ensures write.table write.key c.requires.last) (c.is_none.ensures ∙ ap not c.if-is_none.true)
+    let same : c.write-write.result.now.table ≡ c.args.pred.now.table = omega (arith, c.if-write-table.false, c.table-table.ensures) in
+    sought_not c.args.pred.now c.args.number items c.args.place c.write-write.result.now c.last_before.result c.write-write.ensures same (c.last_before.ensures write.table write.key c.requires.last) (c.is_none.ensures ∙ ap not c.if-is_none.true)
 
 pub returns : goal.returns
 returns c =
     let items = c.args.items.now in
     let write = (owned_at items c.args.place).write in
-    let same : c.write_at.result.now.write.table ≡ c.args.pred.now.table = omega (arith, c.if-write-table.false, c.table-table.ensures) in
+    let same : c.write-write.result.now.table ≡ c.args.pred.now.table = omega (arith, c.if-write-table.false, c.table-table.ensures) in
     c.admits.ensures
-    ∙ sought_there c.args.pred.now c.args.number items c.args.place c.write_at.result.now c.last_before.result c.write_at.ensures same (c.last_before.ensures write.table write.key c.requires.last) (c.is_none.ensures ∙ ap not c.if-is_none.false)
+    ∙ sought_there c.args.pred.now c.args.number items c.args.place c.write-write.result.now c.last_before.result c.write-write.ensures same (c.last_before.ensures write.table write.key c.requires.last) (c.is_none.ensures ∙ ap not c.if-is_none.false)

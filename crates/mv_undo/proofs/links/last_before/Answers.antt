@@ -1,6 +1,5 @@
-use Rattle.std.proofs.Common.{◌<◌, Option, ℕ, length, ap, subst, sym, ◌∙◌, arith}
-use Rattle.std.specs.Prelude.{nat_lt, IfSome}
-use Rattle.mv_undo.specs.declared.owned.Owned.{Owned}
+use Rattle.std.proofs.Common.{◌<◌, Option, ℕ, length, subst, sym, ◌∙◌, arith}
+use Rattle.std.specs.Prelude.{IfSome}
 use Rattle.mv_undo.specs.Indexing.{IsUpTo}
 use Rattle.mv_undo.proofs.Linking.{last_early, reach, reach_less, up_to_last, within_longer}
 use Rattle.mv_undo.proofs.links.last_before.Goals as goal
@@ -10,7 +9,7 @@ loop-last-init c = record { within = c.requires.last; back = λ t key last. up_t
 
 pub returns-then-is_before : goal.returns-then-is_before
 returns-then-is_before c = λ t key last.
-    last_early c.args.number c.args.items.now c.in-Some.place c.requires.numbers (ap (λ (o : Owned). nat_lt o.number c.args.number) (sym c.write_at.ensures) ∙ (sym c.is_before.ensures ∙ c.if-is_before.true)) t key
+    last_early c.args.number c.args.items.now c.in-Some.place c.requires.numbers (sym c.is_before.ensures ∙ c.if-is_before.true) t key
     (subst (IsUpTo c.args.number c.args.items.now t key) c.in-Some.is (c.loop-last.invariant.back t key last))
 
 pub loop-last-preserved : goal.loop-last-preserved

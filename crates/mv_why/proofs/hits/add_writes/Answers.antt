@@ -1,5 +1,5 @@
 use Rattle.std.proofs.Common.{◌≤◌, All, sym, subst}
-use Rattle.mv_undo.specs.declared.owned.Owned.{Owned}
+use Rattle.mv_undo.specs.Owned.{Owned}
 use Rattle.mv_undo.proofs.Writing.{most_behind}
 use Rattle.mv_why.proofs.hits.add_writes.Goals as goal
 

@@ -1,4 +1,6 @@
-use Rattle.std.proofs.Common.{arith, ◌≡◌, sym, ◌∙◌}
+use Rattle.std.proofs.Common.{arith, ◌≡◌, sym, ap, ◌∙◌}
+use Rattle.mv_undo.specs.Owning.{undo_of_all}
+use Rattle.mv_undo.proofs.Writing.{has_writes}
 use Rattle.mv_core.specs.Books.{batch_in}
 use Rattle.mv_core.proofs.Admitting.{recent_admitted}
 use Rattle.mv_core.proofs.Keeping.{script_seen}
@@ -13,6 +15,9 @@ first_hit-requires-clause-start c =
     let not = c.if-start-self.false in
     let kept = recent_needed (batch_in c.args.self.now) c.args.self.now.schedule c.args.call live.0 c.self.inside.recent (recent_seen c.self.inside c.args.self.now c.self.view_is c.self.invariant.recent) live.1 (omega (arith, start, low, not)) in
     omega (arith, start, kept)
+
+pub first_hit-requires-clause-writes : goal.first_hit-requires-clause-writes
+first_hit-requires-clause-writes c = has_writes c.undo.result c.records.result (c.undo.ensures ∙ ap (undo_of_all 0) (sym c.records.ensures))
 
 pub returns-then-start-self : goal.returns-then-start-self
 returns-then-start-self c l live =

@@ -1,10 +1,8 @@
 use Rattle.std.proofs.Common.{◌≡◌, None, sym, subst, ◌∙◌}
-use Rattle.mv_script.specs.Scripts.{IsCompiledScript}
 use Rattle.mv_journal.specs.declared.event.Event.TheVariants.{C}
 use Rattle.mv_lawful.specs.Lawful.{refusal}
 use Rattle.mv_core.specs.Books.{batch_in, Booked, IsNoReader}
 use Rattle.mv_gate.specs.Gates.{IsWhole, MayMove}
-use Rattle.mv_gate.proofs.Holding.{whole_writes}
 use Rattle.mv_gate.proofs.Committing.{stale_moves}
 use Rattle.mv_gate.proofs.scheduler.Scheduler.decide.Goals as goal
 
@@ -25,10 +23,6 @@ check-requires-clause-live g c = (subst (λ (b : Booked). IsWhole b c.args.call 
 
 pub check-requires-clause-records : goal.check-requires-clause-records
 check-requires-clause-records g c = (subst (λ (b : Booked). IsWhole b c.args.call c.args.task) (sym c.self.view_is) c.requires.whole).records
-
-pub check-requires-clause-writes : goal.check-requires-clause-writes
-check-requires-clause-writes g c =
-    whole_writes c.self.inside.book c.args.call c.args.task (subst IsCompiledScript (sym c.self.invariant.script) c.self.invariant.sound) (subst (λ (b : Booked). IsWhole b c.args.call c.args.task) (sym c.self.view_is) c.requires.whole)
 
 pub meet_late-requires-clause-call : goal.meet_late-requires-clause-call
 meet_late-requires-clause-call g c =

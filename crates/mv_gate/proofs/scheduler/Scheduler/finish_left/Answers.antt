@@ -1,10 +1,8 @@
 use Rattle.std.proofs.Common.{◌≡◌, None, sym, subst, ◌∙◌, inl}
-use Rattle.mv_script.specs.Scripts.{IsCompiledScript}
 use Rattle.mv_journal.specs.declared.event.Event.TheVariants.{C}
 use Rattle.mv_lawful.specs.Lawful.{refusal}
 use Rattle.mv_core.specs.Books.{batch_in, Booked, IsNotStale, IsNoReader}
 use Rattle.mv_gate.specs.Gates.{IsWhole}
-use Rattle.mv_gate.proofs.Holding.{whole_writes}
 use Rattle.mv_gate.proofs.Committing.{not_stale}
 use Rattle.mv_gate.proofs.Ending.{keeps_commit, done_committed}
 use Rattle.mv_gate.proofs.scheduler.Scheduler.finish_left.Goals as goal
@@ -23,10 +21,6 @@ check-requires-clause-live g c = (subst (λ (b : Booked). IsWhole b c.args.call 
 
 pub check-requires-clause-records : goal.check-requires-clause-records
 check-requires-clause-records g c = (subst (λ (b : Booked). IsWhole b c.args.call c.args.task) (sym c.self.view_is) c.requires.whole).records
-
-pub check-requires-clause-writes : goal.check-requires-clause-writes
-check-requires-clause-writes g c =
-    whole_writes c.self.inside.book c.args.call c.args.task (subst IsCompiledScript (sym c.self.invariant.script) c.self.invariant.sound) (subst (λ (b : Booked). IsWhole b c.args.call c.args.task) (sym c.self.view_is) c.requires.whole)
 
 pub returns-in_err-commit_unheld-in-Free-clause-kept : goal.returns-in_err-commit_unheld-in-Free-clause-kept
 returns-in_err-commit_unheld-in-Free-clause-kept g c = keeps_commit c.commit_unheld.result c.args.call c.args.self.now c.commit_unheld.new.self c.commit_unheld.ensures.made c.requires.whole.live
